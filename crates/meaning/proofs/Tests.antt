@@ -1,0 +1,80 @@
+-- Tests as facts: what a conjunction, a disjunction and a search through a list say, and values of Option apart.
+-- Assumes nothing.
+use mathlib.Core.Path.{_≡_, refl, sym, subst, _∙_}
+use mathlib.Core.Logic.{_⊎_, inl, inr}
+use mathlib.Core.Bool.{Bool, true, false, _&&_, _||_, not}
+use mathlib.Core.List.{List, [], _∷_, List·Memᴰ, List·Memᴰ·head, List·Memᴰ·tail}
+use mathlib.Core.Option.{Option, some}
+use mathlib.Core.Option.{none as nowhere}
+use Prim.Native.Nat.{ℕ}
+use native.Mathlib.Omega.{arith}
+use lib.Dec.{T}
+use Rattle.meaning.specs.Whole.{any}
+
+-- ---- true and false
+
+pub holds : {b : Bool} → b ≡ true → T b
+holds e = subst T (sym e) tt
+
+pub is-true : (b : Bool) → T b → b ≡ true
+is-true true t = refl
+is-true false t = absurd t
+
+pub is-false : (b : Bool) → (T b → ⊥) → b ≡ false
+is-false true f = absurd (f tt)
+is-false false f = refl
+
+pub true-false : {b : Bool} → b ≡ true → b ≡ false → ⊥
+true-false e d = let z : _≡_ {A = Bool} true false = sym e ∙ d in let y : _≡_ {A = ℕ} 0 1 = cc in omega arith
+
+pub bool-eq : (a b : Bool) → (T a → T b) → (T b → T a) → a ≡ b
+bool-eq true true f g = refl
+bool-eq true false f g = absurd (f tt)
+bool-eq false true f g = absurd (g tt)
+bool-eq false false f g = refl
+
+-- ---- and, or
+
+pub and-both : (a b : Bool) → T (a && b) → T a × T b
+and-both true b t = (tt, t)
+and-both false b t = absurd t
+
+pub both-and : (a b : Bool) → T a → T b → T (a && b)
+both-and true b s t = t
+both-and false b s t = s
+
+pub or-cases : (a b : Bool) → T (a || b) → T a ⊎ T b
+or-cases true b t = inl tt
+or-cases false b t = inr t
+
+pub or-left : (a b : Bool) → T a → T (a || b)
+or-left true b t = tt
+or-left false b t = absurd t
+
+pub or-right : (a b : Bool) → T b → T (a || b)
+or-right true b t = tt
+or-right false b t = t
+
+-- ---- a search through a list
+
+pub any-found : {A : Type 0} (p : A → Bool) (xs : List A) → T (any p xs) → (y : A) × List·Memᴰ y xs × T (p y)
+unfolding any
+any-found p [] t = absurd t
+any-found {A} p (x ∷ xs) t = go (p x) refl t (λ u. any-found p xs u)
+  where
+    go : (b : Bool) → p x ≡ b → T (b || any p xs) → (T (any p xs) → (y : A) × List·Memᴰ y xs × T (p y)) → (y : A) × List·Memᴰ y (x ∷ xs) × T (p y)
+    go true e t k = (x, List·Memᴰ·head refl, holds e)
+    go false e t k = let q = k t in (q .0, List·Memᴰ·tail (q .1), q .2)
+
+pub found-any : {A : Type 0} (p : A → Bool) {y : A} {xs : List A} → List·Memᴰ y xs → T (p y) → T (any p xs)
+unfolding any
+found-any p (List·Memᴰ·head {x} {xs} e) t = or-left (p x) (any p xs) (subst (λ z. T (p z)) e t)
+found-any p (List·Memᴰ·tail {x} {xs} m) t = or-right (p x) (any p xs) (found-any p m t)
+
+-- ---- Option
+
+pub some-inj : {A : Type 0} {x y : A} → some x ≡ some y → x ≡ y
+some-inj e = cc
+
+pub not-some : {A : Type 0} (y : A) → _≡_ {A = Option A} nowhere (some y) → ⊥
+not-some y e = let z : _≡_ {A = ℕ} 0 1 = cc in omega arith

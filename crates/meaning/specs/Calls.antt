@@ -1,0 +1,98 @@
+-- The answer of each public call as a function of what is handed in, in the document's order of tests:
+-- "A degree or yes/no reads the register, the requirement, then 11 and 14 (degree and margin only), 15, 13 (margin only), 16 (no margin)."
+-- Assumes nothing.
+use mathlib.Core.Bool.{Bool, true, false, not}
+use mathlib.Core.List.{List, [], _∷_}
+use mathlib.Core.Option.{Option, some}
+use mathlib.Core.Option.{none as nowhere}
+use Prim.Native.Nat.{ℕ}
+use lib.Dec.{ltb, leb}
+use lib.IntN.{ℤ}
+use lib.ListN.{length}
+use lib.Seq.{sets}
+use Rattle.meaning.specs.declared.Side.the-variants.{Requirement as requirement}
+use Rattle.meaning.specs.Refusal.{Answer, good, refused, at, onCall, refuseIf, _>>=_, _>>_}
+use Rattle.meaning.specs.Tree.{Concept, nodes}
+use Rattle.meaning.specs.Fraction.{Frac, _//_, margin, marginOver}
+use Rattle.meaning.specs.Register.{Register, judged, readRegister}
+use Rattle.meaning.specs.Reduce.{reduce, size, mostSize}
+use Rattle.meaning.specs.Degree.{answered}
+use Rattle.meaning.specs.Requirement.{Requirement, bare, member}
+use Rattle.meaning.specs.Message.{Part, readRequirement, lawful}
+use Rattle.meaning.specs.Shown.{degreeMap, yesMap}
+
+-- a requirement that must be plain: 11 at its first threshold, then 14 for the outer concept, whose root is at place 3
+abbrev pub firstPart : List Part → Answer (Unit {0})
+firstPart [] = good tt
+firstPart (p ∷ ps) = refused (at requirement 11 (p .first))
+
+unfoldable pub readPlain : List ℕ → Answer Concept
+unfolding readRequirement
+readPlain message = do
+  (q, parts) ← readRequirement message
+  firstPart parts
+  refuseIf (ltb mostSize (size (reduce (bare q)))) (at requirement 14 3)
+  good (bare q)
+
+abbrev pub inRange : Register → ℕ → Answer (Unit {0})
+inRange g item = refuseIf (leb (length (g .names)) item) (onCall 15)
+
+-- ---- the degree, in lowest terms, with its map
+
+pub record Found : Type 0 where
+  pub degree : Frac
+  pub map : List ℕ
+
+unfoldable pub degreeCall : List ℕ → List ℕ → ℕ → ℕ → Answer Found
+unfolding readPlain
+degreeCall image message item room = do
+  g ← readRegister image
+  t ← readPlain message
+  inRange g item
+  refuseIf (ltb room (nodes t)) (onCall 16)
+  good (record { degree = answered (judged g) t item; map = degreeMap (judged g) t item })
+
+-- the lent map afterwards: "Places after the last node keep their contents", and a refusal changes none
+abbrev pub afterDegree : List ℕ → Answer Found → List ℕ
+afterDegree old (good a) = sets old 0 (a .map)
+afterDegree old (refused r) = old
+
+-- ---- the margin
+
+pub record Against : Type 0 where
+  pub margin : ℤ
+  pub over : ℕ
+
+unfoldable pub marginCall : List ℕ → List ℕ → ℕ → ℕ → ℕ → Answer Against
+unfolding readPlain
+marginCall image message item p q = do
+  g ← readRegister image
+  t ← readPlain message
+  inRange g item
+  refuseIf (not (lawful p q)) (onCall 13)
+  let d = answered (judged g) t item
+  good (record { margin = margin d (p // q); over = marginOver d (p // q) })
+
+-- ---- yes, with its map, or no
+
+pub data Decision : Type 0 where
+  met : List ℕ → Decision
+  unmet : Decision
+
+abbrev pub decide : Bool → List ℕ → Decision
+decide true m = met m
+decide false m = unmet
+
+unfoldable pub memberCall : List ℕ → List ℕ → ℕ → ℕ → Answer Decision
+memberCall image message item room = do
+  g ← readRegister image
+  (q, parts) ← readRequirement message
+  inRange g item
+  refuseIf (ltb room (nodes q)) (onCall 16)
+  good (decide (member (judged g) q item) (yesMap (judged g) q item))
+
+-- "A no writes nothing."
+abbrev pub afterMember : List ℕ → Answer Decision → List ℕ
+afterMember old (good (met m)) = sets old 0 m
+afterMember old (good unmet) = old
+afterMember old (refused r) = old

@@ -1,0 +1,17 @@
+pub mod Refusal
+pub mod Bytes
+pub mod Names
+pub mod Tree
+pub mod Graph
+pub mod Register
+pub mod Whole
+pub mod Reduce
+pub mod Fraction
+pub mod Partial
+pub mod Degree
+pub mod Requirement
+pub mod Message
+pub mod Shown
+pub mod InPlace
+pub mod Calls
+pub mod Sheet
