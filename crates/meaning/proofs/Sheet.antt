@@ -2,6 +2,7 @@
 -- Assumes nothing.
 use lib.Dec.{T}
 use lib.Count.{ones}
+use Rattle.meaning.specs.Refusal.{refuseIf, _>>=_, _>>_}
 use Rattle.meaning.specs.Bytes.{number, bytes, fields, readHead, headed}
 use Rattle.meaning.specs.Tree.{count, under, nodes, relabel}
 use Rattle.meaning.specs.Fraction.{gcd, lowest}
@@ -21,5 +22,5 @@ pub sheet : T (allTrue rows)
 unfolding
     rows allTrue sameList sameWhole degreeCall marginCall memberCall readPlain readRequirement readRegisterBy readHead number bytes fields headed
     image message nodeBytes thresholdsBytes readNode readThresholds withThresholds shown yesBy degree best lowest gcd reduce keep dropped size scale
-    meetsBy any every targets count under nodes relabel ones
+    meetsBy any every refuseIf _>>=_ _>>_ targets count under nodes relabel ones
 sheet = tt

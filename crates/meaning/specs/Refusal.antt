@@ -20,17 +20,17 @@ abbrev pub onCall : ℕ → Refusal
 onCall n = at Call n 0
 
 -- "A number is given exactly when its row holds and nothing earlier in the order applies."
-abbrev pub refuseIf : Bool → Refusal → Answer (Unit {0})
+unfoldable pub refuseIf : Bool → Refusal → Answer (Unit {0})
 refuseIf true r = refused r
 refuseIf false r = good tt
 
 -- one step, and then what follows it
 infixl 10 _>>=_
-abbrev pub _>>=_ : {A B : Type 0} → Answer A → (A → Answer B) → Answer B
+unfoldable pub _>>=_ : {A B : Type 0} → Answer A → (A → Answer B) → Answer B
 _>>=_ (good a) next = next a
 _>>=_ (refused r) next = refused r
 
 infixl 10 _>>_
-abbrev pub _>>_ : {B : Type 0} → Answer (Unit {0}) → Answer B → Answer B
+unfoldable pub _>>_ : {B : Type 0} → Answer (Unit {0}) → Answer B → Answer B
 _>>_ (good a) next = next
 _>>_ (refused r) next = refused r

@@ -1,0 +1,173 @@
+-- Laws of reading: what a good answer says of the steps before it, fields that fit, and numbers and bytes as they stand in a list.
+-- Assumes nothing.
+use mathlib.Core.Path.{_≡_, refl, sym, ap, ap₂, _∙_, subst}
+use mathlib.Core.Bool.{Bool, true, false, not}
+use mathlib.Core.List.{List, [], _∷_, _++_}
+use Prim.Native.Nat.{ℕ, zero, suc, _+_, _*_, _-_, _/_, _%_, _^_, _≤_, _<_}
+use native.Mathlib.Nat.{div-lt-iff-lt-mul, add-zero, zero-add, add-assoc, pow-suc, div-add-mod', mod-lt, le-refl, le-trans}
+use native.Mathlib.Decide.{decLt}
+use native.Mathlib.Omega.{arith}
+use lib.Dec.{lit≤, T, ltb, ltb→lt, nltb→le, leb, eqb}
+use lib.ListN.{length, getD, length-append}
+use lib.ListN.{List·getD-append as getD-append}
+use lib.Seq.{getD-append-add, getD-append-seam, ext-getD}
+use Rattle.meaning.specs.declared.Side.{Side}
+use Rattle.meaning.specs.declared.Refusal.{Refusal}
+use Rattle.meaning.specs.Refusal.{Answer, good, refused, at, refuseIf, _>>=_, _>>_}
+use Rattle.meaning.specs.Bytes.{number, bytes, Bytes, fields}
+use Rattle.meaning.proofs.Tests.{is-false}
+
+-- ---- steps
+
+pub good-inj : {A : Type 0} {a b : A} → good a ≡ good b → a ≡ b
+good-inj e = cc
+
+pub not-good : {A : Type 0} {r : Refusal} {a : A} → refused r ≡ good a → ⊥
+not-good e = let z : _≡_ {A = ℕ} 0 1 = cc in omega arith
+
+-- a test that does not hold is passed, and a good answer has passed it
+pub pass : {B : Type 0} (b : Bool) (r : Refusal) (k : Answer B) → b ≡ false → (refuseIf b r >> k) ≡ k
+unfolding refuseIf _>>_
+pass true r k e = let z : _≡_ {A = ℕ} 0 1 = cc in absurd (omega arith)
+pass false r k e = refl
+
+pub passed : {B : Type 0} (b : Bool) (r : Refusal) (k : Answer B) {a : B} → (refuseIf b r >> k) ≡ good a → (b ≡ false) × (k ≡ good a)
+unfolding refuseIf _>>_
+passed true r k e = absurd (not-good e)
+passed false r k e = (refl, e)
+
+-- a step that was good, and then what follows
+pub took : {A B : Type 0} (e : Answer A) (k : A → Answer B) (a : A) → e ≡ good a → (e >>= k) ≡ k a
+unfolding _>>=_
+took (good x) k a p = ap k (good-inj p)
+took (refused r) k a p = absurd (not-good p)
+
+pub taken : {A B : Type 0} (e : Answer A) (k : A → Answer B) {b : B} → (e >>= k) ≡ good b → (a : A) × (e ≡ good a) × (k a ≡ good b)
+unfolding _>>=_
+taken (good x) k p = (x, refl, p)
+taken (refused r) k p = absurd (not-good p)
+
+pub went : {B : Type 0} (e : Answer (Unit {0})) (k : Answer B) → e ≡ good tt → (e >> k) ≡ k
+unfolding _>>_
+went (good u) k p = refl
+went (refused r) k p = absurd (not-good p)
+
+pub gone : {B : Type 0} (e : Answer (Unit {0})) (k : Answer B) {b : B} → (e >> k) ≡ good b → (e ≡ good tt) × (k ≡ good b)
+unfolding _>>_
+gone (good u) k p = (refl, p)
+gone (refused r) k p = absurd (not-good p)
+
+-- ---- tests of numbers
+
+pub not-below : (m n : ℕ) → n ≤ m → ltb m n ≡ false
+not-below m n h = is-false (ltb m n) (λ t. let l = ltb→lt m n t in omega arith)
+
+pub le-of-not-below : (m n : ℕ) → ltb m n ≡ false → n ≤ m
+le-of-not-below m n e = nltb→le m n (subst (λ (b : Bool). T (not b)) (sym e) tt)
+
+-- ---- fields
+
+pub total : List ℕ → ℕ
+total [] = 0
+total (w ∷ ws) = w + total ws
+
+-- fields that fit are passed, and of a good answer the fields before it fitted
+pub fields-fit : (side : Side) (end : ℕ) (ws : List ℕ) (p : ℕ) → p + total ws ≤ end → fields side end ws p ≡ good tt
+unfolding fields total
+fields-fit side end [] p h = refl
+fields-fit side end (w ∷ ws) p h = pass (ltb end (p + w)) _ _ (not-below end (p + w) (omega arith)) ∙ fields-fit side end ws (p + w) (omega arith)
+
+fields-end : (side : Side) (end : ℕ) (ws : List ℕ) (p : ℕ) {u : Unit {0}} → p ≤ end → fields side end ws p ≡ good u → p + total ws ≤ end
+unfolding fields total
+fields-end side end [] p h e = omega arith
+fields-end side end (w ∷ ws) p h e =
+    let q = passed (ltb end (p + w)) _ _ e in
+    let l = le-of-not-below end (p + w) (q .0) in
+    omega (arith, fields-end side end ws (p + w) l (q .1))
+
+pub fields-fitted : {B : Type 0} (side : Side) (end w : ℕ) (ws : List ℕ) (p : ℕ) (k : Answer B) {a : B}
+    → (fields side end (w ∷ ws) p >> k) ≡ good a → (p + total (w ∷ ws) ≤ end) × (k ≡ good a)
+unfolding fields total
+fields-fitted side end w ws p k e =
+    let q = gone (fields side end (w ∷ ws) p) k e in
+    let h = passed (ltb end (p + w)) _ _ (q .0) in
+    let l = le-of-not-below end (p + w) (h .0) in
+    (omega (arith, fields-end side end ws (p + w) l (h .1)), q .1)
+
+pub fitted : {B : Type 0} (side : Side) (end : ℕ) (ws : List ℕ) (p : ℕ) (k : Answer B) → p + total ws ≤ end → (fields side end ws p >> k) ≡ k
+fitted side end ws p k h = went (fields side end ws p) k (fields-fit side end ws p h)
+
+-- ---- bytes as they stand in a list
+
+-- xs stands in s from place p on
+pub Stands : List ℕ → ℕ → List ℕ → Type 0
+Stands s p xs = (i : ℕ) → i < length xs → getD s (p + i) 0 ≡ getD xs i 0
+
+pub stands-self : (s : List ℕ) → Stands s 0 s
+unfolding Stands
+stands-self s i h = rw zero-add
+
+-- a part of what stands, and two parts put together
+pub stands-left : (s : List ℕ) (p : ℕ) (xs ys : List ℕ) → Stands s p (xs ++ ys) → Stands s p xs
+unfolding Stands
+stands-left s p xs ys h i l = h i (rw length-append (omega arith)) ∙ getD-append xs ys 0 i l
+
+pub stands-right : (s : List ℕ) (p : ℕ) (xs ys : List ℕ) → Stands s p (xs ++ ys) → Stands s (p + length xs) ys
+unfolding Stands
+stands-right s p xs ys h i l =
+    rw (add-assoc p (length xs) i) (h (length xs + i) (rw length-append (omega arith)) ∙ getD-append-add xs ys i 0)
+
+pub stands-both : (s : List ℕ) (p : ℕ) (xs ys : List ℕ) → Stands s p xs → Stands s (p + length xs) ys → Stands s p (xs ++ ys)
+unfolding Stands
+stands-both s p xs ys h k i l = go (decLt i (length xs))
+  where
+    go : Dec (i < length xs) → getD s (p + i) 0 ≡ getD (xs ++ ys) i 0
+    go (yes m) = h i m ∙ sym (getD-append xs ys 0 i m)
+    go (no m) =
+        let e : i ≡ length xs + (i - length xs) = omega arith in
+        let b : i - length xs < length ys = omega (arith, length-append xs ys) in
+        ap (λ (z : ℕ). getD s z 0) (omega arith) ∙ k (i - length xs) b ∙ sym (getD-append-add xs ys (i - length xs) 0) ∙ ap (λ (z : ℕ). getD (xs ++ ys) z 0) (sym e)
+
+-- a list of as many elements that stands at the front is the list
+pub stands-whole : (s xs : List ℕ) → Stands s 0 xs → length s ≡ length xs → s ≡ xs
+unfolding Stands
+stands-whole s xs h e = ext-getD 0 s xs e (λ i l. ap (λ (z : ℕ). getD s z 0) (sym (zero-add i)) ∙ h i (omega arith))
+
+-- ---- numbers
+
+pub bytes-length : (w n : ℕ) → length (bytes w n) ≡ w
+unfolding bytes
+bytes-length zero n = refl
+bytes-length (suc w) n = length-append (bytes w (n / 256)) (n % 256 ∷ []) ∙ omega (arith, bytes-length w (n / 256))
+
+-- the number in bytes that stand
+pub number-of : (s : List ℕ) (p w n : ℕ) → n < 256 ^ w → Stands s p (bytes w n) → number s p w ≡ n
+unfolding number bytes Stands
+number-of s p zero n h k = omega arith
+number-of s p (suc w) n h k =
+    let d = div-add-mod' n 256 in
+    let e = number-of s p w (n / 256) (div-lt-iff-lt-mul {k = 256} (lit≤ tt) .1 (rw pow-suc at h)) (stands-left s p (bytes w (n / 256)) (n % 256 ∷ []) k) in
+    let l = stands-right s p (bytes w (n / 256)) (n % 256 ∷ []) k 0 (omega arith) in
+    let b : getD s (p + w) 0 ≡ n % 256 = ap (λ (z : ℕ). getD s z 0) (omega (arith, bytes-length w (n / 256))) ∙ l in
+    rw (e, b) (omega arith)
+
+-- and the bytes of the number that stands
+stands-one : (s : List ℕ) (p q : ℕ) → p ≡ q → Stands s p (getD s q 0 ∷ [])
+unfolding Stands
+stands-one s p q e zero l = rw (add-zero, e)
+stands-one s p q e (suc i) l = absurd (omega arith)
+
+pub bytes-of : (s : List ℕ) (p w : ℕ) → Bytes s → Stands s p (bytes w (number s p w))
+unfolding number bytes Stands
+bytes-of s p zero h = λ i l. absurd (omega arith)
+bytes-of s p (suc w) h =
+    let l = h (p + w) in
+    let e : (number s p w * 256 + getD s (p + w) 0) / 256 ≡ number s p w = omega arith in
+    let r : (number s p w * 256 + getD s (p + w) 0) % 256 ≡ getD s (p + w) 0 = omega arith in
+    rw (e, r) (stands-both s p (bytes w (number s p w)) (getD s (p + w) 0 ∷ []) (bytes-of s p w h)
+    (stands-one s (p + length (bytes w (number s p w))) (p + w) (omega (arith, bytes-length w (number s p w)))))
+
+pub number-below : (s : List ℕ) (p w : ℕ) → Bytes s → number s p w < 256 ^ w
+unfolding number
+number-below s p zero h = omega arith
+number-below s p (suc w) h = rw (pow-suc 256 w) (omega (arith, number-below s p w h, h (p + w)))
