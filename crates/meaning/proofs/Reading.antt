@@ -7,7 +7,7 @@ use Prim.Native.Nat.{ℕ, zero, suc, _+_, _*_, _-_, _/_, _%_, _^_, _≤_, _<_}
 use native.Mathlib.Nat.{div-lt-iff-lt-mul, add-zero, zero-add, add-assoc, pow-suc, div-add-mod', mod-lt, le-refl, le-trans}
 use native.Mathlib.Decide.{decLt}
 use native.Mathlib.Omega.{arith}
-use lib.Dec.{lit≤, T, ltb, ltb→lt, nltb→le, leb, eqb}
+use lib.Dec.{lit≤, T, ltb, ltb→lt, nltb→le, leb, leb→le, nleb→lt, eqb}
 use lib.ListN.{length, getD, length-append}
 use lib.ListN.{List·getD-append as getD-append}
 use lib.Seq.{getD-append-add, getD-append-seam, ext-getD}
@@ -65,9 +65,23 @@ not-below m n h = is-false (ltb m n) (λ t. let l = ltb→lt m n t in omega arit
 pub le-of-not-below : (m n : ℕ) → ltb m n ≡ false → n ≤ m
 le-of-not-below m n e = nltb→le m n (subst (λ (b : Bool). T (not b)) (sym e) tt)
 
+pub not-le : (m n : ℕ) → n < m → leb m n ≡ false
+not-le m n h = is-false (leb m n) (λ t. let l = leb→le m n t in omega arith)
+
+pub lt-of-not-le : (m n : ℕ) → leb m n ≡ false → n < m
+lt-of-not-le m n e = nleb→lt m n (subst (λ (b : Bool). T (not b)) (sym e) tt)
+
+pub not-not : (b : Bool) → T b → not b ≡ false
+not-not true t = refl
+not-not false t = absurd t
+
+pub not-back : (b : Bool) → not b ≡ false → T b
+not-back true e = tt
+not-back false e = let z : _≡_ {A = ℕ} 0 1 = cc in absurd (omega arith)
+
 -- ---- fields
 
-pub total : List ℕ → ℕ
+unfoldable pub total : List ℕ → ℕ
 total [] = 0
 total (w ∷ ws) = w + total ws
 
@@ -100,7 +114,7 @@ fitted side end ws p k h = went (fields side end ws p) k (fields-fit side end ws
 -- ---- bytes as they stand in a list
 
 -- xs stands in s from place p on
-pub Stands : List ℕ → ℕ → List ℕ → Type 0
+unfoldable pub Stands : List ℕ → ℕ → List ℕ → Type 0
 Stands s p xs = (i : ℕ) → i < length xs → getD s (p + i) 0 ≡ getD xs i 0
 
 pub stands-self : (s : List ℕ) → Stands s 0 s

@@ -55,6 +55,13 @@ pub or-right : (a b : Bool) → T b → T (a || b)
 or-right true b t = tt
 or-right false b t = t
 
+pub neither : (a b : Bool) → a ≡ false → b ≡ false → (a || b) ≡ false
+neither a b e d = rw (e, d)
+
+pub neither-of : (a b : Bool) → (a || b) ≡ false → (a ≡ false) × (b ≡ false)
+neither-of true b e = absurd (true-false refl e)
+neither-of false b e = (refl, e)
+
 -- ---- a search through a list
 
 pub any-found : {A : Type 0} (p : A → Bool) (xs : List A) → T (any p xs) → (y : A) × List·Memᴰ y xs × T (p y)

@@ -15,3 +15,4 @@ pub mod Shown
 pub mod InPlace
 pub mod Calls
 pub mod Sheet
+pub mod Slips

@@ -36,7 +36,6 @@ anyLink p (l ∷ ls) = p l || anyLink p ls
 
 -- what a register says: a name on an item, or a link
 unfoldable pub isFact : Register → Fact → Bool
-unfolding anyLink
 isFact g (nameOn i k) = has (getD (g .names) i 0) k
 isFact g (linkOf a r b) = anyLink (sameLink (record { from = a; role = r; to = b })) (g .links)
 
@@ -78,7 +77,6 @@ abbrev pub mostLinks : ℕ
 mostLinks = 4096
 
 unfoldable pub wellFormed : Register → Bool
-unfolding allSets linksOf
 wellFormed g =
     leb 1 (length (g .names)) && leb (length (g .names)) mostItems && allSets (g .names)
     && leb (length (g .links)) mostLinks && linksOf (length (g .names)) nowhere (g .links)
@@ -97,7 +95,6 @@ linksBytes [] = []
 linksBytes (l ∷ ls) = linkBytes l ++ linksBytes ls
 
 unfoldable pub encode : Register → List ℕ
-unfolding itemsBytes linksBytes
 encode g = headed (bytes 2 (length (g .names)) ++ itemsBytes (g .names) ++ bytes 2 (length (g .links)) ++ linksBytes (g .links))
 
 -- ---- reading
@@ -127,7 +124,6 @@ readLinks s end n (suc k) before p = do
 
 -- "At a count or set of names: 1, 4. Last: 8." The two counts, the items and the links
 unfoldable pub readBody : List ℕ → ℕ → Answer Register
-unfolding number fields readItems readLinks
 readBody s end = do
   fields register end (2 ∷ []) 3
   let n = number s 3 2
@@ -143,7 +139,6 @@ readBody s end = do
 
 -- a whole input, and a session's buffer, of which the first 3 + length bytes are the image
 unfoldable pub readRegisterBy : (ℕ → ℕ → Bool) → List ℕ → Answer Register
-unfolding readHead readBody
 readRegisterBy wrong s = do
   end ← readHead register wrong s
   readBody s end

@@ -1,0 +1,76 @@
+-- The 3-byte head: read from what stands under it, and what a head that was read says.
+-- Assumes nothing.
+use mathlib.Core.Path.{_≡_, refl, sym, ap, _∙_, subst}
+use mathlib.Core.Bool.{Bool, true, false, not}
+use mathlib.Core.List.{List, [], _∷_, _++_}
+use Prim.Native.Nat.{ℕ, zero, suc, _+_, _*_, _-_, _≤_, _<_}
+use native.Mathlib.Omega.{arith}
+use lib.Dec.{T, ltb, eqb, eqb→eq, eqb-refl}
+use lib.ListN.{length, getD, length-append}
+use Rattle.meaning.specs.declared.Side.{Side}
+use Rattle.meaning.specs.Refusal.{Answer, good, refused, at, refuseIf, _>>=_, _>>_}
+use Rattle.meaning.specs.Bytes.{number, bytes, Bytes, readHead, unequal, moreThan, headed}
+use Rattle.meaning.proofs.Reading.{good-inj, pass, passed, not-below, le-of-not-below, not-not, not-back, Stands, stands-left, stands-right, stands-both, bytes-length, number-of, bytes-of}
+
+-- the version byte and the length's two, and the body behind them
+pub headed-length : (body : List ℕ) → length (headed body) ≡ 3 + length body
+unfolding headed
+headed-length body = length-append (1 ∷ bytes 2 (length body)) body ∙ omega (arith, bytes-length 2 (length body))
+
+module _ (s body : List ℕ) where
+  pub body-stands : Stands s 0 (headed body) → Stands s 3 body
+  unfolding headed
+  body-stands h =
+      subst (λ (z : ℕ). Stands s z body) (omega (arith, bytes-length 2 (length body))) (stands-right s 0 (1 ∷ bytes 2 (length body)) body h)
+
+  length-stands : Stands s 0 (headed body) → Stands s 1 (bytes 2 (length body))
+  unfolding headed
+  length-stands h = stands-right s 0 (1 ∷ []) (bytes 2 (length body)) (stands-left s 0 (1 ∷ bytes 2 (length body)) body h)
+
+  version-stands : Stands s 0 (headed body) → number s 0 1 ≡ 1
+  unfolding headed number Stands
+  version-stands h = omega (arith, h 0 (omega arith))
+
+  pub head-stands : number s 0 1 ≡ 1 → Stands s 1 (bytes 2 (length body)) → Stands s 3 body → Stands s 0 (headed body)
+  unfolding headed number Stands
+  head-stands v l h =
+      stands-both s 0 (1 ∷ bytes 2 (length body)) body
+      (stands-both s 0 (1 ∷ []) (bytes 2 (length body)) (λ i b. let z : i ≡ 0 = omega arith in rw z (omega arith)) l)
+      (subst (λ (z : ℕ). Stands s z body) (omega (arith, bytes-length 2 (length body))) h)
+
+  pub head-read : (side : Side) (wrong : ℕ → ℕ → Bool) → length body < 65536 → 3 + length body ≤ length s → wrong (length body) (length s - 3) ≡ false
+      → Stands s 0 (headed body) → readHead side wrong s ≡ good (3 + length body)
+  unfolding readHead
+  head-read side wrong c b w h =
+      let e = number-of s 1 2 (length body) c (length-stands h) in
+      pass (ltb (length s) 3) _ _ (not-below (length s) 3 (omega arith))
+      ∙ pass (not (eqb (number s 0 1) 1)) _ _ (not-not (eqb (number s 0 1) 1) (rw (version-stands h) tt))
+      ∙ pass (wrong (number s 1 2) (length s - 3)) _ _ (rw e w)
+      ∙ ap (λ (z : ℕ). good (3 + z)) e
+
+-- what a head that was read says
+pub record HeadRead (wrong : ℕ → ℕ → Bool) (s : List ℕ) (end : ℕ) : Type 0 where
+  pub long : 3 ≤ length s
+  pub version : number s 0 1 ≡ 1
+  pub right : wrong (number s 1 2) (length s - 3) ≡ false
+  pub ends : end ≡ 3 + number s 1 2
+
+pub read-head : (side : Side) (wrong : ℕ → ℕ → Bool) (s : List ℕ) (end : ℕ) → readHead side wrong s ≡ good end → HeadRead wrong s end
+unfolding readHead
+read-head side wrong s end e =
+    let a = passed (ltb (length s) 3) _ _ e in
+    let b = passed (not (eqb (number s 0 1) 1)) _ _ (a .1) in
+    let c = passed (wrong (number s 1 2) (length s - 3)) _ _ (b .1) in
+    record {
+      long = le-of-not-below _ _ (a .0);
+      version = eqb→eq _ _ (not-back (eqb (number s 0 1) 1) (b .0));
+      right = c .0;
+      ends = sym (good-inj (c .1));
+    }
+
+-- number 3's two tests
+pub equal-right : (len rest : ℕ) → unequal len rest ≡ false → len ≡ rest
+equal-right len rest e = eqb→eq len rest (not-back (eqb len rest) e)
+
+pub right-equal : (len rest : ℕ) → len ≡ rest → unequal len rest ≡ false
+right-equal len rest e = not-not (eqb len rest) (rw e (eqb-refl rest))

@@ -1,0 +1,184 @@
+-- Document 01, "Refusal numbers": the order of the tests and the places, on inputs that break a rule, most of them two at once.
+-- One table, proved by computation: an order swapped or a place moved in specs/ fails it.
+-- Assumes nothing.
+use mathlib.Core.Bool.{Bool, true, false, _&&_}
+use mathlib.Core.List.{List, [], _∷_, _++_}
+use Prim.Native.Nat.{ℕ, zero, suc, _+_}
+use lib.Count.{ones}
+use lib.Dec.{T, eqb}
+use lib.ListN.{replicate}
+use Rattle.meaning.specs.declared.Side.{Side}
+use Rattle.meaning.specs.declared.Side.the-variants.{Register as register, Requirement as requirement, Call as call}
+use Rattle.meaning.specs.Refusal.{Answer, good, refused, refuseIf, _>>=_, _>>_}
+use Rattle.meaning.specs.Bytes.{number, bytes, fields, readHead, headed}
+use Rattle.meaning.specs.Tree.{Tree, node, Forest, none, more, Concept, count, under, nodes, relabel}
+use Rattle.meaning.specs.Fraction.{_//_, gcd, lowest, atLeast}
+use Rattle.meaning.specs.Register.{targets, itemsBytes, linksBytes, readItems, readLinks, readBody, readRegisterBy, readRegister, readBuffer}
+use Rattle.meaning.specs.Register.{encode as image}
+use Rattle.meaning.specs.Whole.{any, meetsBy}
+use Rattle.meaning.specs.Reduce.{dropped, keep, reduce, size, scale}
+use Rattle.meaning.specs.Degree.{best, degree}
+use Rattle.meaning.specs.Requirement.{every, plain}
+use Rattle.meaning.specs.Message.{conceptBytes, nodeBytes, thresholdsBytes, readChildren, readNode, noThresholds, readThresholds, withThresholds, readRequirement}
+use Rattle.meaning.specs.Message.{encode as message}
+use Rattle.meaning.specs.Shown.{shown, yesBy}
+use Rattle.meaning.specs.Calls.{readPlain, degreeCall, marginCall, memberCall}
+use Rattle.meaning.specs.Sheet.{R1, Q1, leaf, asks, C1, allTrue}
+
+sameSide : Side → Side → Bool
+sameSide register register = true
+sameSide register requirement = false
+sameSide register call = false
+sameSide requirement register = false
+sameSide requirement requirement = true
+sameSide requirement call = false
+sameSide call register = false
+sameSide call requirement = false
+sameSide call call = true
+
+is : {A : Type 0} → Side → ℕ → ℕ → Answer A → Bool
+is side n p (good a) = false
+is side n p (refused r) = sameSide (r .side) side && eqb (r .number) n && eqb (r .place) p
+
+-- ---- registers of one item with no names: the first link stands at place 15
+
+linkBytes : ℕ → ℕ → ℕ → List ℕ
+linkBytes a r b = bytes 2 a ++ bytes 1 r ++ bytes 2 b
+
+oneItem : ℕ → List ℕ → List ℕ
+oneItem links rest = headed (bytes 2 1 ++ bytes 8 0 ++ bytes 2 links ++ rest)
+
+pub registers : List Bool
+unfolding is oneItem linkBytes
+registers =
+    is register 1 0 (readRegister [])
+    ∷ is register 1 0 (readRegister (2 ∷ 0 ∷ []))
+    -- 2 before 3; 3 in a whole input and in a session
+    ∷ is register 2 0 (readRegister (2 ∷ 0 ∷ 9 ∷ []))
+    ∷ is register 3 1 (readRegister (1 ∷ 0 ∷ 1 ∷ []))
+    ∷ is register 3 1 (readRegister (1 ∷ 0 ∷ 0 ∷ 7 ∷ []))
+    ∷ is register 3 1 (readBuffer (1 ∷ 0 ∷ 1 ∷ []))
+    ∷ is register 1 3 (readBuffer (1 ∷ 0 ∷ 1 ∷ 0 ∷ 1 ∷ []))
+    -- the counts and a set of names: 1, 4
+    ∷ is register 1 3 (readRegister (headed (0 ∷ [])))
+    ∷ is register 4 3 (readRegister (headed (0 ∷ 0 ∷ [])))
+    ∷ is register 4 3 (readRegister (headed (bytes 2 513)))
+    ∷ is register 1 5 (readRegister (headed (bytes 2 1 ++ bytes 7 0)))
+    ∷ is register 1 13 (readRegister (headed (bytes 2 1 ++ bytes 8 0 ++ (0 ∷ []))))
+    ∷ is register 4 13 (readRegister (oneItem 4097 []))
+    -- a link: 1 at each of its fields, before anything else of it
+    ∷ is register 1 15 (readRegister (oneItem 1 (9 ∷ [])))
+    ∷ is register 1 17 (readRegister (oneItem 1 (bytes 2 9)))
+    ∷ is register 1 18 (readRegister (oneItem 1 (bytes 2 9 ++ (99 ∷ 9 ∷ []))))
+    -- 5 (from), 7, 5 (to), 6
+    ∷ is register 5 15 (readRegister (oneItem 1 (linkBytes 1 32 1)))
+    ∷ is register 7 17 (readRegister (oneItem 1 (linkBytes 0 32 1)))
+    ∷ is register 5 23 (readRegister (oneItem 2 (linkBytes 0 1 0 ++ linkBytes 0 0 1)))
+    ∷ is register 6 20 (readRegister (oneItem 2 (linkBytes 0 1 0 ++ linkBytes 0 1 0 ++ (0 ∷ []))))
+    -- last: 8
+    ∷ is register 8 20 (readRegister (oneItem 1 (linkBytes 0 0 0 ++ (0 ∷ []))))
+    ∷ []
+
+-- ---- messages: the root stands at place 3, and what follows its fixed fields at 13
+
+root : ℕ → ℕ → List ℕ → List ℕ
+root thresholds kids rest = headed (bytes 8 0 ++ (thresholds ∷ kids ∷ []) ++ rest)
+
+-- a threshold ≥ 1/1 of these bytes
+asked : List ℕ → List ℕ
+asked inner = 3 ∷ bytes 2 1 ++ bytes 2 1 ++ bytes 2 (lib.ListN.length inner) ++ inner
+
+repeat : ℕ → List ℕ → List ℕ
+repeat zero l = []
+repeat (suc k) l = l ++ repeat k l
+
+empty : List ℕ
+unfolding bytes
+empty = bytes 10 0
+
+-- a chain of nodes, each the only child of the one before
+chain : ℕ → List ℕ
+chain zero = bytes 8 0 ++ (0 ∷ 0 ∷ [])
+chain (suc k) = bytes 8 0 ++ (0 ∷ 1 ∷ 0 ∷ []) ++ chain k
+
+-- children under the roles 0 to k − 1, each with one name: size 2 k
+fan : ℕ → Forest ℕ
+fan zero = none
+fan (suc k) = more k (leaf 1) (fan k)
+
+wide : Concept
+wide = node 0 (fan 31)
+
+pub messages : List Bool
+unfolding is root asked repeat empty chain fan wide
+messages =
+    is requirement 1 0 (readRequirement (1 ∷ []))
+    -- a node: 1 at each of its fields
+    ∷ is requirement 1 3 (readRequirement (headed (bytes 7 0)))
+    ∷ is requirement 1 11 (readRequirement (headed (bytes 8 0)))
+    ∷ is requirement 1 12 (readRequirement (headed (bytes 8 0 ++ (0 ∷ []))))
+    -- 9 at a node of depth 17; 10 at the 65th; 9 before 10
+    ∷ is requirement 9 190 (readRequirement (headed (chain 17)))
+    ∷ is requirement 10 707 (readRequirement (root 0 64 (repeat 64 (0 ∷ empty))))
+    ∷ is requirement 9 707 (readRequirement (root 0 48 (repeat 47 (0 ∷ empty) ++ (0 ∷ chain 16))))
+    -- a threshold: 12 before 1, 1, 13, 1 (inner length)
+    ∷ is requirement 12 285 (readRequirement (root 17 0 (repeat 16 (asked empty))))
+    ∷ is requirement 1 13 (readRequirement (root 1 0 []))
+    ∷ is requirement 1 14 (readRequirement (root 1 0 (9 ∷ 0 ∷ [])))
+    ∷ is requirement 1 16 (readRequirement (root 1 0 (9 ∷ 0 ∷ 5 ∷ 0 ∷ [])))
+    ∷ is requirement 13 13 (readRequirement (root 1 0 (4 ∷ 0 ∷ 1 ∷ 0 ∷ 1 ∷ [])))
+    ∷ is requirement 13 13 (readRequirement (root 1 0 (3 ∷ 0 ∷ 1 ∷ 0 ∷ 0 ∷ [])))
+    ∷ is requirement 13 13 (readRequirement (root 1 0 (3 ∷ 0 ∷ 2 ∷ 0 ∷ 1 ∷ [])))
+    ∷ is requirement 13 13 (readRequirement (root 1 0 (3 ∷ 0 ∷ 2 ∷ 0 ∷ 4 ∷ [])))
+    ∷ is requirement 13 13 (readRequirement (root 1 0 (3 ∷ 0 ∷ 0 ∷ 0 ∷ 2 ∷ [])))
+    ∷ is requirement 13 13 (readRequirement (root 1 0 (3 ∷ 0 ∷ 1 ∷ bytes 2 1001)))
+    ∷ is requirement 1 18 (readRequirement (root 1 0 (3 ∷ 0 ∷ 1 ∷ 0 ∷ 1 ∷ 0 ∷ [])))
+    ∷ is requirement 1 18 (readRequirement (root 1 0 (3 ∷ 0 ∷ 1 ∷ 0 ∷ 1 ∷ 0 ∷ 10 ∷ bytes 9 0)))
+    -- its inner concept, with its own end: 1, 11; then 8, 14
+    ∷ is requirement 1 29 (readRequirement (root 1 0 (asked (bytes 9 0) ++ empty)))
+    ∷ is requirement 11 28 (readRequirement (root 1 0 (asked (bytes 8 0 ++ (1 ∷ 0 ∷ [])))))
+    ∷ is requirement 8 30 (readRequirement (root 1 0 (asked (empty ++ (0 ∷ [])))))
+    ∷ is requirement 8 371 (readRequirement (root 1 0 (asked (conceptBytes wide ++ (0 ∷ [])))))
+    ∷ is requirement 14 20 (readRequirement (root 1 1 (asked (conceptBytes wide))))
+    -- an edge: 1, 7; last: 8
+    ∷ is requirement 1 13 (readRequirement (root 0 1 []))
+    ∷ is requirement 7 13 (readRequirement (root 0 1 (32 ∷ [])))
+    ∷ is requirement 1 14 (readRequirement (root 0 1 (31 ∷ [])))
+    ∷ is requirement 8 13 (readRequirement (root 0 0 (0 ∷ [])))
+    ∷ []
+
+-- ---- calls
+
+wideAsked : List ℕ
+unfolding wide asked fan
+wideAsked = headed (bytes 8 0 ++ (1 ∷ 31 ∷ []) ++ asked (bytes 10 0) ++ Rattle.meaning.specs.Message.childrenBytes (λ a. a) (λ a. 0) (λ a. []) (fan 31))
+
+pub calls : List Bool
+unfolding is root wide wideAsked
+calls =
+    -- the register, the requirement, 11, 14, 15, 16
+    is register 1 0 (degreeCall [] [] 9 0)
+    ∷ is requirement 1 0 (degreeCall R1 [] 9 0)
+    ∷ is requirement 11 13 (degreeCall R1 wideAsked 9 0)
+    ∷ is requirement 14 3 (degreeCall R1 (message (plain wide)) 9 0)
+    ∷ is call 15 0 (degreeCall R1 Q1 3 1)
+    ∷ is call 16 0 (degreeCall R1 Q1 2 1)
+    -- the margin: 15, 13
+    ∷ is requirement 14 3 (marginCall R1 (message (plain wide)) 9 1 0)
+    ∷ is call 15 0 (marginCall R1 Q1 3 1 0)
+    ∷ is call 13 0 (marginCall R1 Q1 2 1 0)
+    ∷ is call 13 0 (marginCall R1 Q1 2 2 4)
+    -- yes or no: 15, 16, and no 11 or 14 of the outer tree
+    ∷ is register 1 0 (memberCall [] [] 9 0)
+    ∷ is requirement 1 0 (memberCall R1 [] 9 0)
+    ∷ is call 15 0 (memberCall R1 wideAsked 3 0)
+    ∷ is call 16 0 (memberCall R1 wideAsked 2 31)
+    ∷ []
+
+pub orders : T (allTrue (registers ++ messages ++ calls))
+unfolding
+    registers messages calls is sameSide root asked repeat empty chain fan wide wideAsked oneItem linkBytes R1 Q1
+    allTrue degreeCall marginCall memberCall readPlain readRequirement readRegisterBy readBody readItems readLinks readHead number bytes fields headed
+    image message nodeBytes thresholdsBytes itemsBytes linksBytes readNode readChildren noThresholds readThresholds withThresholds shown yesBy degree best lowest gcd
+    reduce keep dropped size scale meetsBy any every targets count under nodes relabel ones refuseIf _>>=_ _>>_
+orders = tt
