@@ -10,7 +10,8 @@ use lib.ListN.{length, getD, length-append}
 use Rattle.meaning.specs.declared.Side.{Side}
 use Rattle.meaning.specs.Refusal.{Answer, good, refused, at, refuseIf, _>>=_, _>>_}
 use Rattle.meaning.specs.Bytes.{number, bytes, Bytes, readHead, unequal, moreThan, headed}
-use Rattle.meaning.proofs.Reading.{good-inj, pass, passed, not-below, le-of-not-below, not-not, not-back, Stands, stands-left, stands-right, stands-both, bytes-length, number-of, bytes-of}
+use Rattle.meaning.proofs.Tests.{is-not}
+use Rattle.meaning.proofs.Reading.{good-inj, pass, passed, stop, below, number-one, not-below, le-of-not-below, not-not, not-back, Stands, stands-left, stands-right, stands-both, bytes-length, number-of, bytes-of}
 
 -- the version byte and the length's two, and the body behind them
 pub headed-length : (body : List ℕ) → length (headed body) ≡ 3 + length body
@@ -74,3 +75,30 @@ equal-right len rest e = eqb→eq len rest (not-back (eqb len rest) e)
 
 pub right-equal : (len rest : ℕ) → len ≡ rest → unequal len rest ≡ false
 right-equal len rest e = not-not (eqb len rest) (rw e (eqb-refl rest))
+
+-- ---- each end of a head, as code comes to it
+
+module _ (side : Side) (wrong : ℕ → ℕ → Bool) (s : List ℕ) where
+  pub head-short : length s < 3 → readHead side wrong s ≡ refused (at side 1 0)
+  unfolding readHead
+  head-short h = stop (ltb (length s) 3) _ _ (below (length s) 3 h)
+
+  module _ (long : 3 ≤ length s) where
+    pub head-version : (getD s 0 0 ≡ 1 → ⊥) → readHead side wrong s ≡ refused (at side 2 0)
+    unfolding readHead
+    head-version v =
+        pass (ltb (length s) 3) _ _ (not-below (length s) 3 long)
+        ∙ stop (not (eqb (number s 0 1) 1)) _ _ (is-not (eqb (number s 0 1) 1) (λ t. v (sym (number-one s 0) ∙ eqb→eq _ _ t)))
+
+    module _ (version : getD s 0 0 ≡ 1) where
+      to-length : readHead side wrong s ≡ (refuseIf (wrong (number s 1 2) (length s - 3)) (at side 3 1) >> good (3 + number s 1 2))
+      unfolding readHead
+      to-length =
+          pass (ltb (length s) 3) _ _ (not-below (length s) 3 long)
+          ∙ pass (not (eqb (number s 0 1) 1)) _ _ (not-not (eqb (number s 0 1) 1) (rw (number-one s 0 ∙ version) tt))
+
+      pub head-length : wrong (number s 1 2) (length s - 3) ≡ true → readHead side wrong s ≡ refused (at side 3 1)
+      head-length w = to-length ∙ stop (wrong (number s 1 2) (length s - 3)) _ _ w
+
+      pub head-good : wrong (number s 1 2) (length s - 3) ≡ false → readHead side wrong s ≡ good (3 + number s 1 2)
+      head-good w = to-length ∙ pass (wrong (number s 1 2) (length s - 3)) _ _ w

@@ -15,7 +15,7 @@ use Rattle.meaning.specs.declared.Side.the-variants.{Register as registe
 use Rattle.meaning.specs.Refusal.{Answer, good, refused, at, refuseIf, _>>=_, _>>_}
 use Rattle.meaning.specs.Bytes.{number, bytes, Bytes, fields, readHead, unequal, moreThan, headed}
 use Rattle.meaning.specs.Names.{isSet}
-use Rattle.meaning.specs.Register.{Link, Register, above, allSets, linksOf, mostItems, mostLinks, wellFormed, linkBytes, itemsBytes, linksBytes, encode, linkAt, readItems, readLinks, readBody, readRegisterBy, readRegister, readBuffer}
+use Rattle.meaning.specs.Register.{Link, Register, above, allSets, linksOf, mostItems, mostLinks, wellFormed, linkBytes, itemsBytes, linksBytes, encode, linkAt, readItems, readLink, readLinks, readBody, readRegisterBy, readRegister, readBuffer}
 use Rattle.meaning.proofs.Tests.{and-both, both-and, neither, neither-of}
 use Rattle.meaning.proofs.Head.{headed-length, body-stands, head-stands, head-read, read-head, equal-right, right-equal}
 use Rattle.meaning.proofs.Reading.{good-inj, pass, passed, took, taken, not-below, le-of-not-below, not-le, lt-of-not-le, not-not, not-back, total, fitted, fields-fitted, Stands, stands-self, stands-left, stands-right, stands-both, stands-whole, bytes-length, number-of, bytes-of, number-below}
@@ -131,11 +131,10 @@ module _ (n : ℕ) (before : Option Link) (l : Link) where
       (q .rises)) w
 
 -- one link is read
-link-read : (s : List ℕ) (end n k : ℕ) (before : Option Link) (p : ℕ) (l : Link) → linkAt s p ≡ l → p + 5 ≤ end → Right n before l
-    → readLinks s end n (suc k) before p ≡ (readLinks s end n k (some l) (p + 5) >>= λ rest. good (l ∷ rest))
-unfolding readLinks total
-link-read s end n k before p l e b =
-    subst (λ (m : Link). Right n before m → readLinks s end n (suc k) before p ≡ (readLinks s end n k (some m) (p + 5) >>= λ rest. good (m ∷ rest))) e
+link-read : (s : List ℕ) (end n : ℕ) (before : Option Link) (p : ℕ) (l : Link) → linkAt s p ≡ l → p + 5 ≤ end → Right n before l → readLink s end n before p ≡ good l
+unfolding readLink total
+link-read s end n before p l e b =
+    subst (λ (m : Link). Right n before m → readLink s end n before p ≡ good m) e
     (λ q.
     fitted register end (2 ∷ 1 ∷ 2 ∷ []) p _ (omega arith)
     ∙ pass (leb n (linkAt s p .from)) _ _ (not-le _ _ (q .from))
@@ -151,7 +150,7 @@ links-read s end n (l ∷ ls) before p c w h b =
     let q = right n before l ls w in
     let e = link-at s p l (omega (arith, q .0 .from)) (omega (arith, q .0 .role)) (omega (arith, q .0 .to)) (stands-left s p (linkBytes l) (linksBytes ls) h) in
     let later = subst (λ (z : ℕ). Stands s (p + z) (linksBytes ls)) (link-length l) (stands-right s p (linkBytes l) (linksBytes ls) h) in
-    link-read s end n (length ls) before p l e (omega arith) (q .0)
+    took (readLink s end n before p) _ l (link-read s end n before p l e (omega arith) (q .0))
     ∙ took (readLinks s end n (length ls) (some l) (p + 5)) _ ls (links-read s end n ls (some l) (p + 5) c (q .1) later (omega arith))
 
 record LinksRead (s : List ℕ) (end n k : ℕ) (before : Option Link) (p : ℕ) (ls : List Link) : Type 0 where
@@ -160,24 +159,23 @@ record LinksRead (s : List ℕ) (end n k : ℕ) (before : Option Link) (p : ℕ)
   stand : Stands s p (linksBytes ls)
   fit : p + 5 * k ≤ end
 
-read-link : (s : List ℕ) (end n k : ℕ) (before : Option Link) (p : ℕ) (ls : List Link) → readLinks s end n (suc k) before p ≡ good ls
-    → (p + 5 ≤ end) × Right n before (linkAt s p) × ((readLinks s end n k (some (linkAt s p)) (p + 5) >>= λ rest. good (linkAt s p ∷ rest)) ≡ good ls)
-unfolding readLinks total
-read-link s end n k before p ls e =
+pub read-link : (s : List ℕ) (end n : ℕ) (before : Option Link) (p : ℕ) (l : Link) → readLink s end n before p ≡ good l
+    → (p + 5 ≤ end) × Right n before l × (linkAt s p ≡ l)
+unfolding readLink total
+read-link s end n before p l e =
     let a = fields-fitted register end 2 (1 ∷ 2 ∷ []) p _ e in
     let b = passed (leb n (linkAt s p .from)) _ _ (a .1) in
     let c = passed (ltb 31 (linkAt s p .role)) _ _ (b .1) in
     let d = passed (leb n (linkAt s p .to)) _ _ (c .1) in
-    let f = passed (not (above before (linkAt s p))) _ _ (d .1) in (
-      omega (arith, a .0),
-      record {
-        from = lt-of-not-le _ _ (b .0);
-        role = le-of-not-below _ _ (c .0);
-        to = lt-of-not-le _ _ (d .0);
-        rises = not-back (above before (linkAt s p)) (f .0);
-      },
-      f .1,
-    )
+    let f = passed (not (above before (linkAt s p))) _ _ (d .1) in
+    let g = good-inj (f .1) in
+    let q : Right n before (linkAt s p) = record {
+      from = lt-of-not-le _ _ (b .0);
+      role = le-of-not-below _ _ (c .0);
+      to = lt-of-not-le _ _ (d .0);
+      rises = not-back (above before (linkAt s p)) (f .0);
+    } in
+    (omega (arith, a .0), subst (λ (m : Link). Right n before m) g q, g)
 
 read-links : (s : List ℕ) (end n k : ℕ) (before : Option Link) (p : ℕ) (ls : List Link) → Bytes s → p ≤ end → readLinks s end n k before p ≡ good ls
     → LinksRead s end n k before p ls
@@ -185,17 +183,28 @@ unfolding readLinks linksOf linksBytes Stands
 read-links s end n zero before p ls h c e =
     subst (λ z. LinksRead s end n zero before p z) (good-inj e) (record { many = refl; rising = tt; stand = λ i b. absurd (omega arith); fit = omega arith })
 read-links s end n (suc k) before p ls h c e =
-    let l = linkAt s p in
-    let a = read-link s end n k before p ls e in
-    let r = taken (readLinks s end n k (some l) (p + 5)) _ (a .2) in
+    let o = taken (readLink s end n before p) _ e in
+    let l = o .0 in
+    let a = read-link s end n before p l (o .1) in
+    let r = taken (readLinks s end n k (some l) (p + 5)) _ (o .2) in
     let m = read-links s end n k (some l) (p + 5) (r .0) h (a .0) (r .1) in
     subst (λ z. LinksRead s end n (suc k) before p z) (good-inj (r .2)) (record {
       many = ap suc (m .many);
       rising = wrote n before l (r .0) (a .1) (m .rising);
-      stand = stands-both s p (linkBytes l) (linksBytes (r .0)) (joined s p l (bytes-of s p 2 h, bytes-of s (p + 2) 1 h, bytes-of s (p + 3) 2 h))
+      stand = stands-both s p (linkBytes l) (linksBytes (r .0))
+          (subst (λ (z : Link). Stands s p (linkBytes z)) (a .2) (joined s p (linkAt s p) (bytes-of s p 2 h, bytes-of s (p + 2) 1 h, bytes-of s (p + 3) 2 h)))
           (subst (λ (z : ℕ). Stands s (p + z) (linksBytes (r .0))) (sym (link-length l)) (m .stand));
       fit = omega (arith, m .fit);
     })
+
+-- as many are read as were asked for
+pub read-links-many : (s : List ℕ) (end n k : ℕ) (before : Option Link) (p : ℕ) (ls : List Link) → readLinks s end n k before p ≡ good ls → length ls ≡ k
+unfolding readLinks
+read-links-many s end n zero before p ls e = sym (ap length (good-inj e))
+read-links-many s end n (suc k) before p ls e =
+    let o = taken (readLink s end n before p) _ e in
+    let r = taken (readLinks s end n k (some (o .0)) (p + 5)) _ (o .2) in
+    sym (ap length (good-inj (r .2))) ∙ ap suc (read-links-many s end n k (some (o .0)) (p + 5) (r .0) (r .1))
 
 -- ---- the whole image
 

@@ -13,7 +13,7 @@ use Rattle.meaning.specs.Refusal.{Answer, good, refused, refuseIf, _>>=_
 use Rattle.meaning.specs.Bytes.{number, bytes, fields, readHead, headed}
 use Rattle.meaning.specs.Tree.{Tree, node, Forest, none, more, Concept, count, under, nodes, relabel}
 use Rattle.meaning.specs.Fraction.{_//_, gcd, lowest, atLeast}
-use Rattle.meaning.specs.Register.{targets, itemsBytes, linksBytes, readItems, readLinks, readBody, readRegisterBy, readRegister, readBuffer}
+use Rattle.meaning.specs.Register.{targets, itemsBytes, linksBytes, readItems, readLink, readLinks, readBody, readRegisterBy, readRegister, readBuffer}
 use Rattle.meaning.specs.Register.{encode as image}
 use Rattle.meaning.specs.Whole.{any, meetsBy}
 use Rattle.meaning.specs.Reduce.{dropped, keep, reduce, size, scale}
@@ -178,7 +178,7 @@ calls =
 pub orders : T (allTrue (registers ++ messages ++ calls))
 unfolding
     registers messages calls is sameSide root asked repeat empty chain fan wide wideAsked oneItem linkBytes R1 Q1
-    allTrue degreeCall marginCall memberCall readPlain readRequirement readRegisterBy readBody readItems readLinks readHead number bytes fields headed
+    allTrue degreeCall marginCall memberCall readPlain readRequirement readRegisterBy readBody readItems readLink readLinks readHead number bytes fields headed
     image message nodeBytes thresholdsBytes itemsBytes linksBytes readNode readChildren noThresholds readThresholds withThresholds shown yesBy degree best lowest gcd
     reduce keep dropped size scale meetsBy any every targets count under nodes relabel ones refuseIf _>>=_ _>>_
 orders = tt

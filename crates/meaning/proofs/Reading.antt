@@ -7,7 +7,7 @@ use Prim.Native.Nat.{ℕ, zero, suc, _+_, _*_, _-_, _/_, _%_, _^_, _≤_, _<_}
 use native.Mathlib.Nat.{div-lt-iff-lt-mul, add-zero, zero-add, add-assoc, pow-suc, div-add-mod', mod-lt, le-refl, le-trans}
 use native.Mathlib.Decide.{decLt}
 use native.Mathlib.Omega.{arith}
-use lib.Dec.{lit≤, T, ltb, ltb→lt, nltb→le, leb, leb→le, nleb→lt, eqb}
+use lib.Dec.{lit≤, T, ltb, ltb→lt, lt→ltb, nltb→le, leb, leb→le, le→leb, nleb→lt, eqb}
 use lib.ListN.{length, getD, length-append}
 use lib.ListN.{List·getD-append as getD-append}
 use lib.Seq.{getD-append-add, getD-append-seam, ext-getD}
@@ -15,7 +15,7 @@ use Rattle.meaning.specs.declared.Side.{Side}
 use Rattle.meaning.specs.declared.Refusal.{Refusal}
 use Rattle.meaning.specs.Refusal.{Answer, good, refused, at, refuseIf, _>>=_, _>>_}
 use Rattle.meaning.specs.Bytes.{number, bytes, Bytes, fields}
-use Rattle.meaning.proofs.Tests.{is-false}
+use Rattle.meaning.proofs.Tests.{is-true, is-false}
 
 -- ---- steps
 
@@ -35,6 +35,23 @@ pub passed : {B : Type 0} (b : Bool) (r : Refusal) (k : Answer B) {a : B} → (r
 unfolding refuseIf _>>_
 passed true r k e = absurd (not-good e)
 passed false r k e = (refl, e)
+
+-- a test that holds is the answer
+pub stop : {B : Type 0} (b : Bool) (r : Refusal) (k : Answer B) → b ≡ true → (refuseIf b r >> k) ≡ refused r
+unfolding refuseIf _>>_
+stop true r k e = refl
+stop false r k e = let z : _≡_ {A = ℕ} 0 1 = cc in absurd (omega arith)
+
+-- and so is a step that was refused
+pub stopped : {A B : Type 0} (e : Answer A) (k : A → Answer B) (r : Refusal) → e ≡ refused r → (e >>= k) ≡ refused r
+unfolding _>>=_
+stopped (good x) k r p = let z : _≡_ {A = ℕ} 0 1 = cc in absurd (omega arith)
+stopped (refused q) k r p = cc
+
+pub halted : {B : Type 0} (e : Answer (Unit {0})) (k : Answer B) (r : Refusal) → e ≡ refused r → (e >> k) ≡ refused r
+unfolding _>>_
+halted (good x) k r p = let z : _≡_ {A = ℕ} 0 1 = cc in absurd (omega arith)
+halted (refused q) k r p = cc
 
 -- a step that was good, and then what follows
 pub took : {A B : Type 0} (e : Answer A) (k : A → Answer B) (a : A) → e ≡ good a → (e >>= k) ≡ k a
@@ -61,6 +78,12 @@ gone (refused r) k p = absurd (not-good p)
 
 pub not-below : (m n : ℕ) → n ≤ m → ltb m n ≡ false
 not-below m n h = is-false (ltb m n) (λ t. let l = ltb→lt m n t in omega arith)
+
+pub below : (m n : ℕ) → m < n → ltb m n ≡ true
+below m n h = is-true (ltb m n) (lt→ltb m n h)
+
+pub at-most : (m n : ℕ) → m ≤ n → leb m n ≡ true
+at-most m n h = is-true (leb m n) (le→leb m n h)
 
 pub le-of-not-below : (m n : ℕ) → ltb m n ≡ false → n ≤ m
 le-of-not-below m n e = nltb→le m n (subst (λ (b : Bool). T (not b)) (sym e) tt)
@@ -185,3 +208,25 @@ pub number-below : (s : List ℕ) (p w : ℕ) → Bytes s → number s p w < 256
 unfolding number
 number-below s p zero h = omega arith
 number-below s p (suc w) h = rw (pow-suc 256 w) (omega (arith, number-below s p w h, h (p + w)))
+
+-- ---- numbers in few bytes, as code reads them
+
+pub number-one : (s : List ℕ) (p : ℕ) → number s p 1 ≡ getD s p 0
+unfolding number
+number-one s p = rw add-zero (omega arith)
+
+pub number-two : (s : List ℕ) (p : ℕ) → number s p 2 ≡ getD s p 0 * 256 + getD s (p + 1) 0
+unfolding number
+number-two s p = rw add-zero (omega arith)
+
+-- two bytes more
+pub number-more : (s : List ℕ) (p w : ℕ) → number s p (suc (suc w)) ≡ number s p w * 65536 + number s (p + w) 2
+unfolding number
+number-more s p w =
+    let e : getD s (p + suc w) 0 ≡ getD s (p + w + 1) 0 = ap (λ (z : ℕ). getD s z 0) (omega arith) in
+    let d : getD s (p + w + 0) 0 ≡ getD s (p + w) 0 = ap (λ (z : ℕ). getD s z 0) (omega arith) in
+    omega (arith, e, d)
+
+pub number-eight : (s : List ℕ) (p : ℕ)
+    → number s p 8 ≡ ((number s p 2 * 65536 + number s (p + 2) 2) * 65536 + number s (p + 4) 2) * 65536 + number s (p + 6) 2
+number-eight s p = omega (arith, number-more s p 6, number-more s p 4, number-more s p 2)

@@ -6,7 +6,7 @@ use Rattle.meaning.specs.Refusal.{refuseIf, _>>=_, _>>_}
 use Rattle.meaning.specs.Bytes.{number, bytes, fields, readHead, headed}
 use Rattle.meaning.specs.Tree.{count, under, nodes, relabel}
 use Rattle.meaning.specs.Fraction.{gcd, lowest}
-use Rattle.meaning.specs.Register.{targets, itemsBytes, linksBytes, readItems, readLinks, readBody, readRegisterBy}
+use Rattle.meaning.specs.Register.{targets, itemsBytes, linksBytes, readItems, readLink, readLinks, readBody, readRegisterBy}
 use Rattle.meaning.specs.Register.{encode as image}
 use Rattle.meaning.specs.Whole.{any, meetsBy}
 use Rattle.meaning.specs.Reduce.{dropped, keep, reduce, size, scale}
@@ -20,7 +20,7 @@ use Rattle.meaning.specs.Sheet.{sameList, sameWhole, rows, allTrue}
 
 pub sheet : T (allTrue rows)
 unfolding
-    rows allTrue sameList sameWhole degreeCall marginCall memberCall readPlain readRequirement readRegisterBy readBody readItems readLinks itemsBytes linksBytes readHead number bytes fields headed
+    rows allTrue sameList sameWhole degreeCall marginCall memberCall readPlain readRequirement readRegisterBy readBody readItems readLink readLinks itemsBytes linksBytes readHead number bytes fields headed
     image message nodeBytes thresholdsBytes readNode readThresholds withThresholds shown yesBy degree best lowest gcd reduce keep dropped size scale
     meetsBy any every refuseIf _>>=_ _>>_ targets count under nodes relabel ones
 sheet = tt

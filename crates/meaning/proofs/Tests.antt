@@ -24,6 +24,10 @@ pub is-false : (b : Bool) → (T b → ⊥) → b ≡ false
 is-false true f = absurd (f tt)
 is-false false f = refl
 
+pub is-not : (b : Bool) → (T b → ⊥) → not b ≡ true
+is-not true f = absurd (f tt)
+is-not false f = refl
+
 pub true-false : {b : Bool} → b ≡ true → b ≡ false → ⊥
 true-false e d = let z : _≡_ {A = Bool} true false = sym e ∙ d in let y : _≡_ {A = ℕ} 0 1 = cc in omega arith
 

@@ -110,17 +110,23 @@ readItems s end (suc k) p = do
 abbrev pub linkAt : List ℕ → ℕ → Link
 linkAt s p = record { from = number s p 2; role = number s (p + 2) 1; to = number s (p + 3) 2 }
 
--- k links between n items from place p on: "At a link: 1, 5 (from), 7, 5 (to), 6."
-unfoldable pub readLinks : List ℕ → ℕ → ℕ → ℕ → Option Link → ℕ → Answer (List Link)
-readLinks s end n zero before p = good []
-readLinks s end n (suc k) before p = do
+-- a link between n items at place p: "At a link: 1, 5 (from), 7, 5 (to), 6."
+unfoldable pub readLink : List ℕ → ℕ → ℕ → Option Link → ℕ → Answer Link
+readLink s end n before p = do
   fields register end (2 ∷ 1 ∷ 2 ∷ []) p
   refuseIf (leb n (linkAt s p .from)) (at register 5 p)
   refuseIf (ltb 31 (linkAt s p .role)) (at register 7 (p + 2))
   refuseIf (leb n (linkAt s p .to)) (at register 5 (p + 3))
   refuseIf (not (above before (linkAt s p))) (at register 6 p)
-  rest ← readLinks s end n k (some (linkAt s p)) (p + 5)
-  good (linkAt s p ∷ rest)
+  good (linkAt s p)
+
+-- k links from place p on
+unfoldable pub readLinks : List ℕ → ℕ → ℕ → ℕ → Option Link → ℕ → Answer (List Link)
+readLinks s end n zero before p = good []
+readLinks s end n (suc k) before p = do
+  l ← readLink s end n before p
+  rest ← readLinks s end n k (some l) (p + 5)
+  good (l ∷ rest)
 
 -- "At a count or set of names: 1, 4. Last: 8." The two counts, the items and the links
 unfoldable pub readBody : List ℕ → ℕ → Answer Register

@@ -1,0 +1,19 @@
+use borrow.Author.Needs.{needs}
+use Rattle.fields.proofs.one.Statement.{statement}
+use Rattle.fields.proofs.one.Tie as tie
+use mathlib.Core.Path.{_≡_, sym, _∙_, ap}
+use native.Mathlib.Omega.{arith}
+use Rattle.meaning.proofs.Reading.{number-one}
+
+shared-slice-read-wide : tie.Need-shared-slice-read-wide
+shared-slice-read-wide c = search needs
+
+wide-requires : tie.Need-wide-requires
+wide-requires c κs = search needs
+
+returns : tie.Need-returns
+returns c =
+    (omega (arith, number-one (c .before .before .before .args .s .now) (c .before .before .before .args .at), c .wide .ensures .0), search needs)
+
+pub one-spec : {M : Type 1} → statement M
+one-spec = tie.close (tie.spec shared-slice-read-wide wide-requires returns)

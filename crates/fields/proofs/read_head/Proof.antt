@@ -1,0 +1,73 @@
+use borrow.Author.Needs.{needs}
+use Rattle.fields.proofs.read_head.Statement.{statement}
+use Rattle.fields.proofs.read_head.Tie as tie
+use mathlib.Core.Path.{_≡_, sym, _∙_, ap, subst}
+use Prim.Native.Nat.{ℕ, _+_, _-_, _≤_, _<_}
+use native.Mathlib.Omega.{arith}
+use lib.ListN.{length, getD}
+use Rattle.meaning.proofs.Head.{head-short, head-version, head-length, head-good}
+use Rattle.meaning.specs.Refusal.{Answer, good}
+use Rattle.meaning.specs.Bytes.{readHead, number}
+use Rattle.fields.specs.Head.{wrongIn}
+use Rattle.fields.proofs.Wrong.{wrong-longer, wrong-shorter, right-front, right-whole}
+
+returns : tie.Need-returns
+returns c =
+    let h : length (c .before .before .args .s .now) < 3 = omega arith in
+    (λ side. sym (head-short side (wrongIn (c .before .before .args .session)) (c .before .before .args .s .now) h), tt)
+
+shared-slice-read-if2 : tie.Need-shared-slice-read-if2
+shared-slice-read-if2 c = search needs
+
+returns-2 : tie.Need-returns-2
+returns-2 c =
+    let h : 3 ≤ length (c .before .before .before .before .args .s .now) = omega arith in
+    (λ side. sym (head-version side (wrongIn (c .before .before .before .before .args .session)) (c .before .before .before .before .args .s .now) h (c .if2 .taken)), tt)
+
+two-requires : tie.Need-two-requires
+two-requires c κs = search needs
+
+returns-3 : tie.Need-returns-3
+returns-3 c =
+    let h : 3 ≤ length (c .before .before .before .before .before .before .args .s .now) = omega arith in
+    let l : length (c .before .before .before .before .before .before .args .s .now) - 3 < number (c .before .before .before .before .before .before .args .s .now) 1 2 = omega (arith, c .before .two .ensures .0) in
+    (λ side. sym (head-length side (wrongIn (c .before .before .before .before .before .before .args .session)) (c .before .before .before .before .before .before .args .s .now) h (c .before .before .if2 .left) (wrong-longer (c .before .before .before .before .before .before .args .session) _ _ l)), tt)
+
+add-t9 : tie.Need-add-t9
+add-t9 c = search needs
+
+returns-4 : tie.Need-returns-4
+returns-4 c =
+    let h : 3 ≤ length (c .before .before .before .before .before .before .before .args .s .now) = omega arith in
+    let l : number (c .before .before .before .before .before .before .before .args .s .now) 1 2 ≤ length (c .before .before .before .before .before .before .before .args .s .now) - 3 = omega (arith, c .before .before .two .ensures .0) in
+    (λ side. ap (λ (z : ℕ). good (3 + z)) (c .before .before .two .ensures .0) ∙ sym (head-good side (wrongIn (c .before .before .before .before .before .before .before .args .session)) (c .before .before .before .before .before .before .before .args .s .now) h (c .before .before .before .if2 .left) (right-front (c .before .before .before .before .before .before .before .args .session) _ _ (c .if4 .taken) l)), omega arith)
+
+returns-5 : tie.Need-returns-5
+returns-5 c =
+    let h : 3 ≤ length (c .before .before .before .before .before .before .before .before .args .s .now) = omega arith in
+    let l : number (c .before .before .before .before .before .before .before .before .args .s .now) 1 2 < length (c .before .before .before .before .before .before .before .before .args .s .now) - 3 = omega (arith, c .before .before .before .two .ensures .0) in
+    (λ side. sym (head-length side (wrongIn (c .before .before .before .before .before .before .before .before .args .session)) (c .before .before .before .before .before .before .before .before .args .s .now) h (c .before .before .before .before .if2 .left) (wrong-shorter (c .before .before .before .before .before .before .before .before .args .session) _ _ (c .before .if4 .left) l)), tt)
+
+add-t8 : tie.Need-add-t8
+add-t8 c = search needs
+
+returns-6 : tie.Need-returns-6
+returns-6 c =
+    let h : 3 ≤ length (c .before .before .before .before .before .before .before .before .args .s .now) = omega arith in
+    let l : number (c .before .before .before .before .before .before .before .before .args .s .now) 1 2 ≡ length (c .before .before .before .before .before .before .before .before .args .s .now) - 3 = omega (arith, c .before .before .before .two .ensures .0) in
+    (λ side. ap (λ (z : ℕ). good (3 + z)) (c .before .before .before .two .ensures .0) ∙ sym (head-good side (wrongIn (c .before .before .before .before .before .before .before .before .args .session)) (c .before .before .before .before .before .before .before .before .args .s .now) h (c .before .before .before .before .if2 .left) (right-whole (c .before .before .before .before .before .before .before .before .args .session) _ _ (c .before .if4 .left) l)), omega arith)
+
+pub read-head-spec : {M : Type 1} → statement M
+read-head-spec =
+    tie.close
+    (tie.spec
+    returns
+    shared-slice-read-if2
+    returns-2
+    two-requires
+    returns-3
+    add-t9
+    returns-4
+    returns-5
+    add-t8
+    returns-6)

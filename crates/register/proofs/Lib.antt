@@ -1,0 +1,5 @@
+pub mod Rising
+pub mod OneLink
+pub mod Links
+pub mod Body
+pub mod Whole

@@ -1,0 +1,48 @@
+use borrow.Author.Needs.{needs}
+use Rattle.register.proofs.read.Statement.{statement}
+use Rattle.register.proofs.read.Tie as tie
+use mathlib.Core.Path.{_≡_, refl, sym, _∙_, ap, subst}
+use native.Mathlib.Omega.{arith}
+use lib.ListN.{length}
+use Rattle.meaning.specs.declared.Side.the-variants.{Register as register}
+use Rattle.fields.specs.Head.{paperHead, wrongIn, EndsWithin}
+use Rattle.register.specs.Reading.{paper}
+use Rattle.register.proofs.Whole.{whole-good, whole-refused}
+
+read-head-requires : tie.Need-read-head-requires
+read-head-requires c κs = search needs
+
+enum-known-h : tie.Need-enum-known-h
+enum-known-h c = search needs
+
+read-body-requires : tie.Need-read-body-requires
+read-body-requires c κs =
+    subst (λ z. EndsWithin (length (c .before .before .before .before .before .args .s .now)) z) (c .before .h .given .1) (c .before .before .before .read-head .ensures .1)
+
+enum-known-h-2 : tie.Need-enum-known-h-2
+enum-known-h-2 c = search needs
+
+refused-requires : tie.Need-refused-requires
+refused-requires c κs = search needs
+
+returns : tie.Need-returns
+returns c =
+    c .read-body .ensures
+    ∙ sym (whole-good (wrongIn (c .before .before .before .before .before .before .args .session)) (c .before .before .before .before .before .before .args .s .now) _ (sym (c .before .before .before .before .read-head .ensures .0 register) ∙ ap (paperHead register) (c .before .before .h .given .1)))
+
+returns-2 : tie.Need-returns-2
+returns-2 c =
+    ap paper (c .refused .ensures)
+    ∙ sym (whole-refused (wrongIn (c .before .before .before .before .before .before .args .session)) (c .before .before .before .before .before .before .args .s .now) _ (sym (c .before .before .before .before .read-head .ensures .0 register) ∙ ap (paperHead register) (c .before .before .h2 .given .1)))
+
+pub read-spec : {M : Type 1} → statement M
+read-spec =
+    tie.close
+    (tie.spec
+    read-head-requires
+    enum-known-h
+    read-body-requires
+    enum-known-h-2
+    refused-requires
+    returns
+    returns-2)

@@ -1,0 +1,135 @@
+use borrow.Author.Needs.{needs}
+use Rattle.register.proofs.read_link.Statement.{statement}
+use Rattle.register.proofs.read_link.Tie as tie
+use mathlib.Core.Path.{_≡_, refl, sym, _∙_, ap}
+use Prim.Native.Nat.{ℕ, _+_, _*_, _-_, _≤_, _<_}
+use native.Mathlib.Omega.{arith}
+use Rattle.meaning.specs.Bytes.{number}
+use Rattle.meaning.specs.Refusal.{good}
+use Rattle.meaning.specs.Register.{linkAt}
+use Rattle.register.specs.Reading.{key, paperLink, Passed}
+use Rattle.register.proofs.OneLink.{link-cut, link-from, link-role, link-to, link-order, link-good}
+
+sub-if1 : tie.Need-sub-if1
+sub-if1 c = search needs
+
+sub-cut : tie.Need-sub-cut
+sub-cut c = search needs
+
+cut-requires : tie.Need-cut-requires
+cut-requires c κs = search needs
+
+returns : tie.Need-returns
+returns c =
+    let h : c .before .before .before .args .at ≤ c .before .before .before .args .end = omega arith in
+    let l : c .before .before .before .args .end - c .before .before .before .args .at < 5 = omega arith in (
+      λ before f. ap paperLink (c .cut .ensures) ∙ sym (link-cut (c .before .before .before .args .s .now) (c .before .before .before .args .end) (c .before .before .before .args .items) before (c .before .before .before .args .at) h l),
+      rw (c .cut .ensures) tt,
+    )
+
+two-requires : tie.Need-two-requires
+two-requires c κs = search needs
+
+returns-2 : tie.Need-returns-2
+returns-2 c =
+    let h : c .before .before .before .before .args .at + 5 ≤ c .before .before .before .before .args .end = omega arith in
+    let l : c .before .before .before .before .args .items ≤ number (c .before .before .before .before .args .s .now) (c .before .before .before .before .args .at) 2 = omega (arith, c .before .two .ensures .0) in
+    (λ before f. sym (link-from (c .before .before .before .before .args .s .now) (c .before .before .before .before .args .end) (c .before .before .before .before .args .items) before (c .before .before .before .before .args .at) h l), tt)
+
+add-one : tie.Need-add-one
+add-one c = search needs
+
+one-requires : tie.Need-one-requires
+one-requires c κs = search needs
+
+add-t13 : tie.Need-add-t13
+add-t13 c = search needs
+
+returns-3 : tie.Need-returns-3
+returns-3 c =
+    let h : c .before .before .before .before .before .before .args .at + 5 ≤ c .before .before .before .before .before .before .args .end = omega arith in
+    let a : number (c .before .before .before .before .before .before .args .s .now) (c .before .before .before .before .before .before .args .at) 2 < c .before .before .before .before .before .before .args .items = omega (arith, c .before .before .before .two .ensures .0) in
+    let l : 31 < number (c .before .before .before .before .before .before .args .s .now) (c .before .before .before .before .before .before .args .at + 2) 1 = omega (arith, c .before .one .ensures .0) in
+    (λ before f. sym (link-role (c .before .before .before .before .before .before .args .s .now) (c .before .before .before .before .before .before .args .end) (c .before .before .before .before .before .before .args .items) before (c .before .before .before .before .before .before .args .at) h a l), tt)
+
+add-two : tie.Need-add-two
+add-two c = search needs
+
+two-requires-2 : tie.Need-two-requires-2
+two-requires-2 c κs = search needs
+
+add-t14 : tie.Need-add-t14
+add-t14 c = search needs
+
+returns-4 : tie.Need-returns-4
+returns-4 c =
+    let h : c .before .before .before .before .before .before .before .before .args .at + 5 ≤ c .before .before .before .before .before .before .before .before .args .end = omega arith in
+    let a : number (c .before .before .before .before .before .before .before .before .args .s .now) (c .before .before .before .before .before .before .before .before .args .at) 2 < c .before .before .before .before .before .before .before .before .args .items = omega (arith, c .before .before .before .before .before .two .ensures .0) in
+    let b : number (c .before .before .before .before .before .before .before .before .args .s .now) (c .before .before .before .before .before .before .before .before .args .at + 2) 1 ≤ 31 = omega (arith, c .before .before .before .one .ensures .0) in
+    let l : c .before .before .before .before .before .before .before .before .args .items ≤ number (c .before .before .before .before .before .before .before .before .args .s .now) (c .before .before .before .before .before .before .before .before .args .at + 3) 2 = omega (arith, c .before .two2 .ensures .0) in
+    (λ before f. sym (link-to (c .before .before .before .before .before .before .before .before .args .s .now) (c .before .before .before .before .before .before .before .before .args .end) (c .before .before .before .before .before .before .before .before .args .items) before (c .before .before .before .before .before .before .before .before .args .at) h a b l), tt)
+
+mul-number : tie.Need-mul-number
+mul-number c = search needs
+
+add-number : tie.Need-add-number
+add-number c = search needs
+
+mul-number-2 : tie.Need-mul-number-2
+mul-number-2 c = search needs
+
+add-number-2 : tie.Need-add-number-2
+add-number-2 c = search needs
+
+returns-5 : tie.Need-returns-5
+returns-5 c =
+    let h : c .before .before .before .before .before .before .before .before .before .args .at + 5 ≤ c .before .before .before .before .before .before .before .before .before .args .end = omega arith in
+    let a : number (c .before .before .before .before .before .before .before .before .before .args .s .now) (c .before .before .before .before .before .before .before .before .before .args .at) 2 < c .before .before .before .before .before .before .before .before .before .args .items = omega (arith, c .before .before .before .before .before .before .two .ensures .0) in
+    let b : number (c .before .before .before .before .before .before .before .before .before .args .s .now) (c .before .before .before .before .before .before .before .before .before .args .at + 2) 1 ≤ 31 = omega (arith, c .before .before .before .before .one .ensures .0) in
+    let d : number (c .before .before .before .before .before .before .before .before .before .args .s .now) (c .before .before .before .before .before .before .before .before .before .args .at + 3) 2 < c .before .before .before .before .before .before .before .before .before .args .items = omega (arith, c .before .before .two2 .ensures .0) in
+    let m : c .before .before .before .before .before .before .before .before .before .args .items ≤ 512 = omega arith in
+    let l : key (linkAt (c .before .before .before .before .before .before .before .before .before .args .s .now) (c .before .before .before .before .before .before .before .before .before .args .at)) < c .before .before .before .before .before .before .before .before .before .args .floor = omega (arith, c .before .before .before .before .before .before .two .ensures .0, c .before .before .before .before .one .ensures .0, c .before .before .two2 .ensures .0) in
+    (λ before f. sym (link-order (c .before .before .before .before .before .before .before .before .before .args .s .now) (c .before .before .before .before .before .before .before .before .before .args .end) (c .before .before .before .before .before .before .before .before .before .args .items) before (c .before .before .before .before .before .before .before .before .before .args .at) h a b d m (c .before .before .before .before .before .before .before .before .before .args .floor) f l), tt)
+
+add-t16 : tie.Need-add-t16
+add-t16 c = search needs
+
+returns-6 : tie.Need-returns-6
+returns-6 c =
+    let h : c .before .before .before .before .before .before .before .before .before .args .at + 5 ≤ c .before .before .before .before .before .before .before .before .before .args .end = omega arith in
+    let a : number (c .before .before .before .before .before .before .before .before .before .args .s .now) (c .before .before .before .before .before .before .before .before .before .args .at) 2 < c .before .before .before .before .before .before .before .before .before .args .items = omega (arith, c .before .before .before .before .before .before .two .ensures .0) in
+    let b : number (c .before .before .before .before .before .before .before .before .before .args .s .now) (c .before .before .before .before .before .before .before .before .before .args .at + 2) 1 ≤ 31 = omega (arith, c .before .before .before .before .one .ensures .0) in
+    let d : number (c .before .before .before .before .before .before .before .before .before .args .s .now) (c .before .before .before .before .before .before .before .before .before .args .at + 3) 2 < c .before .before .before .before .before .before .before .before .before .args .items = omega (arith, c .before .before .two2 .ensures .0) in
+    let m : c .before .before .before .before .before .before .before .before .before .args .items ≤ 512 = omega arith in
+    let l : c .before .before .before .before .before .before .before .before .before .args .floor ≤ key (linkAt (c .before .before .before .before .before .before .before .before .before .args .s .now) (c .before .before .before .before .before .before .before .before .before .args .at)) = omega (arith, c .before .before .before .before .before .before .two .ensures .0, c .before .before .before .before .one .ensures .0, c .before .before .two2 .ensures .0) in (
+      λ before f.
+          ap (λ (z : ℕ). good z) (omega (arith, c .before .before .before .before .before .before .two .ensures .0, c .before .before .before .before .one .ensures .0, c .before .before .two2 .ensures .0))
+          ∙ sym (link-good (c .before .before .before .before .before .before .before .before .before .args .s .now) (c .before .before .before .before .before .before .before .before .before .args .end) (c .before .before .before .before .before .before .before .before .before .args .items) before (c .before .before .before .before .before .before .before .before .before .args .at) h a b d m (c .before .before .before .before .before .before .before .before .before .args .floor) f l),
+      h,
+    )
+
+pub read-link-spec : {M : Type 1} → statement M
+read-link-spec =
+    tie.close
+    (tie.spec
+    sub-if1
+    sub-cut
+    cut-requires
+    returns
+    two-requires
+    returns-2
+    add-one
+    one-requires
+    add-t13
+    returns-3
+    add-two
+    two-requires-2
+    add-t14
+    returns-4
+    mul-number
+    add-number
+    mul-number-2
+    add-number-2
+    returns-5
+    add-t16
+    returns-6)

@@ -1,0 +1,167 @@
+// Reading a register image, whole or in a session's buffer, and reading one fact of an image that was read.
+use fields::Head;
+use meaning::Refusal;
+use meaning::Side;
+ghost use mathlib.Core.Path.{_≡_};
+ghost use mathlib.Core.Option.{Option, none as nowhere};
+ghost use Prim.Native.Nat.{_+_, _*_, _≤_, _<_};
+ghost use lib.ListN.{length};
+ghost use Rattle.meaning.specs.declared.Side.the-variants.{Register as register};
+ghost use Rattle.meaning.specs.Refusal.{at};
+ghost use Rattle.meaning.specs.Register.{Link, readLink, readLinks, readBody, readRegisterBy};
+ghost use Rattle.fields.specs.Head.{wrongIn};
+ghost use Rattle.register.specs.Reading.{paper, counted, linksAnswer, refusedAt, Floor, paperLink, keyed, Passed, cutAt};
+
+// An image: how many items and links it has, or its refusal.
+pub enum Reading {
+    Good { items: usize, links: usize },
+    Refused { refusal: Refusal },
+}
+
+// A link that was read: the least number that the next one may have; or the number and place of its fault.
+pub enum Linked {
+    Good { floor: usize },
+    Refused { number: usize, place: usize },
+}
+
+// Reads an image: of a whole input, or in a session of what a buffer begins with.
+pub fn read(s: &[u8], session: bool) -> Reading
+    ensures { λ r. ⌜ paper r ≡ counted (readRegisterBy (wrongIn session) (now (s .entry))) ⌝ }
+{
+    let h = fields::read_head(s, session);
+    match h {
+        Head::Good { end } => read_body(s, end),
+        Head::Refused { number, place } => refused(number, place),
+    }
+}
+
+fn refused(number: usize, place: usize) -> Reading
+    ensures { λ r. ⌜ r ≡ refusedAt number place ⌝ }
+{
+    Reading::Refused {
+        refusal: Refusal {
+            side: Side::Register,
+            number,
+            place,
+        },
+    }
+}
+
+// What stands under the head.
+fn read_body(s: &[u8], end: usize) -> Reading
+    requires { ⌜ (3 ≤ end) × (end ≤ length (now s)) ⌝ }
+    ensures { λ r. ⌜ paper r ≡ counted (readBody (now (s .entry)) end) ⌝ }
+{
+    if end < 5 {
+        return refused(1, 3);
+    }
+    let items = fields::two(s, 3);
+    if items < 1 {
+        return refused(4, 3);
+    }
+    if 512 < items {
+        return refused(4, 3);
+    }
+    let at = 5 + 8 * items;
+    if end < at {
+        return refused(1, 5 + (end - 5) / 8 * 8);
+    }
+    if end < at + 2 {
+        return refused(1, at);
+    }
+    let links = fields::two(s, at);
+    if 4096 < links {
+        return refused(4, at);
+    }
+    read_links(s, end, items, links, at + 2)
+}
+
+// The links, and that nothing is left behind them.
+fn read_links(s: &[u8], end: usize, items: usize, links: usize, start: usize) -> Reading
+    requires { ⌜ (start ≤ end) × (end ≤ length (now s)) × (items ≤ 512) × (links ≤ 4096) ⌝ }
+    ensures { λ r. ⌜ paper r ≡ linksAnswer (now (s .entry)) end items links start ⌝ }
+{
+    let mut i = 0;
+    let mut at = start;
+    let mut floor = 0;
+    while i < links {
+        let l = read_link(s, end, items, at, floor);
+        match l {
+            Linked::Good { floor: next } => {
+                floor = next;
+            }
+            Linked::Refused { number, place } => {
+                return refused(number, place);
+            }
+        }
+        i += 1;
+        at += 5;
+    }
+    if at < end {
+        return refused(8, at);
+    }
+    Reading::Good { items, links }
+}
+
+// One link, whose number must be at least `floor`. A link's number is that of its five bytes, and so rises with (from, role, to).
+fn read_link(s: &[u8], end: usize, items: usize, at: usize, floor: usize) -> Linked
+    requires { ⌜ (at ≤ end) × (end ≤ length (now s)) × (items ≤ 512) ⌝ }
+    ensures { λ r. ⌜ ((before : Option Link) → Floor before floor → paperLink r ≡ keyed (readLink (now (s .entry)) end items before at)) ⌝ }
+    ensures { λ r. ⌜ Passed at end r ⌝ }
+{
+    if end - at < 5 {
+        return cut(end - at, at);
+    }
+    let from = fields::two(s, at);
+    if items <= from {
+        return Linked::Refused {
+            number: 5,
+            place: at,
+        };
+    }
+    let role = fields::one(s, at + 2);
+    if 31 < role {
+        return Linked::Refused {
+            number: 7,
+            place: at + 2,
+        };
+    }
+    let to = fields::two(s, at + 3);
+    if items <= to {
+        return Linked::Refused {
+            number: 5,
+            place: at + 3,
+        };
+    }
+    let number = (from * 256 + role) * 65536 + to;
+    if number < floor {
+        return Linked::Refused {
+            number: 6,
+            place: at,
+        };
+    }
+    Linked::Good { floor: number + 1 }
+}
+
+// A link of which only `room` bytes stand before the end: number 1 at the first field that does not fit whole.
+fn cut(room: usize, at: usize) -> Linked
+    requires { ⌜ (room < 5) × (at + room < 18446744073709551616) ⌝ }
+    ensures { λ r. ⌜ r ≡ cutAt room at ⌝ }
+{
+    if room < 2 {
+        return Linked::Refused {
+            number: 1,
+            place: at,
+        };
+    }
+    if room < 3 {
+        return Linked::Refused {
+            number: 1,
+            place: at + 2,
+        };
+    }
+    Linked::Refused {
+        number: 1,
+        place: at + 3,
+    }
+}
