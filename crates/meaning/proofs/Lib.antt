@@ -1,2 +1,4 @@
 pub mod Tests
+pub mod Rising
+pub mod Links
 pub mod Sheet
