@@ -2,11 +2,11 @@
 -- Assumes nothing.
 use mathlib.Core.Path.{_≡_, refl, sym, ap, ap₂, _∙_}
 use mathlib.Core.Bool.{Bool, true, false, not, cond}
-use mathlib.Core.List.{List, [], _∷_, _++_, map, map-append}
+use mathlib.Core.List.{List, _∷_, _++_, map, map-append}
 use mathlib.Core.Option.{Option}
 use Prim.Native.Nat.{ℕ, zero, suc, _+_}
 use lib.ListN.{length, length-append, length-map, replicate, length-replicate}
-use Rattle.meaning.specs.Tree.{Tree, node, Forest, none, more, Concept, under, nodes, nodesF}
+use Rattle.meaning.specs.Tree.{node, Forest, none, more, Concept, under, nodes, nodesF}
 use Rattle.meaning.specs.Graph.{Graph}
 use Rattle.meaning.specs.Reduce.{dropped, reduce, reduceF, kept, keptF}
 use Rattle.meaning.specs.Shown.{Mark, out, goes, goesTo, shown, shownF}

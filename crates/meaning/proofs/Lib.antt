@@ -12,8 +12,8 @@ pub mod Rising
 pub mod Links
 pub mod Places
 pub mod Picked
-pub mod Shown
 pub mod Kept
+pub mod Shown
 pub mod Member
 pub mod YesShown
 pub mod Sheet

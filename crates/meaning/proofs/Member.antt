@@ -2,14 +2,14 @@
 -- Assumes nothing.
 use mathlib.Core.Path.{_≡_, refl, sym, ap₂, _∙_, fun-ext}
 use mathlib.Core.Logic.{_↔_}
-use mathlib.Core.Bool.{Bool, true, _&&_, and-true}
+use mathlib.Core.Bool.{Bool, _&&_, and-true}
 use mathlib.Core.List.{List, [], _∷_, _++_, append-assoc}
 use Prim.Native.Nat.{ℕ}
 use native.Mathlib.Omega.{arith}
 use lib.Dec.{T}
-use Rattle.meaning.specs.Tree.{Tree, node, Forest, none, more, Concept, written, writtenF, relabelF, relabel}
+use Rattle.meaning.specs.Tree.{node, Forest, none, more, Concept, written, writtenF, relabelF, relabel}
 use Rattle.meaning.specs.Graph.{Graph}
-use Rattle.meaning.specs.Whole.{any, meetsBy, meetsByF, held, meets, meetsF}
+use Rattle.meaning.specs.Whole.{any, meetsBy, meetsByF, meets, meetsF}
 use Rattle.meaning.specs.Requirement.{Threshold, Label, Requirement, every, fulfils, member, RespectingMap, bare, plain}
 use Rattle.meaning.specs.Message.{joined, thresholdsOf}
 use Rattle.meaning.proofs.Whole.{meets-whole}

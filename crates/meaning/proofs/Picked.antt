@@ -6,22 +6,25 @@ use mathlib.Core.List.{List, [], _∷_, List·Memᴰ}
 use mathlib.Core.Option.{Option, some}
 use mathlib.Core.Option.{none as nowhere}
 use Prim.Native.Nat.{ℕ, _≤_, max}
+use native.Mathlib.Nat.{le-trans}
 use native.Mathlib.Omega.{arith}
 use lib.Dec.{ltb, ltb→lt, nltb→le}
 use Rattle.meaning.specs.Degree.{best}
 use Rattle.meaning.specs.Shown.{firstBest, pick}
 use Rattle.meaning.proofs.Tests.{holds, fails}
 use Rattle.meaning.proofs.Best.{best-above, pick-some}
-use Rattle.meaning.proofs.Rising.{Earliest, here, later}
+use Rattle.meaning.proofs.Rising.{Earliest, here, later, earliest-map}
 
--- none in the list is above y, and y is the first that is not below
-pub record FirstOfGreatest {A : Type 0} (v : A → ℕ) (l : List A) (y : A) : Type 0 where
-  pub greatest : (z : A) → List·Memᴰ z l → v z ≤ v y
-  pub earliest : Earliest (λ z. v y ≤ v z) l y
+-- no value in the list is greater than that of y
+abbrev pub Greatest : {A : Type 0} → (A → ℕ) → List A → A → Type 0
+Greatest {A} v l y = (z : A) → List·Memᴰ z l → v z ≤ v y
 
 pub data Picked {A : Type 0} (v : A → ℕ) : List A → Option A → Type 0 where
   nobody : Picked v [] nowhere
-  somebody : {l : List A} {y : A} → FirstOfGreatest v l y → Picked v l (some y)
+  somebody : {l : List A} {y : A} → Earliest (Greatest v l) l y → Picked v l (some y)
+
+pub picked-first : {A : Type 0} {v : A → ℕ} {l : List A} {y : A} → Picked v l (some y) → Earliest (Greatest v l) l y
+picked-first (somebody e) = e
 
 -- one more behind the first
 behind : {A : Type 0} {P : A → Type 0} {x w : A} {l : List A} (y : A) → (P y → P x) → Earliest P (x ∷ l) w → Earliest P (x ∷ y ∷ l) w
@@ -50,7 +53,7 @@ module _ {A : Type 0} (v : A → ℕ) where
   unfolding pick best
   pick-first [] = nobody
   pick-first (x ∷ xs) =
-      let y = firstBest v x xs in
-      let e = pick-some v (x ∷ xs) y refl .1 in
-      let own : FirstOfGreatest v (x ∷ xs) y = record { greatest = λ z m. rw e (best-above v m); earliest = rw e (first-best x xs) } in
-      somebody own
+      let q = pick-some v (x ∷ xs) (firstBest v x xs) refl in
+      let up : (z : A) → best v (x ∷ xs) ≤ v z → Greatest v (x ∷ xs) z = λ z h w m. le-trans (best-above v m) h in
+      let down : (z : A) → Greatest v (x ∷ xs) z → best v (x ∷ xs) ≤ v z = λ z g. rw (← q .1) (g (firstBest v x xs) (q .0)) in
+      somebody (earliest-map up down (first-best x xs))

@@ -1,8 +1,7 @@
 -- Rising lists, and the first of a list with a property: in a rising list it is the lowest-numbered of those that have it.
 -- Assumes nothing.
-use mathlib.Core.Path.{_≡_, refl, subst}
-use mathlib.Core.Logic.{_⊎_, inl, inr}
-use mathlib.Core.List.{List, [], _∷_, List·Memᴰ, List·Memᴰ·head, List·Memᴰ·tail, List·Memᴰ·cases-cons}
+use mathlib.Core.Path.{refl, subst}
+use mathlib.Core.List.{List, [], _∷_, List·Memᴰ, List·Memᴰ·head, List·Memᴰ·tail}
 use Prim.Native.Nat.{ℕ, _≤_, _<_}
 use native.Mathlib.Omega.{arith}
 
@@ -23,6 +22,10 @@ earliest-member (later n e) = List·Memᴰ·tail (earliest-member e)
 pub earliest-holds : {A : Type 0} {P : A → Type 0} {l : List A} {y : A} → Earliest P l y → P y
 earliest-holds (here h) = h
 earliest-holds (later n e) = earliest-holds e
+
+pub earliest-map : {A : Type 0} {P Q : A → Type 0} {l : List A} {y : A} → ((z : A) → P z → Q z) → ((z : A) → Q z → P z) → Earliest P l y → Earliest Q l y
+earliest-map f g (here {y = y} p) = here (f y p)
+earliest-map f g (later {x = x} n e) = later (λ q. n (g x q)) (earliest-map f g e)
 
 -- y is the lowest-numbered in the list of those with P
 pub record LowestOf (P : ℕ → Type 0) (l : List ℕ) (y : ℕ) : Type 0 where

@@ -2,23 +2,28 @@
 -- and each child goes to the first of the successors of greatest degree.
 -- Assumes nothing.
 use mathlib.Core.Path.{_≡_, refl, sym, ap, ap₂, _∙_}
-use mathlib.Core.Bool.{Bool, true, false, cond}
+use mathlib.Core.Bool.{Bool, true, false, not, cond}
 use mathlib.Core.List.{List, [], _∷_, _++_, map}
 use mathlib.Core.Option.{Option, some}
 use mathlib.Core.Option.{none as nowhere}
 use Prim.Native.Nat.{ℕ, zero, suc}
-use lib.ListN.{replicate}
-use Rattle.meaning.specs.Tree.{Tree, node, Forest, none, more, Concept, under, nodes, subtree, subtreeF, roleOf, roleAt, roleAtF, places}
+use lib.Dec.{T}
+use lib.ListN.{length, replicate}
+use Rattle.meaning.specs.Tree.{node, Forest, none, more, Concept, under, nodes, subtree, subtreeF, roleOf, roleAt, roleAtF, places}
 use Rattle.meaning.specs.Graph.{Graph}
-use Rattle.meaning.specs.Fraction.{Frac, Same}
-use Rattle.meaning.specs.Reduce.{dropped, keep, reduce, reduceF}
+use Rattle.meaning.specs.Register.{Register, judged, wellFormed}
+use Rattle.meaning.specs.Fraction.{Same}
+use Rattle.meaning.specs.Reduce.{dropped, keep, reduce, reduceF, kept}
 use Rattle.meaning.specs.Partial.{PartialMap, valueOf}
 use Rattle.meaning.specs.Degree.{degree, degreeOf}
 use Rattle.meaning.specs.Shown.{pick, Mark, out, goes, goesTo, shown, shownF}
 use Rattle.meaning.proofs.Tests.{not-some, some-inj}
 use Rattle.meaning.proofs.Chosen.{onward, chosen, chosenF, chosen-root, chosen-map}
 use Rattle.meaning.proofs.Degree.{chosen-value}
-use Rattle.meaning.proofs.Picked.{Picked, pick-first}
+use Rattle.meaning.proofs.Picked.{Greatest, Picked, picked-first, pick-first}
+use Rattle.meaning.proofs.Rising.{LowestOf, earliest-lowest}
+use Rattle.meaning.proofs.Links.{next-rises}
+use Rattle.meaning.proofs.Kept.{isOut, shown-out, shown-length}
 use Rattle.meaning.proofs.Places.{subtree-root, along, alongF, along-places}
 
 -- where the nodes go that are not dropped
@@ -119,6 +124,8 @@ module _ {N : Type 0} (G : Graph N) where
 
   -- ---- what the map shown for a degree says
   pub record Shows (t : Concept) (x : N) : Type 0 where
+    pub long : length (shown G t (some x)) ≡ nodes t
+    pub left : map isOut (shown G t (some x)) ≡ map not (kept t)
     pub partial : PartialMap G (reduce t) x
     pub listed : keptMarks (shown G t (some x)) ≡ map (partial .map) (places (reduce t))
     pub reaches : Same (valueOf G (reduce t) x (partial .map)) (degreeOf G t x)
@@ -127,8 +134,16 @@ module _ {N : Type 0} (G : Graph N) where
 
   pub degree-shows : (t : Concept) (x : N) → Shows t x
   degree-shows t x = record {
+    long = shown-length G t (some x);
+    left = shown-out G t (some x);
     partial = chosen-map G (reduce t) x;
     listed = shown-along t (some x) ∙ sym (along-places (reduce t) (chosen G (reduce t) x));
     reaches = chosen-value G t x;
     picked = child (reduce t) x;
   }
+
+-- in a well-formed register that is the lowest-numbered of the successors of greatest degree
+pub degree-lowest : (g : Register) → T (wellFormed g) → (t : Concept) (x : ℕ) (h : Shows (judged g) t x) (p : List ℕ) (k r : ℕ) (s : Concept) (z y : ℕ)
+    → roleAt (reduce t) p k ≡ some r → subtree (reduce t) (p ++ k ∷ []) ≡ some s → h .partial .map p ≡ some z → h .partial .map (p ++ k ∷ []) ≡ some y
+    → LowestOf (Greatest (λ w. degree (judged g) s w) (judged g .next z r)) (judged g .next z r) y
+degree-lowest g w t x h p k r s z y e d m n = earliest-lowest (next-rises g z r w) (picked-first (rw n at (h .picked p k r s z e d m)))

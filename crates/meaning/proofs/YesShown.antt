@@ -3,17 +3,19 @@
 use mathlib.Core.Path.{_≡_, refl, sym, ap, ap₂, _∙_, subst, fun-ext}
 use mathlib.Core.Bool.{Bool, true, false, cond}
 use mathlib.Core.List.{List, [], _∷_, _++_, map}
-use mathlib.Core.Option.{Option, some}
+use mathlib.Core.Option.{some}
 use Prim.Native.Nat.{ℕ, zero, suc}
 use lib.Dec.{T}
 use lib.ListN.{length}
 use Rattle.meaning.specs.Tree.{Tree, node, Forest, none, more, nodes, subtree, subtreeF, roleOf, roleAt, roleAtF, places}
 use Rattle.meaning.specs.Graph.{Graph}
+use Rattle.meaning.specs.Register.{Register, judged, wellFormed}
 use Rattle.meaning.specs.Whole.{meetsBy, meetsByF, WholeMap}
 use Rattle.meaning.specs.Shown.{first, yesBy, yesByF}
 use Rattle.meaning.proofs.Tests.{holds, not-some, some-inj}
 use Rattle.meaning.proofs.Whole.{at-node, at-more, firstMap, firstMapF, first-root, meets-map}
-use Rattle.meaning.proofs.Rising.{Earliest, here, later}
+use Rattle.meaning.proofs.Rising.{Earliest, here, later, LowestOf, earliest-lowest}
+use Rattle.meaning.proofs.Links.{next-rises}
 use Rattle.meaning.proofs.Places.{subtree-root, along, alongF, along-places, along-length}
 
 pub first-earliest : {A : Type 0} (p : A → Bool) (l : List A) (y : A) → first p l ≡ some y → Earliest (λ z. T (p z)) l y
@@ -91,3 +93,9 @@ module _ {L N : Type 0} (fits : L → N → Bool) (G : Graph N) where
     long = ap length (yes-along t x m) ∙ along-length t (firstMap fits G t x);
     earliest = child t x m;
   }
+
+-- in a well-formed register that is the lowest-numbered successor that meets the child
+pub yes-lowest : {L : Type 0} (fits : L → ℕ → Bool) (g : Register) → T (wellFormed g) → (t : Tree L) (x : ℕ) (h : YesShows fits (judged g) t x)
+    (p : List ℕ) (k r : ℕ) (s : Tree L) → roleAt t p k ≡ some r → subtree t (p ++ k ∷ []) ≡ some s
+    → LowestOf (λ y. T (meetsBy fits (judged g) s y)) (judged g .next (h .whole .map p) r) (h .whole .map (p ++ k ∷ []))
+yes-lowest fits g w t x h p k r s e d = earliest-lowest (next-rises g (h .whole .map p) r w) (h .earliest p k r s e d)
