@@ -1,4 +1,5 @@
--- The successors in a register are the ends of its links, and in a well-formed register they rise.
+-- The successors in a register are the ends of its links, its facts are those of the graph that is judged, and in a well-formed register
+-- the successors rise.
 -- Assumes nothing.
 use mathlib.Core.Path.{_≡_, refl, sym, ap, subst}
 use mathlib.Core.Logic.{_⊎_, inl, inr, _↔_}
@@ -18,7 +19,7 @@ use Rattle.meaning.specs.Whole.{any}
 use Rattle.meaning.proofs.Tests.{holds, and-both, both-and, or-cases, any-found, found-any}
 use Rattle.meaning.proofs.Rising.{Rising, flat, up}
 
-abbrev link : ℕ → ℕ → ℕ → Link
+abbrev pub link : ℕ → ℕ → ℕ → Link
 link i r y = record { from = i; role = r; to = y }
 
 -- the test of `targets`
@@ -30,7 +31,7 @@ leaves-link i r l t = let b = and-both (eqb (l .from) i) (eqb (l .role) r) t in 
 
 -- ---- the successors are the ends of the links
 
-pub link-target : (ls : List Link) (i r y : ℕ) → List·Memᴰ (link i r y) ls → List·Memᴰ y (targets ls i r)
+link-target : (ls : List Link) (i r y : ℕ) → List·Memᴰ (link i r y) ls → List·Memᴰ y (targets ls i r)
 unfolding targets
 link-target [] i r y m = elim m [ ]
 link-target (l ∷ ls) i r y m = go (leaves i r l) refl (List·Memᴰ·cases-cons m) (λ n. link-target ls i r y n)
@@ -42,7 +43,7 @@ link-target (l ∷ ls) i r y m = go (leaves i r l) refl (List·Memᴰ·cases-con
     go false e (inr n) k = k n
     go false e (inl p) k = absurd (subst T e (subst (λ z. T (leaves i r z)) p (both-and (eqb i i) (eqb r r) (eqb-refl i) (eqb-refl r))))
 
-pub target-link : (ls : List Link) (i r y : ℕ) → List·Memᴰ y (targets ls i r) → List·Memᴰ (link i r y) ls
+target-link : (ls : List Link) (i r y : ℕ) → List·Memᴰ y (targets ls i r) → List·Memᴰ (link i r y) ls
 unfolding targets
 target-link [] i r y m = elim m [ ]
 target-link (l ∷ ls) i r y m = go (leaves i r l) refl m (λ n. target-link ls i r y n)
@@ -54,6 +55,9 @@ target-link (l ∷ ls) i r y m = go (leaves i r l) refl m (λ n. target-link ls 
     go true e (List·Memᴰ·head p) k =
         let q = leaves-link i r l (holds e) in
         List·Memᴰ·head (λ d. record { from = sym (q .0) d; role = sym (q .1) d; to = p d })
+
+pub targets-links : (ls : List Link) (i r y : ℕ) → List·Memᴰ y (targets ls i r) ↔ List·Memᴰ (link i r y) ls
+targets-links ls i r y = (target-link ls i r y, link-target ls i r y)
 
 -- ---- facts
 
