@@ -6,12 +6,12 @@ use Prim.Native.Nat.{_≤_}
 use native.Mathlib.Nat.{le-antisymm, le-of-eq, mul-le-mul-right}
 use Rattle.meaning.specs.Tree.{Concept}
 use Rattle.meaning.specs.Graph.{Graph}
-use Rattle.meaning.specs.Fraction.{Frac, Same, AtMost}
+use Rattle.meaning.specs.Fraction.{Frac, Same, AtMost, Lowest}
 use Rattle.meaning.specs.Reduce.{reduce}
 use Rattle.meaning.specs.Partial.{valueOf, IsDegree}
 use Rattle.meaning.specs.Degree.{degreeOf, answered}
 use Rattle.meaning.proofs.Fraction.{at-most-trans, same-trans}
-use Rattle.meaning.proofs.Lowest.{lowest-is}
+use Rattle.meaning.proofs.Lowest.{lowest-is, lowest-at-most-one}
 use Rattle.meaning.proofs.Scale.{scale-pos, degree-le}
 use Rattle.meaning.proofs.Value.{value-number, value-pos, number-le}
 use Rattle.meaning.proofs.Chosen.{chosen, chosen-map, chosen-number}
@@ -38,10 +38,18 @@ module _ {N : Type 0} (G : Graph N) (t : Concept) (x : N) where
   pub degree-at-most-one : degreeOf G t x .num ≤ degreeOf G t x .den
   degree-at-most-one = degree-le G (reduce t) x
 
+  -- ---- in lowest terms
+
+  pub answered-lowest : Lowest (degreeOf G t x) (answered G t x)
+  answered-lowest = lowest-is (degreeOf G t x) (scale-pos (reduce t))
+
+  pub answered-at-most-one : answered G t x .num ≤ answered G t x .den
+  answered-at-most-one = lowest-at-most-one (degreeOf G t x) (scale-pos (reduce t)) degree-at-most-one
+
   pub answered-is : IsDegree G t x (answered G t x)
   answered-is =
       let pos = scale-pos (reduce t) in
-      let e = sym (lowest-is (degreeOf G t x) pos .same) in
+      let e = sym (answered-lowest .same) in
       record {
         noMore = λ h. at-most-trans (valueOf G (reduce t) x (h .map)) (degreeOf G t x) (answered G t x) pos (degree-is .noMore h) (le-of-eq e);
         reached = let h = degree-is .reached in (h .0, same-trans (valueOf G (reduce t) x (h .0 .map)) (degreeOf G t x) (answered G t x) pos (h .1) e);

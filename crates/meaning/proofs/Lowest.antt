@@ -3,7 +3,8 @@
 use mathlib.Core.Path.{_≡_, sym, ap, ap₂, subst, _∙_}
 use mathlib.Core.Logic.{_↔_}
 use Prim.Native.Nat.{ℕ, zero, suc, _*_, _/_, _%_, _≤_, _<_, _∣_}
-use native.Mathlib.Nat.{le-refl, le-antisymm, le-of-mul-le-mul-right, not-suc-le-zero, mod-lt, zero-lt-suc, mul-comm, dvd-refl, dvd-zero, dvd-mod-iff, dvd-antisymm, dvd-mul-left, dvd-of-mul-dvd-mul-right, mul-dvd-mul-right, div-mul-cancel, le-of-dvd, le-div-iff-mul-le, pos-of-dvd-of-pos, eq-of-mul-eq-mul-right}
+use native.Mathlib.Nat.{le-refl, le-antisymm, le-of-mul-le-mul-right, not-suc-le-zero, zero-lt-suc, mul-comm, mul-le-mul-right, eq-of-mul-eq-mul-right}
+use native.Mathlib.Nat.{mod-lt, dvd-refl, dvd-zero, dvd-mod-iff, dvd-antisymm, dvd-mul-left, dvd-of-mul-dvd-mul-right, mul-dvd-mul-right, div-mul-cancel, le-of-dvd, le-div-iff-mul-le, div-le-self, pos-of-dvd-of-pos}
 use native.Mathlib.Omega.{arith}
 use lib.Dec.{T, eqb, eqb→eq}
 use Rattle.meaning.specs.Fraction.{Frac, Same, gcdIn, gcd, lowest, Lowest}
@@ -73,6 +74,15 @@ lowest-is p pos = record {
 
     de : p .den / g * g ≡ p .den
     de = div-mul-cancel g (gcd-divides (p .num) (p .den) .1)
+
+-- no greater numbers than before, and at most 1 where the fraction was
+pub lowest-le : (p : Frac) → (lowest p .num ≤ p .num) × (lowest p .den ≤ p .den)
+unfolding lowest
+lowest-le p = (div-le-self (p .num) _, div-le-self (p .den) _)
+
+pub lowest-at-most-one : (p : Frac) → 0 < p .den → p .num ≤ p .den → lowest p .num ≤ lowest p .den
+lowest-at-most-one p pos h =
+    le-of-mul-le-mul-right {k = p .den} (omega (arith, lowest-is p pos .same, mul-le-mul-right (lowest p .den) h)) pos
 
 -- ---- only one fraction is
 

@@ -2,7 +2,7 @@
 -- Assumes nothing.
 use mathlib.Core.Path.{_≡_, refl}
 use Prim.Native.Nat.{ℕ, zero, suc, _+_, _*_, _≤_, _<_, zero-le, max}
-use native.Mathlib.Nat.{le-refl, mul-pos, mul-le-mul-left, mul-le-mul-right, max-eq-right}
+use native.Mathlib.Nat.{le-refl, mul-pos, mul-le-mul-left, mul-le-mul-right}
 use native.Mathlib.Omega.{arith}
 use Rattle.meaning.specs.Names.{names}
 use Rattle.meaning.specs.Tree.{node, Forest, none, more, Concept, count}
@@ -11,6 +11,9 @@ use Rattle.meaning.specs.Reduce.{scale, scaleF}
 use Rattle.meaning.specs.Degree.{orOne, degree, degreeF}
 use Rattle.meaning.proofs.Names.{common-le}
 use Rattle.meaning.proofs.Best.{best-below}
+
+pub max-one : (n : ℕ) → max 1 (suc n) ≡ suc n
+max-one n = omega arith
 
 mutual
   unfolding scale
@@ -30,7 +33,7 @@ bare-scale (more r t f) e = absurd (omega arith)
 
 orOne-le : (n S v : ℕ) → 0 < S → v ≤ n * S → orOne n v ≤ max 1 n * S
 orOne-le zero S v p h = omega arith
-orOne-le (suc n) S v p h = rw (max-eq-right {n = 1} {m = suc n} (omega arith)) h
+orOne-le (suc n) S v p h = rw (max-one n) h
 
 module _ {N : Type 0} (G : Graph N) where
   mutual

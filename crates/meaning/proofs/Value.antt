@@ -5,7 +5,7 @@ use mathlib.Core.List.{List, [], _∷_, _++_, List·Memᴰ}
 use mathlib.Core.Option.{Option, some}
 use mathlib.Core.Option.{none as nowhere}
 use Prim.Native.Nat.{ℕ, zero, suc, _+_, _*_, _≤_, _<_, zero-le, max}
-use native.Mathlib.Nat.{le-refl, le-trans, mul-pos, mul-le-mul-left, mul-le-mul-right, add-le-add, max-eq-right, zero-lt-suc}
+use native.Mathlib.Nat.{le-refl, le-trans, mul-pos, mul-le-mul-left, mul-le-mul-right, add-le-add, zero-lt-suc}
 use native.Mathlib.Omega.{arith}
 use Rattle.meaning.specs.Names.{names, common}
 use Rattle.meaning.specs.Tree.{node, Forest, none, more, Concept, count, roleOf, roleAt, roleAtF}
@@ -16,14 +16,14 @@ use Rattle.meaning.specs.Partial.{share, PartialMap, addIf, valueOf, val
 use Rattle.meaning.specs.Degree.{orOne, best, degree, degreeF}
 use Rattle.meaning.proofs.Tests.{some-inj}
 use Rattle.meaning.proofs.Best.{best-above}
-use Rattle.meaning.proofs.Scale.{bare-scale}
+use Rattle.meaning.proofs.Scale.{max-one, bare-scale}
 
 add-same : (p q p′ q′ v s v′ s′ : ℕ) → p * s ≡ v * q → p′ * s′ ≡ v′ * q′ → (p * q′ + p′ * q) * (s * s′) ≡ (v * s′ + s * v′) * (q * q′)
 add-same p q p′ q′ v s v′ s′ e e′ = omega (arith, ap (λ (z : ℕ). z * (q′ * s′)) e, ap (λ (z : ℕ). z * (q * s)) e′)
 
 share-same : (n c S D : ℕ) (w : Frac) → Same w (D // S) → (n ≡ 0 → S ≡ 1) → Same (share n (c // 1 ⊕ w)) (orOne n (c * S + D) // (max 1 n * S))
 share-same zero c S D w e b = omega (arith, b refl)
-share-same (suc n) c S D w e b = rw (max-eq-right {n = 1} {m = suc n} (omega arith)) (omega (arith, ap (λ (z : ℕ). z * suc n) e))
+share-same (suc n) c S D w e b = rw (max-one n) (omega (arith, ap (λ (z : ℕ). z * suc n) e))
 
 share-pos : (n : ℕ) (w : Frac) → 0 < w .den → 0 < share n w .den
 share-pos zero w h = le-refl 1

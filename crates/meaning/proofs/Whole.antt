@@ -22,19 +22,13 @@ module _ {L N : Type 0} (fits : L → N → Bool) (G : Graph N) where
   unfolding meetsBy
   at-node a f x = (and-both (fits a x) (meetsByF fits G f x), λ h. both-and (fits a x) (meetsByF fits G f x) (h .0) (h .1))
 
-  -- the first successor that meets the first child, and the other children
-  pub at-more : (r : ℕ) (t : Tree L) (f : Forest L) (x : N) → T (meetsByF fits G (more r t f) x)
-      → ((y : N) × (first (λ z. meetsBy fits G t z) (G .next x r) ≡ some y) × List·Memᴰ y (G .next x r) × T (meetsBy fits G t y)) × T (meetsByF fits G f x)
-  unfolding meetsBy
-  at-more r t f x m =
-      let b = and-both (any (λ y. meetsBy fits G t y) (G .next x r)) (meetsByF fits G f x) m in
-      (first-found (λ y. meetsBy fits G t y) (G .next x r) (b .0), b .1)
+  -- a successor of x under r meets t
+  abbrev pub served : N → ℕ → Tree L → Bool
+  served x r t = any (λ y. meetsBy fits G t y) (G .next x r)
 
-  pub more-at : (r : ℕ) (t : Tree L) (f : Forest L) (x : N) {y : N} → List·Memᴰ y (G .next x r) → T (meetsBy fits G t y) → T (meetsByF fits G f x)
-      → T (meetsByF fits G (more r t f) x)
+  pub at-more : (r : ℕ) (t : Tree L) (f : Forest L) (x : N) → T (meetsByF fits G (more r t f) x) ↔ (T (served x r t) × T (meetsByF fits G f x))
   unfolding meetsBy
-  more-at r t f x l h k =
-      both-and (any (λ y. meetsBy fits G t y) (G .next x r)) (meetsByF fits G f x) (found-any (λ y. meetsBy fits G t y) l h) k
+  at-more r t f x = (and-both (served x r t) (meetsByF fits G f x), λ h. both-and (served x r t) (meetsByF fits G f x) (h .0) (h .1))
 
   -- ---- the map that is found
 
@@ -55,6 +49,11 @@ module _ {L N : Type 0} (fits : L → N → Bool) (G : Graph N) where
     firstMapF (more r t f) x zero p = orStay (first (λ y. meetsBy fits G t y) (G .next x r)) x (λ y. firstMap t y p)
     firstMapF (more r t f) x (suc k) p = firstMapF f x k p
 
+  -- where the first child goes
+  first-met : (r : ℕ) (t : Tree L) (f : Forest L) (x : N) → T (meetsByF fits G (more r t f) x)
+      → (y : N) × (first (λ z. meetsBy fits G t z) (G .next x r) ≡ some y) × List·Memᴰ y (G .next x r) × T (meetsBy fits G t y)
+  first-met r t f x m = first-found (λ y. meetsBy fits G t y) (G .next x r) (at-more r t f x .0 m .0)
+
   pub first-root : (t : Tree L) (x : N) → firstMap t x [] ≡ x
   unfolding firstMap
   first-root (node a f) x = refl
@@ -70,14 +69,14 @@ module _ {L N : Type 0} (fits : L → N → Bool) (G : Graph N) where
     first-labelsF : (f : Forest L) (x : N) → T (meetsByF fits G f x) → (k : ℕ) (p : List ℕ) (s : Tree L) → subtreeF f k p ≡ some s
         → T (fits (labelOf s) (firstMapF f x k p))
     first-labelsF none x m k p s e = absurd (not-some s e)
-    first-labelsF (more r t f) x m zero p s e = let q = at-more r t f x m .0 in rw (q .1) (first-labels t (q .0) (q .3) p s e)
-    first-labelsF (more r t f) x m (suc k) p s e = first-labelsF f x (at-more r t f x m .1) k p s e
+    first-labelsF (more r t f) x m zero p s e = let q = first-met r t f x m in rw (q .1) (first-labels t (q .0) (q .3) p s e)
+    first-labelsF (more r t f) x m (suc k) p s e = first-labelsF f x (at-more r t f x .0 m .1) k p s e
 
   first-tops : (f : Forest L) (x : N) → T (meetsByF fits G f x) → (k r : ℕ) → roleOf f k ≡ some r → List·Memᴰ (firstMapF f x k []) (G .next x r)
   unfolding firstMap roleOf
   first-tops none x m k r e = absurd (not-some r e)
-  first-tops (more s t f) x m zero r e = let q = at-more s t f x m .0 in rw (← some-inj e, q .1, first-root t (q .0)) (q .2)
-  first-tops (more s t f) x m (suc k) r e = first-tops f x (at-more s t f x m .1) k r e
+  first-tops (more s t f) x m zero r e = let q = first-met s t f x m in rw (← some-inj e, q .1, first-root t (q .0)) (q .2)
+  first-tops (more s t f) x m (suc k) r e = first-tops f x (at-more s t f x .0 m .1) k r e
 
   mutual
     unfolding firstMap roleAt
@@ -90,8 +89,8 @@ module _ {L N : Type 0} (fits : L → N → Bool) (G : Graph N) where
     first-edgesF : (f : Forest L) (x : N) → T (meetsByF fits G f x) → (j : ℕ) (p : List ℕ) (k r : ℕ) → roleAtF f j p k ≡ some r
         → List·Memᴰ (firstMapF f x j (p ++ k ∷ [])) (G .next (firstMapF f x j p) r)
     first-edgesF none x m j p k r e = absurd (not-some r e)
-    first-edgesF (more s t f) x m zero p k r e = let q = at-more s t f x m .0 in rw (q .1) (first-edges t (q .0) (q .3) p k r e)
-    first-edgesF (more s t f) x m (suc j) p k r e = first-edgesF f x (at-more s t f x m .1) j p k r e
+    first-edgesF (more s t f) x m zero p k r e = let q = first-met s t f x m in rw (q .1) (first-edges t (q .0) (q .3) p k r e)
+    first-edgesF (more s t f) x m (suc j) p k r e = first-edgesF f x (at-more s t f x .0 m .1) j p k r e
 
   abbrev pub meets-map : (t : Tree L) (x : N) → T (meetsBy fits G t x) → WholeMap fits G t x
   meets-map t x m = record { map = firstMap t x; rooted = first-root t x; labels = first-labels t x m; edges = first-edges t x m }
@@ -119,9 +118,9 @@ module _ {L N : Type 0} (fits : L → N → Bool) (G : Graph N) where
     map-meetsF : (f : Forest L) (x : N) (map : ℕ → List ℕ → N) → ChildMaps f x map → T (meetsByF fits G f x)
     map-meetsF none x map h = tt
     map-meetsF (more r t f) x map h =
-        more-at r t f x (h .tops 0 r refl)
-        (map-meets t (map 0 []) (record { map = map 0; rooted = refl; labels = h .labels 0; edges = h .edges 0 }))
-        (map-meetsF f x (λ k. map (suc k)) (record { labels = λ k. h .labels (suc k); tops = λ k. h .tops (suc k); edges = λ j. h .edges (suc j) }))
+        let first = map-meets t (map 0 []) (record { map = map 0; rooted = refl; labels = h .labels 0; edges = h .edges 0 }) in
+        let rest : ChildMaps f x (λ k. map (suc k)) = record { labels = λ k. h .labels (suc k); tops = λ k. h .tops (suc k); edges = λ j. h .edges (suc j) } in
+        at-more r t f x .1 (found-any (λ y. meetsBy fits G t y) (h .tops 0 r refl) first, map-meetsF f x _ rest)
 
   pub meets-whole : (t : Tree L) (x : N) → T (meetsBy fits G t x) ↔ WholeMap fits G t x
   meets-whole t x = (meets-map t x, map-meets t x)

@@ -12,9 +12,9 @@ use Rattle.meaning.specs.Graph.{Graph}
 use Rattle.meaning.specs.Register.{Register, judged, wellFormed}
 use Rattle.meaning.specs.Whole.{meetsBy, meetsByF, WholeMap}
 use Rattle.meaning.specs.Shown.{first, yesBy, yesByF}
-use Rattle.meaning.proofs.Tests.{holds, not-some, some-inj}
+use Rattle.meaning.proofs.Tests.{holds, first-found, not-some, some-inj}
 use Rattle.meaning.proofs.Whole.{at-node, at-more, firstMap, firstMapF, first-root, meets-map}
-use Rattle.meaning.proofs.Rising.{Earliest, here, later, LowestOf, earliest-lowest}
+use Rattle.meaning.proofs.Rising.{Earliest, here, later, earliest-holds, LowestOf, earliest-lowest}
 use Rattle.meaning.proofs.Links.{next-rises}
 use Rattle.meaning.proofs.Places.{subtree-root, along, alongF, along-places, along-length}
 
@@ -28,13 +28,22 @@ first-earliest {A} p (x ∷ l) y e = go (p x) refl e (λ d. first-earliest p l y
     go false d e k = later (λ t. subst T d t) (k e)
 
 module _ {L N : Type 0} (fits : L → N → Bool) (G : Graph N) where
-  -- the first child goes where the search says
+  -- the first successor that meets the child
+  abbrev FirstMet : Tree L → List N → N → Type 0
+  FirstMet s l y = Earliest (λ z. T (meetsBy fits G s z)) l y
+
+  first-met : (r : ℕ) (t : Tree L) (f : Forest L) (x : N) → T (meetsByF fits G (more r t f) x)
+      → (y : N) × (first (λ z. meetsBy fits G t z) (G .next x r) ≡ some y) × FirstMet t (G .next x r) y
+  first-met r t f x m =
+      let q = first-found (λ z. meetsBy fits G t z) (G .next x r) (at-more fits G r t f x .0 m .0) in
+      (q .0, q .1, first-earliest (λ z. meetsBy fits G t z) (G .next x r) (q .0) (q .1))
+
+  -- ---- it is the map that the test finds, in reading order
+
   turns : (r : ℕ) (t : Tree L) (f : Forest L) (x y : N) → first (λ z. meetsBy fits G t z) (G .next x r) ≡ some y
       → firstMapF fits G (more r t f) x 0 ≡ firstMap fits G t y
   unfolding firstMap
   turns r t f x y e = fun-ext (λ p. rw e)
-
-  -- ---- it is the map that the test finds, in reading order
 
   mutual
     unfolding yesBy firstMap along
@@ -45,24 +54,21 @@ module _ {L N : Type 0} (fits : L → N → Bool) (G : Graph N) where
     yes-alongF : (f : Forest L) (x : N) → T (meetsByF fits G f x) → yesByF fits G f x ≡ alongF f (firstMapF fits G f x)
     yes-alongF none x m = refl
     yes-alongF (more r t f) x m =
-        let q = at-more fits G r t f x m in
-        let y = q .0 .0 in
-        rw (q .0 .1) (ap₂ {C = List N} _++_ (yes-along t y (q .0 .3) ∙ ap (λ (h : List ℕ → N). along t h) (sym (turns r t f x y (q .0 .1)))) (yes-alongF f x (q .1)))
+        let q = first-met r t f x m in
+        let sub = yes-along t (q .0) (earliest-holds (q .2)) ∙ ap (λ (h : List ℕ → N). along t h) (sym (turns r t f x (q .0) (q .1))) in
+        rw (q .1) (ap₂ {C = List N} _++_ sub (yes-alongF f x (at-more fits G r t f x .0 m .1)))
 
   -- ---- where a child goes
-
-  abbrev FirstMet : Tree L → List N → N → Type 0
-  FirstMet s l y = Earliest (λ z. T (meetsBy fits G s z)) l y
 
   top : (f : Forest L) (x : N) → T (meetsByF fits G f x) → (k r : ℕ) (s : Tree L) → roleOf f k ≡ some r → subtreeF f k [] ≡ some s
       → FirstMet s (G .next x r) (firstMapF fits G f x k [])
   unfolding roleOf subtree firstMap
   top none x m k r s e d = absurd (not-some r e)
   top (more q t f) x m zero r s e d =
-      let c = at-more fits G q t f x m .0 in
+      let c = first-met q t f x m in
       let same : t ≡ s = some-inj (sym (subtree-root t) ∙ d) in
-      rw (c .1, first-root fits G t (c .0), ← some-inj e, ← same) (first-earliest (λ z. meetsBy fits G t z) (G .next x q) (c .0) (c .1))
-  top (more q t f) x m (suc k) r s e d = top f x (at-more fits G q t f x m .1) k r s e d
+      rw (c .1, first-root fits G t (c .0), ← some-inj e, ← same) (c .2)
+  top (more q t f) x m (suc k) r s e d = top f x (at-more fits G q t f x .0 m .1) k r s e d
 
   mutual
     unfolding roleAt subtree firstMap
@@ -75,8 +81,8 @@ module _ {L N : Type 0} (fits : L → N → Bool) (G : Graph N) where
     childF : (f : Forest L) (x : N) → T (meetsByF fits G f x) → (j : ℕ) (p : List ℕ) (k r : ℕ) (s : Tree L) → roleAtF f j p k ≡ some r → subtreeF f j (p ++ k ∷ []) ≡ some s
         → FirstMet s (G .next (firstMapF fits G f x j p) r) (firstMapF fits G f x j (p ++ k ∷ []))
     childF none x m j p k r s e d = absurd (not-some r e)
-    childF (more q t f) x m zero p k r s e d = let c = at-more fits G q t f x m .0 in rw (c .1) (child t (c .0) (c .3) p k r s e d)
-    childF (more q t f) x m (suc j) p k r s e d = childF f x (at-more fits G q t f x m .1) j p k r s e d
+    childF (more q t f) x m zero p k r s e d = let c = first-met q t f x m in rw (c .1) (child t (c .0) (earliest-holds (c .2)) p k r s e d)
+    childF (more q t f) x m (suc j) p k r s e d = childF f x (at-more fits G q t f x .0 m .1) j p k r s e d
 
   -- what the map shown for a yes says
   pub record YesShows (t : Tree L) (x : N) : Type 0 where
