@@ -46,10 +46,13 @@ module _ {N : Type 0} (G : Graph N) where
     shownF-out (more r t f) b o =
         go (dropped (under r (reduceF b)) (reduce t) (under r (reduceF f))) (shown-out t (goesTo G o r t)) (shownF-out f (more r t b) o)
       where
-        go : (d : Bool) → map isOut (shown G t (goesTo G o r t)) ≡ map not (kept t) → map isOut (shownF G f (more r t b) o) ≡ map not (keptF f (more r t b))
+        go : (d : Bool) → map isOut (shown G t (goesTo G o r t)) ≡ map not (kept t)
+            → map isOut (shownF G f (more r t b) o) ≡ map not (keptF f (more r t b))
             → map isOut (cond d (replicate (nodes t) out) (shown G t (goesTo G o r t)) ++ shownF G f (more r t b) o)
             ≡ map not (cond d (replicate (nodes t) false) (kept t) ++ keptF f (more r t b))
-        go true h e = map-append isOut (replicate (nodes t) out) _ ∙ ap₂ {C = List Bool} _++_ (all-out N (nodes t)) e ∙ sym (map-append not (replicate (nodes t) false) _)
+        go true h e =
+            map-append isOut (replicate (nodes t) out) _ ∙ ap₂ {C = List Bool} _++_ (all-out N (nodes t)) e
+            ∙ sym (map-append not (replicate (nodes t) false) _)
         go false h e = map-append isOut (shown G t (goesTo G o r t)) _ ∙ ap₂ {C = List Bool} _++_ h e ∙ sym (map-append not (kept t) _)
 
   pub shown-length : (t : Concept) (o : Option N) → length (shown G t o) ≡ nodes t

@@ -13,7 +13,8 @@ use native.Mathlib.Omega.{arith}
 use lib.Dec.{T, eqb, ltb, leb, eqb→eq, eqb-refl, ltb→lt}
 use lib.ListN.{length}
 use Rattle.meaning.specs.declared.Fact.the-variants.{Name as nameOn, Link as linkOf}
-use Rattle.meaning.specs.Register.{Link, Register, sameLink, anyLink, isFact, targets, judged, rises, above, allSets, linksOf, mostItems, mostLinks, wellFormed}
+use Rattle.meaning.specs.Register.{Link, Register, sameLink, anyLink, isFact, targets, judged}
+use Rattle.meaning.specs.Register.{rises, above, allSets, linksOf, mostItems, mostLinks, wellFormed}
 use Rattle.meaning.specs.Names.{has}
 use Rattle.meaning.specs.Whole.{any}
 use Rattle.meaning.proofs.Tests.{holds, and-both, both-and, or-cases, any-found, found-any}
@@ -70,6 +71,11 @@ same-link l m t =
     let s = eqb→eq (l .to) (m .to) (b .1) in
     λ d. record { from = p d; role = q d; to = s d }
 
+link-same : (l : Link) → T (sameLink l l)
+link-same l =
+    let q = both-and (eqb (l .from) (l .from)) (eqb (l .role) (l .role)) (eqb-refl (l .from)) (eqb-refl (l .role)) in
+    both-and (eqb (l .from) (l .from) && eqb (l .role) (l .role)) (eqb (l .to) (l .to)) q (eqb-refl (l .to))
+
 any-link : (p : Link → Bool) (ls : List Link) → anyLink p ls ≡ any p ls
 unfolding anyLink any
 any-link p [] = refl
@@ -79,7 +85,7 @@ pub fact-link : (g : Register) (a r b : ℕ) → T (isFact g (linkOf a r b)) ↔
 unfolding isFact
 fact-link g a r b = rw (any-link (sameLink (link a r b)) (g .links)) (
   λ t. let q = any-found (sameLink (link a r b)) (g .links) t in rw (same-link (link a r b) (q .0) (q .2)) (q .1),
-  λ m. found-any (sameLink (link a r b)) m (both-and (eqb a a && eqb r r) (eqb b b) (both-and (eqb a a) (eqb r r) (eqb-refl a) (eqb-refl r)) (eqb-refl b)),
+  λ m. found-any (sameLink (link a r b)) m (link-same (link a r b)),
 )
 
 pub fact-name : (g : Register) (i k : ℕ) → isFact g (nameOn i k) ≡ has (judged g .names i) k
@@ -143,7 +149,8 @@ unfolding targets
 targets-rise n before [] i r t = flat
 targets-rise n before (l ∷ ls) i r t = let p = rest n before l ls t in go (leaves i r l) refl (p .1) (targets-rise n (some l) ls i r (p .1))
   where
-    go : (b : Bool) → leaves i r l ≡ b → T (linksOf n (some l) ls) → Rising (targets ls i r) → Rising (cond b (l .to ∷ targets ls i r) (targets ls i r))
+    go : (b : Bool) → leaves i r l ≡ b → T (linksOf n (some l) ls) → Rising (targets ls i r)
+        → Rising (cond b (l .to ∷ targets ls i r) (targets ls i r))
     go true e t h =
         let q = leaves-link i r l (holds e) in
         up (λ y m. all-below n l ls t (link i r y) (target-link ls i r y m) .to-lt (q .0) (q .1)) h

@@ -47,4 +47,5 @@ module _ {L A : Type 0} where
 
     alongF-length : (f : Forest L) (h : ℕ → List ℕ → A) → length (alongF f h) ≡ nodesF f
     alongF-length none h = refl
-    alongF-length (more r t f) h = length-append (along t (h 0)) (alongF f (λ k. h (suc k))) ∙ ap₂ _+_ (along-length t (h 0)) (alongF-length f (λ k. h (suc k)))
+    alongF-length (more r t f) h =
+        length-append (along t (h 0)) (alongF f (λ k. h (suc k))) ∙ ap₂ _+_ (along-length t (h 0)) (alongF-length f (λ k. h (suc k)))

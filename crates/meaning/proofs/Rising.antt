@@ -23,7 +23,8 @@ pub earliest-holds : {A : Type 0} {P : A → Type 0} {l : List A} {y : A} → Ea
 earliest-holds (here h) = h
 earliest-holds (later n e) = earliest-holds e
 
-pub earliest-map : {A : Type 0} {P Q : A → Type 0} {l : List A} {y : A} → ((z : A) → P z → Q z) → ((z : A) → Q z → P z) → Earliest P l y → Earliest Q l y
+pub earliest-map : {A : Type 0} {P Q : A → Type 0} {l : List A} {y : A} → ((z : A) → P z → Q z) → ((z : A) → Q z → P z)
+    → Earliest P l y → Earliest Q l y
 earliest-map f g (here {y = y} p) = here (f y p)
 earliest-map f g (later {x = x} n e) = later (λ q. n (g x q)) (earliest-map f g e)
 

@@ -71,7 +71,8 @@ module _ {N : Type 0} (G : Graph N) where
     shown-along : (t : Concept) (o : Option N) → keptMarks (shown G t o) ≡ along (reduce t) (from (reduce t) o)
     shown-along (node a f) o = ap {B = List (Option N)} (λ z. o ∷ z) (shownF-along f none o) ∙ sym (root-first a (keep none (reduceF f)) o)
 
-    shownF-along : (f b : Forest ℕ) (o : Option N) → keptMarks (shownF G f b o) ≡ alongF (keep (reduceF b) (reduceF f)) (fromF (keep (reduceF b) (reduceF f)) o)
+    shownF-along : (f b : Forest ℕ) (o : Option N)
+        → keptMarks (shownF G f b o) ≡ alongF (keep (reduceF b) (reduceF f)) (fromF (keep (reduceF b) (reduceF f)) o)
     shownF-along none b o = refl
     shownF-along (more r t f) b o =
         go (dropped (under r (reduceF b)) (reduce t) (under r (reduceF f))) (shown-along t (goesTo G o r t)) (shownF-along f (more r t b) o)
@@ -111,13 +112,13 @@ module _ {N : Type 0} (G : Graph N) where
     child (node a f) x [] k r s z e d m = rw (← some-inj m) (top f x k r s e d)
     child (node a f) x (j ∷ p) k r s z e d m = childF f x j p k r s z e d m
 
-    childF : (f : Forest ℕ) (x : N) (j : ℕ) (p : List ℕ) (k r : ℕ) (s : Concept) (z : N) → roleAtF f j p k ≡ some r → subtreeF f j (p ++ k ∷ []) ≡ some s
-        → chosenF G f x j p ≡ some z → Best s z r (chosenF G f x j (p ++ k ∷ []))
+    childF : (f : Forest ℕ) (x : N) (j : ℕ) (p : List ℕ) (k r : ℕ) (s : Concept) (z : N) → roleAtF f j p k ≡ some r
+        → subtreeF f j (p ++ k ∷ []) ≡ some s → chosenF G f x j p ≡ some z → Best s z r (chosenF G f x j (p ++ k ∷ []))
     childF none x j p k r s z e d m = absurd (not-some r e)
     childF (more q t f) x zero p k r s z e d m = go (pick (λ y. degree G t y) (G .next x q)) (λ y n. child t y p k r s z e d n) m
       where
-        go : (o : Option N) → ((y : N) → chosen G t y p ≡ some z → Best s z r (chosen G t y (p ++ k ∷ []))) → onward G o (λ y. chosen G t y p) ≡ some z
-            → Best s z r (onward G o (λ y. chosen G t y (p ++ k ∷ [])))
+        go : (o : Option N) → ((y : N) → chosen G t y p ≡ some z → Best s z r (chosen G t y (p ++ k ∷ [])))
+            → onward G o (λ y. chosen G t y p) ≡ some z → Best s z r (onward G o (λ y. chosen G t y (p ++ k ∷ [])))
         go nowhere h m = absurd (not-some z m)
         go (some y) h m = h y m
     childF (more q t f) x (suc j) p k r s z e d m = childF f x j p k r s z e d m
@@ -143,7 +144,8 @@ module _ {N : Type 0} (G : Graph N) where
   }
 
 -- in a well-formed register that is the lowest-numbered of the successors of greatest degree
-pub degree-lowest : (g : Register) → T (wellFormed g) → (t : Concept) (x : ℕ) (h : Shows (judged g) t x) (p : List ℕ) (k r : ℕ) (s : Concept) (z y : ℕ)
-    → roleAt (reduce t) p k ≡ some r → subtree (reduce t) (p ++ k ∷ []) ≡ some s → h .partial .map p ≡ some z → h .partial .map (p ++ k ∷ []) ≡ some y
+pub degree-lowest : (g : Register) → T (wellFormed g) → (t : Concept) (x : ℕ) (h : Shows (judged g) t x)
+    (p : List ℕ) (k r : ℕ) (s : Concept) (z y : ℕ) → roleAt (reduce t) p k ≡ some r → subtree (reduce t) (p ++ k ∷ []) ≡ some s
+    → h .partial .map p ≡ some z → h .partial .map (p ++ k ∷ []) ≡ some y
     → LowestOf (Greatest (λ w. degree (judged g) s w) (judged g .next z r)) (judged g .next z r) y
 degree-lowest g w t x h p k r s z y e d m n = earliest-lowest (next-rises g z r w) (picked-first (rw n at (h .picked p k r s z e d m)))

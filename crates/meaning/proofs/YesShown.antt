@@ -23,7 +23,8 @@ unfolding first
 first-earliest p [] y e = absurd (not-some y e)
 first-earliest {A} p (x ∷ l) y e = go (p x) refl e (λ d. first-earliest p l y d)
   where
-    go : (b : Bool) → p x ≡ b → cond b (some x) (first p l) ≡ some y → (first p l ≡ some y → Earliest (λ z. T (p z)) l y) → Earliest (λ z. T (p z)) (x ∷ l) y
+    go : (b : Bool) → p x ≡ b → cond b (some x) (first p l) ≡ some y → (first p l ≡ some y → Earliest (λ z. T (p z)) l y)
+        → Earliest (λ z. T (p z)) (x ∷ l) y
     go true d e k = rw (← some-inj e) (here (holds d))
     go false d e k = later (λ t. subst T d t) (k e)
 
@@ -73,13 +74,13 @@ module _ {L N : Type 0} (fits : L → N → Bool) (G : Graph N) where
   mutual
     unfolding roleAt subtree firstMap
 
-    child : (t : Tree L) (x : N) → T (meetsBy fits G t x) → (p : List ℕ) (k r : ℕ) (s : Tree L) → roleAt t p k ≡ some r → subtree t (p ++ k ∷ []) ≡ some s
-        → FirstMet s (G .next (firstMap fits G t x p) r) (firstMap fits G t x (p ++ k ∷ []))
+    child : (t : Tree L) (x : N) → T (meetsBy fits G t x) → (p : List ℕ) (k r : ℕ) (s : Tree L) → roleAt t p k ≡ some r
+        → subtree t (p ++ k ∷ []) ≡ some s → FirstMet s (G .next (firstMap fits G t x p) r) (firstMap fits G t x (p ++ k ∷ []))
     child (node a f) x m [] k r s e d = top f x (at-node fits G a f x .0 m .1) k r s e d
     child (node a f) x m (j ∷ p) k r s e d = childF f x (at-node fits G a f x .0 m .1) j p k r s e d
 
-    childF : (f : Forest L) (x : N) → T (meetsByF fits G f x) → (j : ℕ) (p : List ℕ) (k r : ℕ) (s : Tree L) → roleAtF f j p k ≡ some r → subtreeF f j (p ++ k ∷ []) ≡ some s
-        → FirstMet s (G .next (firstMapF fits G f x j p) r) (firstMapF fits G f x j (p ++ k ∷ []))
+    childF : (f : Forest L) (x : N) → T (meetsByF fits G f x) → (j : ℕ) (p : List ℕ) (k r : ℕ) (s : Tree L) → roleAtF f j p k ≡ some r
+        → subtreeF f j (p ++ k ∷ []) ≡ some s → FirstMet s (G .next (firstMapF fits G f x j p) r) (firstMapF fits G f x j (p ++ k ∷ []))
     childF none x m j p k r s e d = absurd (not-some r e)
     childF (more q t f) x m zero p k r s e d = let c = first-met q t f x m in rw (c .1) (child t (c .0) (earliest-holds (c .2)) p k r s e d)
     childF (more q t f) x m (suc j) p k r s e d = childF f x (at-more fits G q t f x .0 m .1) j p k r s e d
