@@ -1,7 +1,45 @@
+-- Laws that the others use
 pub mod Tests
+pub mod Names
+pub mod Rising
+
+-- Reading and writing
 pub mod Reading
 pub mod Head
 pub mod Image
+
+-- Whole maps, subsumption and the reduced form
+pub mod Whole
+pub mod Under
+pub mod Subsumes
+pub mod Keep
+pub mod Reduced
+pub mod Apart
+
+-- The degree
+pub mod Best
+pub mod Fraction
+pub mod Lowest
+pub mod Scale
+pub mod Value
+pub mod Chosen
+pub mod Degree
+pub mod Bound
+pub mod Margin
+pub mod One
+pub mod Written
+pub mod InPlace
+
+-- Registers as graphs, membership, and the maps shown
+pub mod Links
+pub mod Member
+pub mod Places
+pub mod Picked
+pub mod Kept
+pub mod Shown
+pub mod YesShown
+
+-- Examples
 pub mod Sheet
-pub mod Slips
 pub mod Orders
+pub mod Slips

@@ -2,19 +2,23 @@
 -- Assumes nothing.
 use mathlib.Core.Path.{_≡_, refl, sym, subst, _∙_}
 use mathlib.Core.Logic.{_⊎_, inl, inr}
-use mathlib.Core.Bool.{Bool, true, false, _&&_, _||_, not}
+use mathlib.Core.Bool.{Bool, true, false, _&&_, _||_, not, cond}
 use mathlib.Core.List.{List, [], _∷_, List·Memᴰ, List·Memᴰ·head, List·Memᴰ·tail}
 use mathlib.Core.Option.{Option, some}
 use mathlib.Core.Option.{none as nowhere}
 use Prim.Native.Nat.{ℕ}
 use native.Mathlib.Omega.{arith}
-use lib.Dec.{T}
+use lib.Dec.{T, eqb, eqb-refl}
 use Rattle.meaning.specs.Whole.{any}
+use Rattle.meaning.specs.Shown.{first}
 
 -- ---- true and false
 
 pub holds : {b : Bool} → b ≡ true → T b
 holds e = subst T (sym e) tt
+
+pub fails : {b : Bool} → b ≡ false → T (not b)
+fails e = subst (λ (b : Bool). T (not b)) (sym e) tt
 
 pub is-true : (b : Bool) → T b → b ≡ true
 is-true true t = refl
@@ -36,6 +40,9 @@ bool-eq true true f g = refl
 bool-eq true false f g = absurd (f tt)
 bool-eq false true f g = absurd (g tt)
 bool-eq false false f g = refl
+
+pub is-eqb : {m n : ℕ} → m ≡ n → T (eqb m n)
+is-eqb {n} e = rw e (eqb-refl n)
 
 -- ---- and, or
 
@@ -68,14 +75,19 @@ neither-of false b e = (refl, e)
 
 -- ---- a search through a list
 
-pub any-found : {A : Type 0} (p : A → Bool) (xs : List A) → T (any p xs) → (y : A) × List·Memᴰ y xs × T (p y)
-unfolding any
-any-found p [] t = absurd t
-any-found {A} p (x ∷ xs) t = go (p x) refl t (λ u. any-found p xs u)
+-- the first hit of a search that succeeds
+pub first-found : {A : Type 0} (p : A → Bool) (xs : List A) → T (any p xs) → (y : A) × (first p xs ≡ some y) × List·Memᴰ y xs × T (p y)
+unfolding any first
+first-found p [] t = absurd t
+first-found {A} p (x ∷ xs) t = go (p x) refl t (λ u. first-found p xs u)
   where
-    go : (b : Bool) → p x ≡ b → T (b || any p xs) → (T (any p xs) → (y : A) × List·Memᴰ y xs × T (p y)) → (y : A) × List·Memᴰ y (x ∷ xs) × T (p y)
-    go true e t k = (x, List·Memᴰ·head refl, holds e)
-    go false e t k = let q = k t in (q .0, List·Memᴰ·tail (q .1), q .2)
+    go : (b : Bool) → p x ≡ b → T (b || any p xs) → (T (any p xs) → (y : A) × (first p xs ≡ some y) × List·Memᴰ y xs × T (p y))
+        → (y : A) × (cond b (some x) (first p xs) ≡ some y) × List·Memᴰ y (x ∷ xs) × T (p y)
+    go true e t k = (x, refl, List·Memᴰ·head refl, holds e)
+    go false e t k = let q = k t in (q .0, q .1, List·Memᴰ·tail (q .2), q .3)
+
+pub any-found : {A : Type 0} (p : A → Bool) (xs : List A) → T (any p xs) → (y : A) × List·Memᴰ y xs × T (p y)
+any-found p xs t = let q = first-found p xs t in (q .0, q .2, q .3)
 
 pub found-any : {A : Type 0} (p : A → Bool) {y : A} {xs : List A} → List·Memᴰ y xs → T (p y) → T (any p xs)
 unfolding any
