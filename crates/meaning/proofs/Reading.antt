@@ -8,9 +8,9 @@ use native.Mathlib.Nat.{div-lt-iff-lt-mul, add-zero, zero-add, add-assoc, pow-su
 use native.Mathlib.Decide.{decLt}
 use native.Mathlib.Omega.{arith}
 use lib.Dec.{lit≤, T, ltb, ltb→lt, nltb→le, leb, eqb}
-use lib.ListN.{length, getD, length-append}
+use lib.ListN.{length, getD, take, drop, length-append, length-take, length-drop}
 use lib.ListN.{List·getD-append as getD-append}
-use lib.Seq.{getD-append-add, getD-append-seam, ext-getD}
+use lib.Seq.{getD-append-add, getD-append-seam, getD-take, getD-drop, ext-getD}
 use Rattle.meaning.specs.declared.Side.{Side}
 use Rattle.meaning.specs.declared.Refusal.{Refusal}
 use Rattle.meaning.specs.Refusal.{Answer, good, refused, at, refuseIf, _>>=_, _>>_}
@@ -67,18 +67,18 @@ le-of-not-below m n e = nltb→le m n (subst (λ (b : Bool). T (not b)) (sym e) 
 
 -- ---- fields
 
-pub total : List ℕ → ℕ
+abbrev pub total : List ℕ → ℕ
 total [] = 0
 total (w ∷ ws) = w + total ws
 
 -- fields that fit are passed, and of a good answer the fields before it fitted
 pub fields-fit : (side : Side) (end : ℕ) (ws : List ℕ) (p : ℕ) → p + total ws ≤ end → fields side end ws p ≡ good tt
-unfolding fields total
+unfolding fields
 fields-fit side end [] p h = refl
 fields-fit side end (w ∷ ws) p h = pass (ltb end (p + w)) _ _ (not-below end (p + w) (omega arith)) ∙ fields-fit side end ws (p + w) (omega arith)
 
 fields-end : (side : Side) (end : ℕ) (ws : List ℕ) (p : ℕ) {u : Unit {0}} → p ≤ end → fields side end ws p ≡ good u → p + total ws ≤ end
-unfolding fields total
+unfolding fields
 fields-end side end [] p h e = omega arith
 fields-end side end (w ∷ ws) p h e =
     let q = passed (ltb end (p + w)) _ _ e in
@@ -87,7 +87,7 @@ fields-end side end (w ∷ ws) p h e =
 
 pub fields-fitted : {B : Type 0} (side : Side) (end w : ℕ) (ws : List ℕ) (p : ℕ) (k : Answer B) {a : B}
     → (fields side end (w ∷ ws) p >> k) ≡ good a → (p + total (w ∷ ws) ≤ end) × (k ≡ good a)
-unfolding fields total
+unfolding fields
 fields-fitted side end w ws p k e =
     let q = gone (fields side end (w ∷ ws) p) k e in
     let h = passed (ltb end (p + w)) _ _ (q .0) in
@@ -171,3 +171,55 @@ pub number-below : (s : List ℕ) (p w : ℕ) → Bytes s → number s p w < 256
 unfolding number
 number-below s p zero h = omega arith
 number-below s p (suc w) h = rw (pow-suc 256 w) (omega (arith, number-below s p w h, h (p + w)))
+
+-- ---- parts of what stands, at places that are given
+
+pub stands-none : (s : List ℕ) (p : ℕ) → Stands s p []
+unfolding Stands
+stands-none s p i l = absurd (omega arith)
+
+pub stands-split : (s : List ℕ) (p q : ℕ) (xs ys : List ℕ) → Stands s p (xs ++ ys) → p + length xs ≡ q → Stands s p xs × Stands s q ys
+stands-split s p q xs ys h e = (stands-left s p xs ys h, rw e at (stands-right s p xs ys h))
+
+pub stands-join : (s : List ℕ) (p q : ℕ) (xs ys : List ℕ) → Stands s p xs → Stands s q ys → p + length xs ≡ q → Stands s p (xs ++ ys)
+stands-join s p q xs ys h k e = stands-both s p xs ys h (rw e k)
+
+-- a single byte
+pub byte-of : (s : List ℕ) (p x : ℕ) → Stands s p (x ∷ []) → number s p 1 ≡ x
+unfolding number Stands
+byte-of s p x h = omega (arith, h 0 (omega arith))
+
+pub byte-stands : (s : List ℕ) (p x : ℕ) → number s p 1 ≡ x → Stands s p (x ∷ [])
+unfolding number Stands
+byte-stands s p x e zero l = omega arith
+byte-stands s p x e (suc i) l = absurd (omega arith)
+
+-- what stands is that part of the list
+pub stands-taken : (s : List ℕ) (p : ℕ) (xs : List ℕ) → Stands s p xs → p + length xs ≤ length s → take (length xs) (drop p s) ≡ xs
+unfolding Stands
+stands-taken s p xs h l =
+    let e : length (take (length xs) (drop p s)) ≡ length xs = simp (length-take, length-drop) (omega arith) in
+    ext-getD 0 _ xs e (λ i b. getD-take (length xs) (drop p s) i 0 (omega arith) ∙ getD-drop p s i 0 ∙ h i (omega arith))
+
+-- ---- a step that is passed, and then the rest
+
+pub then-test : {B : Type 0} (b : Bool) (r : Refusal) (k : Answer B) {c : Answer B} → b ≡ false → k ≡ c → (refuseIf b r >> k) ≡ c
+then-test b r k e f = pass b r k e ∙ f
+
+pub then-take : {A B : Type 0} (e : Answer A) (k : A → Answer B) (a : A) {c : Answer B} → e ≡ good a → k a ≡ c → (e >>= k) ≡ c
+then-take e k a p f = took e k a p ∙ f
+
+pub then-fit : {B : Type 0} (side : Side) (end : ℕ) (ws : List ℕ) (p : ℕ) (k : Answer B) {c : Answer B}
+    → p + total ws ≤ end → k ≡ c → (fields side end ws p >> k) ≡ c
+then-fit side end ws p k h f = fitted side end ws p k h ∙ f
+
+-- of a good answer each step was passed: what follows from that
+pub of-test : {B C : Type 0} (b : Bool) (r : Refusal) (k : Answer B) {a : B} → (refuseIf b r >> k) ≡ good a → (b ≡ false → k ≡ good a → C) → C
+of-test b r k e f = let q = passed b r k e in f (q .0) (q .1)
+
+pub of-take : {A B C : Type 0} (e : Answer A) (k : A → Answer B) {b : B} → (e >>= k) ≡ good b → ((a : A) → e ≡ good a → k a ≡ good b → C) → C
+of-take e k p f = let q = taken e k p in f (q .0) (q .1) (q .2)
+
+pub of-fit : {B C : Type 0} (side : Side) (end w : ℕ) (ws : List ℕ) (p : ℕ) (k : Answer B) {a : B}
+    → (fields side end (w ∷ ws) p >> k) ≡ good a → (p + total (w ∷ ws) ≤ end → k ≡ good a → C) → C
+of-fit side end w ws p k e f = let q = fields-fitted side end w ws p k e in f (q .0) (q .1)

@@ -1,0 +1,268 @@
+-- The nodes of a message, for labels of any kind. Reading a node from a spot gives the tree t exactly when t is allowed there and its bytes stand there,
+-- and then ends past them: `node-read` and `node-back`, for a label reader that is such (`label-read`, `label-back`).
+-- Assumes nothing.
+use mathlib.Core.Path.{_≡_, refl, sym, ap, _∙_, subst}
+use mathlib.Core.Bool.{Bool, true, false, _&&_}
+use mathlib.Core.List.{List, [], _∷_, _++_, append-assoc, append-nil}
+use Prim.Native.Nat.{ℕ, zero, suc, _+_, _*_, _≤_, _<_, max}
+use native.Mathlib.Nat.{add-zero, add-assoc}
+use native.Mathlib.Omega.{arith}
+use lib.Dec.{T, ltb, leb, leb→le, le→leb}
+use lib.ListN.{length, length-append}
+use Rattle.meaning.specs.declared.Side.the-variants.{Requirement as requirement}
+use Rattle.meaning.specs.Refusal.{Answer, good, refused, at, refuseIf, _>>=_, _>>_}
+use Rattle.meaning.specs.Bytes.{number, bytes, Bytes, fields}
+use Rattle.meaning.specs.Tree.{Tree, node, Forest, none, more, count, nodes, nodesF, levels, levelsF, each, eachF}
+use Rattle.meaning.specs.Message.{mostNodes, mostThresholds, nodeBytes, childrenBytes, Part, Spot, entered, readNode, readChildren}
+use Rattle.meaning.specs.Message.{passed as onward}
+use Rattle.meaning.proofs.Tests.{and-both, both-and}
+use Rattle.meaning.proofs.Reading.{
+  not-good, good-inj, then-test, then-take, then-fit, of-test, of-take, of-fit, not-below, le-of-not-below, total, fields-fitted, Stands, stands-none, stands-split, stands-join,
+  bytes-length, byte-of, byte-stands,
+}
+
+-- what a kind of label is: which are allowed, its names, how many thresholds, their bytes, and where these stand from a place on, at a written node
+pub record Kind (L : Type 0) : Type 0 where
+  pub ok : L → Bool
+  pub namesOf : L → ℕ
+  pub howMany : L → ℕ
+  pub own : L → List ℕ
+  pub found : L → ℕ → ℕ → List Part
+
+-- a spot that reading may come to
+pub record Within (end : ℕ) (w : Spot) : Type 0 where
+  pub reached : w .next ≤ end
+  pub few : w .nodes ≤ mostNodes
+  pub room : length (w .parts) ≤ mostThresholds
+
+same-spot : (v w : Spot) → v .next ≡ w .next → v .nodes ≡ w .nodes → v .parts ≡ w .parts → v ≡ w
+same-spot v w e f g = λ i. record { next = e i; nodes = f i; parts = g i }
+
+module _ {L : Type 0} (K : Kind L) where
+  abbrev pub treeBytes : Tree L → List ℕ
+  treeBytes = nodeBytes (K .namesOf) (K .howMany) (K .own)
+
+  abbrev pub forestBytes : Forest L → List ℕ
+  forestBytes = childrenBytes (K .namesOf) (K .howMany) (K .own)
+
+  -- a node's 10 bytes of fixed fields
+  abbrev fixed : L → ℕ → List ℕ
+  fixed a n = bytes 8 (K .namesOf a) ++ (K .howMany a ∷ n ∷ [])
+
+  -- ---- where the thresholds of a tree stand whose root is the k-th written node and stands at place p
+
+  unfoldable mutual
+    pub partsOf : Tree L → ℕ → ℕ → List Part
+    partsOf (node a f) k p = K .found a k (p + 10) ++ partsOfF f (suc k) (p + 10 + length (K .own a))
+
+    pub partsOfF : Forest L → ℕ → ℕ → List Part
+    partsOfF none k p = []
+    partsOfF (more r t f) k p = partsOf t k (p + 1) ++ partsOfF f (k + nodes t) (p + 1 + length (treeBytes t))
+
+  -- ---- the spot past a label, a tree, a forest
+
+  abbrev pub pastLabel : L → Spot → Spot
+  pastLabel a w =
+      record { next = w .next + 10 + length (K .own a); nodes = suc (w .nodes); parts = w .parts ++ K .found a (w .nodes) (w .next + 10) }
+
+  abbrev pub past : Tree L → Spot → Spot
+  past t w = record { next = w .next + length (treeBytes t); nodes = w .nodes + nodes t; parts = w .parts ++ partsOf t (w .nodes) (w .next) }
+
+  abbrev pub pastF : Forest L → Spot → Spot
+  pastF f w = record { next = w .next + length (forestBytes f); nodes = w .nodes + nodesF f; parts = w .parts ++ partsOfF f (w .nodes) (w .next) }
+
+  node-length : (a : L) (f : Forest L) → length (treeBytes (node a f)) ≡ 10 + length (K .own a) + length (forestBytes f)
+  unfolding nodeBytes
+  node-length a f = omega (arith, length-append (K .own a) (forestBytes f))
+
+  past-none : (w : Spot) → pastF none w ≡ w
+  unfolding nodeBytes partsOf nodes
+  past-none w = same-spot _ w (add-zero (w .next)) (add-zero (w .nodes)) (append-nil (w .parts))
+
+  past-node : (a : L) (f : Forest L) (w : Spot) → pastF f (pastLabel a w) ≡ past (node a f) w
+  unfolding partsOf nodes
+  past-node a f w = same-spot _ _ (omega (arith, node-length a f)) (omega arith) (append-assoc (w .parts) _ _)
+
+  past-more : (r : ℕ) (t : Tree L) (f : Forest L) (w : Spot) → pastF f (past t (onward 1 w)) ≡ pastF (more r t f) w
+  unfolding nodeBytes partsOf nodes
+  past-more r t f w =
+      same-spot _ _ (omega (arith, length-append (treeBytes t) (forestBytes f))) (add-assoc (w .nodes) _ _) (append-assoc (w .parts) _ _)
+
+  -- ---- what stands at a spot of s before the end
+
+  module _ (s : List ℕ) (end : ℕ) where
+    pub record LabelAt (a : L) (w : Spot) : Type 0 where
+      pub allowed : T (K .ok a)
+      pub names : Stands s (w .next) (bytes 8 (K .namesOf a))
+      pub many : number s (w .next + 8) 1 ≡ K .howMany a
+      pub rest : Stands s (w .next + 10) (K .own a)
+      pub fits : Within end (pastLabel a w)
+
+    pub record TreeAt (left : ℕ) (t : Tree L) (w : Spot) : Type 0 where
+      pub allowed : T (each (K .ok) t)
+      pub shallow : levels t ≤ left
+      pub stands : Stands s (w .next) (treeBytes t)
+      pub fits : Within end (past t w)
+
+    pub record ForestAt (left : ℕ) (f : Forest L) (w : Spot) : Type 0 where
+      pub allowed : T (eachF (K .ok) f)
+      pub shallow : levelsF f ≤ left
+      pub stands : Stands s (w .next) (forestBytes f)
+      pub fits : Within end (pastF f w)
+
+    -- a node is its label, the count of its children, and they
+    record NodeAt (left : ℕ) (a : L) (f : Forest L) (w : Spot) : Type 0 where
+      label : LabelAt a w
+      counted : number s (w .next + 9) 1 ≡ count f
+      below : ForestAt left f (pastLabel a w)
+
+    record MoreAt (left r : ℕ) (t : Tree L) (f : Forest L) (w : Spot) : Type 0 where
+      low : r ≤ 31
+      role : number s (w .next) 1 ≡ r
+      child : TreeAt left t (onward 1 w)
+      others : ForestAt left f (past t (onward 1 w))
+
+    before : (f : Forest L) (w : Spot) → Within end (pastF f w) → Within end w
+    before f w h = record { reached = omega arith; few = omega arith; room = omega (arith, length-append (w .parts) (partsOfF f (w .nodes) (w .next))) }
+
+    node-open : (left : ℕ) (a : L) (f : Forest L) (w : Spot) → TreeAt (suc left) (node a f) w → NodeAt left a f w
+    unfolding each levels nodeBytes
+    node-open left a f w h =
+        let p = w .next in
+        let k = and-both (K .ok a) (eachF (K .ok) f) (h .allowed) in
+        let l = subst (Within end) (sym (past-node a f w)) (h .fits) in
+        let below : levelsF f ≤ left = omega (arith, h .shallow) in
+        let three = stands-split s p (p + 10 + length (K .own a)) (fixed a (count f) ++ K .own a) (forestBytes f) (h .stands) (omega arith) in
+        let two = stands-split s p (p + 10) _ (K .own a) (three .0) refl in
+        let one = stands-split s p (p + 8) (bytes 8 (K .namesOf a)) _ (two .0) refl in
+        let both = stands-split s (p + 8) (p + 9) (K .howMany a ∷ []) (count f ∷ []) (one .1) (omega arith) in
+        record {
+          label = record {
+            allowed = k .0;
+            names = one .0;
+            many = byte-of s (p + 8) _ (both .0);
+            rest = two .1;
+            fits = before f (pastLabel a w) l;
+          };
+          counted = byte-of s (p + 9) _ (both .1);
+          below = record { allowed = k .1; shallow = below; stands = three .1; fits = l };
+        }
+
+    node-close : (left : ℕ) (a : L) (f : Forest L) (w : Spot) → NodeAt left a f w → TreeAt (suc left) (node a f) w
+    unfolding each levels nodeBytes
+    node-close left a f w h =
+        let p = w .next in
+        let at8 = byte-stands s (p + 8) _ (h .label .many) in
+        let at9 = byte-stands s (p + 9) _ (h .counted) in
+        let both = stands-join s (p + 8) (p + 9) (K .howMany a ∷ []) (count f ∷ []) at8 at9 (omega arith) in
+        let one = stands-join s p (p + 8) (bytes 8 (K .namesOf a)) _ (h .label .names) both refl in
+        let two = stands-join s p (p + 10) _ (K .own a) one (h .label .rest) refl in
+        record {
+          allowed = both-and (K .ok a) (eachF (K .ok) f) (h .label .allowed) (h .below .allowed);
+          shallow = omega (arith, h .below .shallow);
+          stands = stands-join s p (p + 10 + length (K .own a)) _ (forestBytes f) two (h .below .stands) (omega arith);
+          fits = subst (Within end) (past-node a f w) (h .below .fits);
+        }
+
+    more-open : (left r : ℕ) (t : Tree L) (f : Forest L) (w : Spot) → ForestAt left (more r t f) w → MoreAt left r t f w
+    unfolding each levels nodeBytes
+    more-open left r t f w h =
+        let p = w .next in
+        let k = and-both (leb r 31 && each (K .ok) t) (eachF (K .ok) f) (h .allowed) in
+        let j = and-both (leb r 31) (each (K .ok) t) (k .0) in
+        let l = subst (Within end) (sym (past-more r t f w)) (h .fits) in
+        let deep : max (levels t) (levelsF f) ≤ left = h .shallow in
+        let two = stands-split s p (p + 1 + length (treeBytes t)) (r ∷ treeBytes t) (forestBytes f) (h .stands) (omega arith) in
+        let one = stands-split s p (p + 1) (r ∷ []) (treeBytes t) (two .0) refl in
+        record {
+          low = leb→le r 31 (j .0);
+          role = byte-of s p r (one .0);
+          child = record { allowed = j .1; shallow = omega arith; stands = one .1; fits = before f (past t (onward 1 w)) l };
+          others = record { allowed = k .1; shallow = omega arith; stands = two .1; fits = l };
+        }
+
+    more-close : (left r : ℕ) (t : Tree L) (f : Forest L) (w : Spot) → MoreAt left r t f w → ForestAt left (more r t f) w
+    unfolding each levels nodeBytes
+    more-close left r t f w h =
+        let p = w .next in
+        let one = stands-join s p (p + 1) (r ∷ []) (treeBytes t) (byte-stands s p r (h .role)) (h .child .stands) refl in
+        let here = both-and (leb r 31) (each (K .ok) t) (le→leb r 31 (h .low)) (h .child .allowed) in
+        record {
+          allowed = both-and (leb r 31 && each (K .ok) t) (eachF (K .ok) f) here (h .others .allowed);
+          shallow = omega (arith, h .child .shallow, h .others .shallow);
+          stands = stands-join s p (p + 1 + length (treeBytes t)) _ (forestBytes f) one (h .others .stands) (omega arith);
+          fits = subst (Within end) (past-more r t f w) (h .others .fits);
+        }
+
+    none-at : (left : ℕ) (w : Spot) → Within end w → ForestAt left none w
+    unfolding each levels nodeBytes
+    none-at left w h =
+        record { allowed = tt; shallow = omega arith; stands = stands-none s (w .next); fits = subst (Within end) (sym (past-none w)) h }
+
+    -- ---- reading
+
+    module _ (label : Spot → Answer (L × Spot)) where
+      module _ (label-read : (a : L) (w : Spot) → LabelAt a w → label w ≡ good (a, pastLabel a w)) where
+        children-read : (left : ℕ) (child : Spot → Answer (Tree L × Spot))
+            → ((t : Tree L) (w : Spot) → TreeAt left t w → child w ≡ good (t, past t w))
+            → (f : Forest L) (w : Spot) → ForestAt left f w → readChildren label s end child (count f) w ≡ good (f, pastF f w)
+        unfolding readChildren count
+        children-read left child reads none w h = ap (λ (v : Spot). good (none, v)) (sym (past-none w))
+        children-read left child reads (more r t f) w h =
+            let c = more-open left r t f w h in
+            let v = past t (onward 1 w) in
+            let e = reads t (onward 1 w) (c .child) in
+            let g = children-read left child reads f v (c .others) in
+            let k : w .next + 1 ≤ end = omega (arith, c .child .fits .reached) in
+            let l : ltb 31 (number s (w .next) 1) ≡ false = rw (c .role) (not-below 31 r (c .low)) in
+            let n : count (more r t f) ≡ suc (count f) = omega arith in
+            ap (λ (n : ℕ). readChildren label s end child n w) n
+                ∙ then-fit _ _ _ _ _ k (then-test _ _ _ l (then-take _ _ (t, v) e (then-take _ _ (f, pastF f v) g (rw (c .role, past-more r t f w)))))
+
+        pub node-read : (left : ℕ) (t : Tree L) (w : Spot) → TreeAt left t w → readNode label s end left w ≡ good (t, past t w)
+        unfolding readNode levels
+        node-read zero (node a f) w h = absurd (omega (arith, h .shallow))
+        node-read (suc left) (node a f) w h =
+            let c = node-open left a f w h in
+            let e = label-read a w (c .label) in
+            let g = children-read left (λ z. readNode label s end left z) (λ t z. node-read left t z) f (pastLabel a w) (c .below) in
+            let k : w .next + 10 ≤ end = omega (arith, c .label .fits .reached) in
+            let l : leb mostNodes (w .nodes) ≡ false = not-below 63 (w .nodes) (omega (arith, c .label .fits .few)) in
+            then-fit _ _ _ _ _ k (then-test _ _ _ l (then-take _ _ (a, pastLabel a w) e
+            (then-take _ _ (f, pastF f (pastLabel a w)) (rw (c .counted) g) (ap (λ (v : Spot). good (node a f, v)) (past-node a f w)))))
+
+      -- ---- and back
+
+      module _ (label-back : (w : Spot) (r : L × Spot) → Within end (entered w) → label w ≡ good r → LabelAt (r .0) w × (r .1 ≡ pastLabel (r .0) w)) where
+        children-back : (left : ℕ) (child : Spot → Answer (Tree L × Spot))
+            → ((w : Spot) (r : Tree L × Spot) → Within end w → child w ≡ good r → TreeAt left (r .0) w × (r .1 ≡ past (r .0) w))
+            → (k : ℕ) (w : Spot) (r : Forest L × Spot) → Within end w → readChildren label s end child k w ≡ good r
+            → ForestAt left (r .0) w × (k ≡ count (r .0)) × (r .1 ≡ pastF (r .0) w)
+        unfolding readChildren count
+        children-back left child back zero w r h e =
+            subst (λ (z : Forest L × Spot). ForestAt left (z .0) w × (0 ≡ count (z .0)) × (z .1 ≡ pastF (z .0) w)) (good-inj e) (none-at left w h, refl, sym (past-none w))
+        children-back left child back (suc k) w r h e =
+            of-fit _ _ _ _ _ _ e (λ l e₁. of-test _ _ _ e₁ (λ b e₂. of-take _ _ e₂ (λ x ex e₃. of-take _ _ e₃ (λ y ey e₄.
+            let c = back (onward 1 w) x (record { reached = l; few = h .few; room = h .room }) ex in
+            let v = past (x .0) (onward 1 w) in
+            let g = children-back left child back k v y (c .0 .fits) (subst (λ (z : Spot). readChildren label s end child k z ≡ good y) (c .1) ey) in
+            let n = number s (w .next) 1 in
+            let m = more-close left n (x .0) (y .0) w (record { low = le-of-not-below 31 n b; role = refl; child = c .0; others = g .0 }) in
+            subst (λ (z : Forest L × Spot). ForestAt left (z .0) w × (suc k ≡ count (z .0)) × (z .1 ≡ pastF (z .0) w)) (good-inj e₄)
+                (m, omega (arith, g .1), g .2 ∙ past-more n (x .0) (y .0) w)))))
+
+        pub node-back : (left : ℕ) (w : Spot) (r : Tree L × Spot) → Within end w → readNode label s end left w ≡ good r
+            → TreeAt left (r .0) w × (r .1 ≡ past (r .0) w)
+        unfolding readNode levels
+        node-back zero w r h e = absurd (not-good (fields-fitted requirement end 8 (1 ∷ 1 ∷ []) (w .next) _ e .1))
+        node-back (suc left) w r h e =
+            of-fit _ _ _ _ _ _ e (λ l e₁. of-test _ _ _ e₁ (λ b e₂. of-take _ _ e₂ (λ x ex e₃. of-take _ _ e₃ (λ y ey e₄.
+            let few : suc (w .nodes) ≤ mostNodes = omega (arith, le-of-not-below 63 (w .nodes) b) in
+            let c = label-back w x (record { reached = l; few = few; room = h .room }) ex in
+            let v = pastLabel (x .0) w in
+            let child : Spot → Answer (Tree L × Spot) = λ z. readNode label s end left z in
+            let k = number s (w .next + 9) 1 in
+            let g =
+                children-back left child (λ z q. node-back left z q) k v y (c .0 .fits) (subst (λ (z : Spot). readChildren label s end child k z ≡ good y) (c .1) ey) in
+            let m = node-close left (x .0) (y .0) w (record { label = c .0; counted = g .1; below = g .0 }) in
+            subst (λ (z : Tree L × Spot). TreeAt (suc left) (z .0) w × (z .1 ≡ past (z .0) w)) (good-inj e₄) (m, g .2 ∙ past-node (x .0) (y .0) w)))))
