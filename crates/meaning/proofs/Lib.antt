@@ -1,4 +1,5 @@
 pub mod Tests
 pub mod Reading
 pub mod MessageTree
+pub mod MessageLabel
 pub mod Sheet

@@ -3,7 +3,7 @@
 -- Assumes nothing.
 use mathlib.Core.Path.{_≡_, refl, sym, ap, _∙_, subst}
 use mathlib.Core.Bool.{Bool, true, false, _&&_}
-use mathlib.Core.List.{List, [], _∷_, _++_, append-assoc, append-nil}
+use mathlib.Core.List.{List, [], _∷_, _++_, map, append-assoc, append-nil, map-append}
 use Prim.Native.Nat.{ℕ, zero, suc, _+_, _*_, _≤_, _<_, max}
 use native.Mathlib.Nat.{add-zero, add-assoc}
 use native.Mathlib.Omega.{arith}
@@ -12,12 +12,12 @@ use lib.ListN.{length, length-append}
 use Rattle.meaning.specs.declared.Side.the-variants.{Requirement as requirement}
 use Rattle.meaning.specs.Refusal.{Answer, good, refused, at, refuseIf, _>>=_, _>>_}
 use Rattle.meaning.specs.Bytes.{number, bytes, Bytes, fields}
-use Rattle.meaning.specs.Tree.{Tree, node, Forest, none, more, count, nodes, nodesF, levels, levelsF, each, eachF}
+use Rattle.meaning.specs.Tree.{Tree, node, Forest, none, more, count, nodes, nodesF, levels, levelsF, each, eachF, written, writtenF}
 use Rattle.meaning.specs.Message.{mostNodes, mostThresholds, nodeBytes, childrenBytes, Part, Spot, entered, readNode, readChildren}
 use Rattle.meaning.specs.Message.{passed as onward}
 use Rattle.meaning.proofs.Tests.{and-both, both-and}
 use Rattle.meaning.proofs.Reading.{
-  not-good, good-inj, then-test, then-take, then-fit, of-test, of-take, of-fit, not-below, le-of-not-below, total, fields-fitted, Stands, stands-none, stands-split, stands-join,
+  not-good, good-inj, then-test, then-take, then-fit, of-test, of-take, of-fit, not-below, le-of-not-below, total, total-append, fields-fitted, Stands, stands-none, stands-split, stands-join,
   bytes-length, byte-of, byte-stands,
 }
 
@@ -35,7 +35,7 @@ pub record Within (end : ℕ) (w : Spot) : Type 0 where
   pub few : w .nodes ≤ mostNodes
   pub room : length (w .parts) ≤ mostThresholds
 
-same-spot : (v w : Spot) → v .next ≡ w .next → v .nodes ≡ w .nodes → v .parts ≡ w .parts → v ≡ w
+pub same-spot : (v w : Spot) → v .next ≡ w .next → v .nodes ≡ w .nodes → v .parts ≡ w .parts → v ≡ w
 same-spot v w e f g = λ i. record { next = e i; nodes = f i; parts = g i }
 
 module _ {L : Type 0} (K : Kind L) where
@@ -88,6 +88,22 @@ module _ {L : Type 0} (K : Kind L) where
   past-more r t f w =
       same-spot _ _ (omega (arith, length-append (treeBytes t) (forestBytes f))) (add-assoc (w .nodes) _ _) (append-assoc (w .parts) _ _)
 
+  -- ---- how long the bytes are: 11 for each node, one less for the root, and the thresholds
+
+  abbrev pub owned : List L → List ℕ
+  owned = map (λ a. length (K .own a))
+
+  mutual
+    unfolding nodes written nodeBytes
+
+    pub tree-length : (t : Tree L) → length (treeBytes t) + 1 ≡ 11 * nodes t + total (owned (written t))
+    tree-length (node a f) = omega (arith, node-length a f, forest-length f)
+
+    forest-length : (f : Forest L) → length (forestBytes f) ≡ 11 * nodesF f + total (owned (writtenF f))
+    forest-length none = refl
+    forest-length (more r t f) =
+        rw (map-append, total-append) (omega (arith, length-append (treeBytes t) (forestBytes f), tree-length t, forest-length f))
+
   -- ---- what stands at a spot of s before the end
 
   module _ (s : List ℕ) (end : ℕ) where
@@ -121,6 +137,16 @@ module _ {L : Type 0} (K : Kind L) where
       role : number s (w .next) 1 ≡ r
       child : TreeAt left t (onward 1 w)
       others : ForestAt left f (past t (onward 1 w))
+
+    -- what reading gives: what stands there, and the spot past it
+    abbrev pub LabelRead : Spot → L × Spot → Type 0
+    LabelRead w r = LabelAt (r .0) w × (r .1 ≡ pastLabel (r .0) w)
+
+    abbrev pub TreeRead : ℕ → Spot → Tree L × Spot → Type 0
+    TreeRead left w r = TreeAt left (r .0) w × (r .1 ≡ past (r .0) w)
+
+    abbrev ForestRead : ℕ → ℕ → Spot → Forest L × Spot → Type 0
+    ForestRead left k w r = ForestAt left (r .0) w × (k ≡ count (r .0)) × (r .1 ≡ pastF (r .0) w)
 
     before : (f : Forest L) (w : Spot) → Within end (pastF f w) → Within end w
     before f w h = record { reached = omega arith; few = omega arith; room = omega (arith, length-append (w .parts) (partsOfF f (w .nodes) (w .next))) }
@@ -233,14 +259,14 @@ module _ {L : Type 0} (K : Kind L) where
 
       -- ---- and back
 
-      module _ (label-back : (w : Spot) (r : L × Spot) → Within end (entered w) → label w ≡ good r → LabelAt (r .0) w × (r .1 ≡ pastLabel (r .0) w)) where
+      module _ (label-back : (w : Spot) (r : L × Spot) → Within end (entered w) → label w ≡ good r → LabelRead w r) where
         children-back : (left : ℕ) (child : Spot → Answer (Tree L × Spot))
-            → ((w : Spot) (r : Tree L × Spot) → Within end w → child w ≡ good r → TreeAt left (r .0) w × (r .1 ≡ past (r .0) w))
+            → ((w : Spot) (r : Tree L × Spot) → Within end w → child w ≡ good r → TreeRead left w r)
             → (k : ℕ) (w : Spot) (r : Forest L × Spot) → Within end w → readChildren label s end child k w ≡ good r
-            → ForestAt left (r .0) w × (k ≡ count (r .0)) × (r .1 ≡ pastF (r .0) w)
+            → ForestRead left k w r
         unfolding readChildren count
         children-back left child back zero w r h e =
-            subst (λ (z : Forest L × Spot). ForestAt left (z .0) w × (0 ≡ count (z .0)) × (z .1 ≡ pastF (z .0) w)) (good-inj e) (none-at left w h, refl, sym (past-none w))
+            subst (ForestRead left 0 w) (good-inj e) (none-at left w h, refl, sym (past-none w))
         children-back left child back (suc k) w r h e =
             of-fit _ _ _ _ _ _ e (λ l e₁. of-test _ _ _ e₁ (λ b e₂. of-take _ _ e₂ (λ x ex e₃. of-take _ _ e₃ (λ y ey e₄.
             let c = back (onward 1 w) x (record { reached = l; few = h .few; room = h .room }) ex in
@@ -248,11 +274,9 @@ module _ {L : Type 0} (K : Kind L) where
             let g = children-back left child back k v y (c .0 .fits) (subst (λ (z : Spot). readChildren label s end child k z ≡ good y) (c .1) ey) in
             let n = number s (w .next) 1 in
             let m = more-close left n (x .0) (y .0) w (record { low = le-of-not-below 31 n b; role = refl; child = c .0; others = g .0 }) in
-            subst (λ (z : Forest L × Spot). ForestAt left (z .0) w × (suc k ≡ count (z .0)) × (z .1 ≡ pastF (z .0) w)) (good-inj e₄)
-                (m, omega (arith, g .1), g .2 ∙ past-more n (x .0) (y .0) w)))))
+            subst (ForestRead left (suc k) w) (good-inj e₄) (m, omega (arith, g .1), g .2 ∙ past-more n (x .0) (y .0) w)))))
 
-        pub node-back : (left : ℕ) (w : Spot) (r : Tree L × Spot) → Within end w → readNode label s end left w ≡ good r
-            → TreeAt left (r .0) w × (r .1 ≡ past (r .0) w)
+        pub node-back : (left : ℕ) (w : Spot) (r : Tree L × Spot) → Within end w → readNode label s end left w ≡ good r → TreeRead left w r
         unfolding readNode levels
         node-back zero w r h e = absurd (not-good (fields-fitted requirement end 8 (1 ∷ 1 ∷ []) (w .next) _ e .1))
         node-back (suc left) w r h e =
@@ -265,4 +289,4 @@ module _ {L : Type 0} (K : Kind L) where
             let g =
                 children-back left child (λ z q. node-back left z q) k v y (c .0 .fits) (subst (λ (z : Spot). readChildren label s end child k z ≡ good y) (c .1) ey) in
             let m = node-close left (x .0) (y .0) w (record { label = c .0; counted = g .1; below = g .0 }) in
-            subst (λ (z : Tree L × Spot). TreeAt (suc left) (z .0) w × (z .1 ≡ past (z .0) w)) (good-inj e₄) (m, g .2 ∙ past-node (x .0) (y .0) w)))))
+            subst (TreeRead (suc left) w) (good-inj e₄) (m, g .2 ∙ past-node (x .0) (y .0) w)))))

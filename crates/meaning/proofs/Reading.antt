@@ -71,6 +71,10 @@ abbrev pub total : List ℕ → ℕ
 total [] = 0
 total (w ∷ ws) = w + total ws
 
+pub total-append : (xs ys : List ℕ) → total (xs ++ ys) ≡ total xs + total ys
+total-append [] ys = omega arith
+total-append (x ∷ xs) ys = omega (arith, total-append xs ys)
+
 -- fields that fit are passed, and of a good answer the fields before it fitted
 pub fields-fit : (side : Side) (end : ℕ) (ws : List ℕ) (p : ℕ) → p + total ws ≤ end → fields side end ws p ≡ good tt
 unfolding fields
@@ -193,6 +197,9 @@ pub byte-stands : (s : List ℕ) (p x : ℕ) → number s p 1 ≡ x → Stands s
 unfolding number Stands
 byte-stands s p x e zero l = omega arith
 byte-stands s p x e (suc i) l = absurd (omega arith)
+
+pub number-stands : (s : List ℕ) (p w n : ℕ) → Bytes s → number s p w ≡ n → Stands s p (bytes w n)
+number-stands s p w n h e = subst (λ (z : ℕ). Stands s p (bytes w z)) e (bytes-of s p w h)
 
 -- what stands is that part of the list
 pub stands-taken : (s : List ℕ) (p : ℕ) (xs : List ℕ) → Stands s p xs → p + length xs ≤ length s → take (length xs) (drop p s) ≡ xs

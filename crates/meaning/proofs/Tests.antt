@@ -27,6 +27,10 @@ is-false false f = refl
 pub true-false : {b : Bool} → b ≡ true → b ≡ false → ⊥
 true-false e d = let z : _≡_ {A = Bool} true false = sym e ∙ d in let y : _≡_ {A = ℕ} 0 1 = cc in omega arith
 
+pub of-not : (b : Bool) → not b ≡ false → T b
+of-not true e = tt
+of-not false e = absurd (true-false refl e)
+
 pub bool-eq : (a b : Bool) → (T a → T b) → (T b → T a) → a ≡ b
 bool-eq true true f g = refl
 bool-eq true false f g = absurd (f tt)
