@@ -169,6 +169,15 @@ unfolding thresholdsBytes partsAt
 past-all owner h hs w =
     same-spot _ _ (omega (arith, threshold-length h, length-append (thresholdBytes h) (thresholdsBytes hs))) refl (append-assoc (w .parts) _ _)
 
+abbrev pub outerKind : Kind Label
+outerKind = record {
+  ok = soundLabel;
+  namesOf = λ a. a .names;
+  howMany = λ a. length (a .thresholds);
+  own = λ a. thresholdsBytes (a .thresholds);
+  found = λ a k p. partsAt (a .thresholds) k p;
+}
+
 module _ (s : List ℕ) (end : ℕ) where
   -- the threshold h stands at place p before the end
   pub record ThresholdAt (h : Threshold) (p : ℕ) : Type 0 where
@@ -346,3 +355,37 @@ module _ (s : List ℕ) (end : ℕ) where
           thresholds-back bs owner k (pastOne owner t w) y (record { reached = inside; few = h .few; room = room }) (rw n at ey) in
       subst (ThresholdsRead owner (suc k) w) (good-inj e₈)
           (first-close bs owner t (y .0) w (record { first = f; others = g .0 }), ap suc (g .1), g .2 ∙ past-all owner t (y .0) w))))))))))
+
+  -- ---- the label of a requirement's node
+
+  abbrev with : Spot → Answer (Label × Spot)
+  with w = do
+    (hs, v) ← readThresholds s end (w .nodes) (number s (w .next + 8) 1) (entered w)
+    good (record { names = number s (w .next) 8; thresholds = hs }, v)
+
+  with-is : (w : Spot) → withThresholds s end w ≡ with w
+  unfolding withThresholds
+  with-is w = refl
+
+  outer-read : (a : Label) (w : Spot) → LabelAt outerKind s end a w → withThresholds s end w ≡ good (a, pastLabel outerKind a w)
+  outer-read a w h =
+      let c = and-both (isSet (a .names)) (every soundThreshold (a .thresholds)) (h .allowed) in
+      let e = number-of s (w .next) 8 (a .names) (ltb→lt (a .names) 18446744073709551616 (c .0)) (h .names) in
+      let g = thresholds-read (w .nodes) (a .thresholds) (entered w) (record { allowed = c .1; stands = h .rest; fits = h .fits }) in
+      with-is w ∙ rw (h .many, e) (then-take _ _ (a .thresholds, pastLabel outerKind a w) g refl)
+
+  outer-back : Bytes s → (w : Spot) (r : Label × Spot) → Within end (entered w) → withThresholds s end w ≡ good r → LabelRead outerKind s end w r
+  outer-back bs w r h e =
+      of-take _ _ (sym (with-is w) ∙ e) (λ x ex e₁.
+      let n = number s (w .next) 8 in
+      let g = thresholds-back bs (w .nodes) (number s (w .next + 8) 1) (entered w) x h ex in
+      let a : Label = record { names = n; thresholds = x .0 } in
+      let set = lt→ltb n 18446744073709551616 (number-below s (w .next) 8 bs) in
+      let c : LabelAt outerKind s end a w = record {
+        allowed = both-and (isSet n) (every soundThreshold (x .0)) set (g .0 .allowed);
+        names = bytes-of s (w .next) 8 bs;
+        many = g .1;
+        rest = g .0 .stands;
+        fits = g .0 .fits;
+      } in
+      subst (LabelRead outerKind s end w) (good-inj e₁) (c, g .2))

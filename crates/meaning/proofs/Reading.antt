@@ -7,15 +7,15 @@ use Prim.Native.Nat.{ℕ, zero, suc, _+_, _*_, _-_, _/_, _%_, _^_, _≤_, _<_}
 use native.Mathlib.Nat.{div-lt-iff-lt-mul, add-zero, zero-add, add-assoc, pow-suc, div-add-mod', mod-lt, le-refl, le-trans}
 use native.Mathlib.Decide.{decLt}
 use native.Mathlib.Omega.{arith}
-use lib.Dec.{lit≤, T, ltb, ltb→lt, nltb→le, leb, eqb}
+use lib.Dec.{lit≤, T, ltb, ltb→lt, nltb→le, leb, eqb, eqb→eq, eqb-refl}
 use lib.ListN.{length, getD, take, drop, length-append, length-take, length-drop}
 use lib.ListN.{List·getD-append as getD-append}
 use lib.Seq.{getD-append-add, getD-append-seam, getD-take, getD-drop, ext-getD}
 use Rattle.meaning.specs.declared.Side.{Side}
 use Rattle.meaning.specs.declared.Refusal.{Refusal}
 use Rattle.meaning.specs.Refusal.{Answer, good, refused, at, refuseIf, _>>=_, _>>_}
-use Rattle.meaning.specs.Bytes.{number, bytes, Bytes, fields}
-use Rattle.meaning.proofs.Tests.{is-false}
+use Rattle.meaning.specs.Bytes.{number, bytes, Bytes, fields, readHead, unequal, headed}
+use Rattle.meaning.proofs.Tests.{is-true, is-false, of-not}
 
 -- ---- steps
 
@@ -64,6 +64,12 @@ not-below m n h = is-false (ltb m n) (λ t. let l = ltb→lt m n t in omega arit
 
 pub le-of-not-below : (m n : ℕ) → ltb m n ≡ false → n ≤ m
 le-of-not-below m n e = nltb→le m n (subst (λ (b : Bool). T (not b)) (sym e) tt)
+
+pub not-unequal : (m n : ℕ) → m ≡ n → unequal m n ≡ false
+not-unequal m n e = ap not (is-true (eqb m n) (subst (λ (z : ℕ). T (eqb m z)) e (eqb-refl m)))
+
+pub eq-of-unequal : (m n : ℕ) → unequal m n ≡ false → m ≡ n
+eq-of-unequal m n e = eqb→eq m n (of-not (eqb m n) e)
 
 -- ---- fields
 
@@ -230,3 +236,49 @@ of-take e k p f = let q = taken e k p in f (q .0) (q .1) (q .2)
 pub of-fit : {B C : Type 0} (side : Side) (end w : ℕ) (ws : List ℕ) (p : ℕ) (k : Answer B) {a : B}
     → (fields side end (w ∷ ws) p >> k) ≡ good a → (p + total (w ∷ ws) ≤ end → k ≡ good a → C) → C
 of-fit side end w ws p k e f = let q = fields-fitted side end w ws p k e in f (q .0) (q .1)
+
+-- ---- the head
+
+pub head-read : (side : Side) (wrong : ℕ → ℕ → Bool) (s : List ℕ) → 3 ≤ length s → number s 0 1 ≡ 1 → wrong (number s 1 2) (length s - 3) ≡ false
+    → readHead side wrong s ≡ good (3 + number s 1 2)
+unfolding readHead
+head-read side wrong s l v e =
+    then-test _ _ _ (not-below (length s) 3 l) (then-test _ _ _ (ap (λ (n : ℕ). not (eqb n 1)) v) (then-test _ _ _ e refl))
+
+pub head-back : (side : Side) (wrong : ℕ → ℕ → Bool) (s : List ℕ) {end : ℕ} → readHead side wrong s ≡ good end
+    → (3 ≤ length s) × (number s 0 1 ≡ 1) × (wrong (number s 1 2) (length s - 3) ≡ false) × (3 + number s 1 2 ≡ end)
+unfolding readHead
+head-back side wrong s e =
+    of-test _ _ _ e (λ l e₁. of-test _ _ _ e₁ (λ v e₂. of-test _ _ _ e₂ (λ b e₃.
+    (le-of-not-below (length s) 3 l, eq-of-unequal (number s 0 1) 1 v, b, good-inj e₃))))
+
+-- a body under its head, in a list that it fills
+pub headed-length : (body : List ℕ) → length (headed body) ≡ 3 + length body
+unfolding headed
+headed-length body = omega arith
+
+pub headed-stands : (body : List ℕ) → Stands (headed body) 3 body
+unfolding headed
+headed-stands body = stands-right (headed body) 0 (1 ∷ bytes 2 (length body)) body (stands-self (headed body))
+
+pub headed-read : (side : Side) (body : List ℕ) → length body < 65536 → readHead side unequal (headed body) ≡ good (3 + length body)
+unfolding headed
+headed-read side body h =
+    let s = headed body in
+    let front = stands-left s 0 (1 ∷ bytes 2 (length body)) body (stands-self s) in
+    let two = stands-split s 0 1 (1 ∷ []) (bytes 2 (length body)) front refl in
+    let e = number-of s 1 2 (length body) h (two .1) in
+    let l = headed-length body in
+    let q = not-unequal (number s 1 2) (length s - 3) (omega arith) in
+    head-read side unequal s (omega arith) (byte-of s 0 1 (two .0)) q ∙ ap (λ (n : ℕ). good (3 + n)) e
+
+pub headed-back : (side : Side) (s : List ℕ) {end : ℕ} → Bytes s → readHead side unequal s ≡ good end
+    → (end ≡ length s) × ((body : List ℕ) → Stands s 3 body → 3 + length body ≡ end → s ≡ headed body)
+unfolding headed
+headed-back side s bs e =
+    let c = head-back side unequal s e in
+    let d = eq-of-unequal (number s 1 2) (length s - 3) (c .2) in
+    (omega (arith, c .0, c .3), λ body h k.
+    let two = number-stands s 1 2 (length body) bs (omega (arith, c .3)) in
+    let front = stands-join s 0 1 (1 ∷ []) (bytes 2 (length body)) (byte-stands s 0 1 (c .1)) two refl in
+    stands-whole s (headed body) (stands-join s 0 3 (1 ∷ bytes 2 (length body)) body front h refl) (omega (arith, headed-length body, c .0, c .3)))
