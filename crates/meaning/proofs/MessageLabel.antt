@@ -3,7 +3,7 @@
 -- Assumes nothing.
 use mathlib.Core.Path.{_≡_, refl, sym, ap, ap₂, _∙_, subst}
 use mathlib.Core.Bool.{Bool, true, false, _&&_, not}
-use mathlib.Core.List.{List, [], _∷_, _++_, map, append-assoc, append-nil}
+use mathlib.Core.List.{List, [], _∷_, _++_, map, append-assoc, append-nil, Forall₂, Forall₂·nil, Forall₂·cons}
 use Prim.Native.Nat.{ℕ, zero, suc, _+_, _*_, _^_, _≤_, _<_}
 use native.Mathlib.Nat.{add-zero, add-assoc}
 use native.Mathlib.Omega.{arith}
@@ -140,7 +140,7 @@ lawful-open p q h =
     let d = and-both (leb 1 q && leb q mostQ) (leb p q) (c .0) in
     (leb→le q mostQ (and-both (leb 1 q) (leb q mostQ) (d .0) .1), leb→le p q (d .1))
 
-threshold-length : (h : Threshold) → length (thresholdBytes h) ≡ 7 + length (conceptBytes (h .inner))
+pub threshold-length : (h : Threshold) → length (thresholdBytes h) ≡ 7 + length (conceptBytes (h .inner))
 unfolding bytes
 threshold-length h = omega arith
 
@@ -356,6 +356,18 @@ module _ (s : List ℕ) (end : ℕ) where
       subst (ThresholdsRead owner (suc k) w) (good-inj e₈)
           (first-close bs owner t (y .0) w (record { first = f; others = g .0 }), ap suc (g .1), g .2 ∙ past-all owner t (y .0) w))))))))))
 
+  -- the part x is where the threshold h stands
+  pub record PartAt (x : Part) (h : Threshold) : Type 0 where
+    pub here : ThresholdAt h (x .first)
+    pub long : x .len ≡ length (conceptBytes (h .inner))
+
+  pub parts-at : (owner : ℕ) (hs : List Threshold) (w : Spot) → ThresholdsAt owner hs w → Forall₂ PartAt (partsAt hs owner (w .next)) hs
+  unfolding partsAt
+  parts-at owner [] w c = Forall₂·nil
+  parts-at owner (h ∷ hs) w c =
+      let o = first-open owner h hs w c in
+      Forall₂·cons (record { here = o .first; long = refl }) (parts-at owner hs (pastOne owner h w) (o .others))
+
   -- ---- the label of a requirement's node
 
   abbrev with : Spot → Answer (Label × Spot)
@@ -367,14 +379,18 @@ module _ (s : List ℕ) (end : ℕ) where
   unfolding withThresholds
   with-is w = refl
 
-  outer-read : (a : Label) (w : Spot) → LabelAt outerKind s end a w → withThresholds s end w ≡ good (a, pastLabel outerKind a w)
+  pub outer-at : (a : Label) (w : Spot) → LabelAt outerKind s end a w → ThresholdsAt (w .nodes) (a .thresholds) (entered w)
+  outer-at a w h =
+      record { allowed = and-both (isSet (a .names)) (every soundThreshold (a .thresholds)) (h .allowed) .1; stands = h .rest; fits = h .fits }
+
+  pub outer-read : (a : Label) (w : Spot) → LabelAt outerKind s end a w → withThresholds s end w ≡ good (a, pastLabel outerKind a w)
   outer-read a w h =
       let c = and-both (isSet (a .names)) (every soundThreshold (a .thresholds)) (h .allowed) in
       let e = number-of s (w .next) 8 (a .names) (ltb→lt (a .names) 18446744073709551616 (c .0)) (h .names) in
-      let g = thresholds-read (w .nodes) (a .thresholds) (entered w) (record { allowed = c .1; stands = h .rest; fits = h .fits }) in
+      let g = thresholds-read (w .nodes) (a .thresholds) (entered w) (outer-at a w h) in
       with-is w ∙ rw (h .many, e) (then-take _ _ (a .thresholds, pastLabel outerKind a w) g refl)
 
-  outer-back : Bytes s → (w : Spot) (r : Label × Spot) → Within end (entered w) → withThresholds s end w ≡ good r → LabelRead outerKind s end w r
+  pub outer-back : Bytes s → (w : Spot) (r : Label × Spot) → Within end (entered w) → withThresholds s end w ≡ good r → LabelRead outerKind s end w r
   outer-back bs w r h e =
       of-take _ _ (sym (with-is w) ∙ e) (λ x ex e₁.
       let n = number s (w .next) 8 in

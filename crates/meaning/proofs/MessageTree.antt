@@ -13,9 +13,10 @@ use Rattle.meaning.specs.declared.Side.the-variants.{Requirement as requ
 use Rattle.meaning.specs.Refusal.{Answer, good, refused, at, refuseIf, _>>=_, _>>_}
 use Rattle.meaning.specs.Bytes.{number, bytes, Bytes, fields}
 use Rattle.meaning.specs.Tree.{Tree, node, Forest, none, more, count, nodes, nodesF, levels, levelsF, each, eachF, written, writtenF}
+use Rattle.meaning.specs.Requirement.{every}
 use Rattle.meaning.specs.Message.{mostNodes, mostThresholds, nodeBytes, childrenBytes, Part, Spot, entered, readNode, readChildren}
 use Rattle.meaning.specs.Message.{passed as onward}
-use Rattle.meaning.proofs.Tests.{and-both, both-and}
+use Rattle.meaning.proofs.Tests.{and-both, both-and, every-append}
 use Rattle.meaning.proofs.Reading.{
   not-good, good-inj, then-test, then-take, then-fit, of-test, of-take, of-fit, not-below, le-of-not-below, total, total-append, fields-fitted, Stands, stands-none, stands-split, stands-join,
   bytes-length, byte-of, byte-stands,
@@ -104,6 +105,18 @@ module _ {L : Type 0} (K : Kind L) where
     forest-length (more r t f) =
         rw (map-append, total-append) (omega (arith, length-append (treeBytes t) (forestBytes f), tree-length t, forest-length f))
 
+  mutual
+    unfolding each every written
+
+    pub each-written : (t : Tree L) → T (each (K .ok) t) → T (every (K .ok) (written t))
+    each-written (node a f) h = let c = and-both (K .ok a) (eachF (K .ok) f) h in both-and (K .ok a) _ (c .0) (each-writtenF f (c .1))
+
+    each-writtenF : (f : Forest L) → T (eachF (K .ok) f) → T (every (K .ok) (writtenF f))
+    each-writtenF none h = tt
+    each-writtenF (more r t f) h =
+        let c = and-both (leb r 31 && each (K .ok) t) (eachF (K .ok) f) h in
+        every-append (K .ok) (written t) (writtenF f) (each-written t (and-both (leb r 31) (each (K .ok) t) (c .0) .1)) (each-writtenF f (c .1))
+
   -- ---- what stands at a spot of s before the end
 
   module _ (s : List ℕ) (end : ℕ) where
@@ -127,16 +140,16 @@ module _ {L : Type 0} (K : Kind L) where
       pub fits : Within end (pastF f w)
 
     -- a node is its label, the count of its children, and they
-    record NodeAt (left : ℕ) (a : L) (f : Forest L) (w : Spot) : Type 0 where
-      label : LabelAt a w
-      counted : number s (w .next + 9) 1 ≡ count f
-      below : ForestAt left f (pastLabel a w)
+    pub record NodeAt (left : ℕ) (a : L) (f : Forest L) (w : Spot) : Type 0 where
+      pub label : LabelAt a w
+      pub counted : number s (w .next + 9) 1 ≡ count f
+      pub below : ForestAt left f (pastLabel a w)
 
-    record MoreAt (left r : ℕ) (t : Tree L) (f : Forest L) (w : Spot) : Type 0 where
-      low : r ≤ 31
-      role : number s (w .next) 1 ≡ r
-      child : TreeAt left t (onward 1 w)
-      others : ForestAt left f (past t (onward 1 w))
+    pub record MoreAt (left r : ℕ) (t : Tree L) (f : Forest L) (w : Spot) : Type 0 where
+      pub low : r ≤ 31
+      pub role : number s (w .next) 1 ≡ r
+      pub child : TreeAt left t (onward 1 w)
+      pub others : ForestAt left f (past t (onward 1 w))
 
     -- what reading gives: what stands there, and the spot past it
     abbrev pub LabelRead : Spot → L × Spot → Type 0
@@ -151,7 +164,7 @@ module _ {L : Type 0} (K : Kind L) where
     before : (f : Forest L) (w : Spot) → Within end (pastF f w) → Within end w
     before f w h = record { reached = omega arith; few = omega arith; room = omega (arith, length-append (w .parts) (partsOfF f (w .nodes) (w .next))) }
 
-    node-open : (left : ℕ) (a : L) (f : Forest L) (w : Spot) → TreeAt (suc left) (node a f) w → NodeAt left a f w
+    pub node-open : (left : ℕ) (a : L) (f : Forest L) (w : Spot) → TreeAt (suc left) (node a f) w → NodeAt left a f w
     unfolding each levels nodeBytes
     node-open left a f w h =
         let p = w .next in
@@ -190,7 +203,7 @@ module _ {L : Type 0} (K : Kind L) where
           fits = subst (Within end) (past-node a f w) (h .below .fits);
         }
 
-    more-open : (left r : ℕ) (t : Tree L) (f : Forest L) (w : Spot) → ForestAt left (more r t f) w → MoreAt left r t f w
+    pub more-open : (left r : ℕ) (t : Tree L) (f : Forest L) (w : Spot) → ForestAt left (more r t f) w → MoreAt left r t f w
     unfolding each levels nodeBytes
     more-open left r t f w h =
         let p = w .next in

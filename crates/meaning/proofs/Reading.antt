@@ -273,12 +273,12 @@ headed-read side body h =
     head-read side unequal s (omega arith) (byte-of s 0 1 (two .0)) q ∙ ap (λ (n : ℕ). good (3 + n)) e
 
 pub headed-back : (side : Side) (s : List ℕ) {end : ℕ} → Bytes s → readHead side unequal s ≡ good end
-    → (end ≡ length s) × ((body : List ℕ) → Stands s 3 body → 3 + length body ≡ end → s ≡ headed body)
+    → (3 ≤ end) × (end ≡ length s) × ((body : List ℕ) → Stands s 3 body → 3 + length body ≡ end → s ≡ headed body)
 unfolding headed
 headed-back side s bs e =
     let c = head-back side unequal s e in
     let d = eq-of-unequal (number s 1 2) (length s - 3) (c .2) in
-    (omega (arith, c .0, c .3), λ body h k.
+    (omega (arith, c .3), omega (arith, c .0, c .3), λ body h k.
     let two = number-stands s 1 2 (length body) bs (omega (arith, c .3)) in
     let front = stands-join s 0 1 (1 ∷ []) (bytes 2 (length body)) (byte-stands s 0 1 (c .1)) two refl in
     stands-whole s (headed body) (stands-join s 0 3 (1 ∷ bytes 2 (length body)) body front h refl) (omega (arith, headed-length body, c .0, c .3)))

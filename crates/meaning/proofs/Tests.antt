@@ -3,13 +3,14 @@
 use mathlib.Core.Path.{_≡_, refl, sym, subst, _∙_}
 use mathlib.Core.Logic.{_⊎_, inl, inr}
 use mathlib.Core.Bool.{Bool, true, false, _&&_, _||_, not}
-use mathlib.Core.List.{List, [], _∷_, List·Memᴰ, List·Memᴰ·head, List·Memᴰ·tail}
+use mathlib.Core.List.{List, [], _∷_, _++_, List·Memᴰ, List·Memᴰ·head, List·Memᴰ·tail}
 use mathlib.Core.Option.{Option, some}
 use mathlib.Core.Option.{none as nowhere}
 use Prim.Native.Nat.{ℕ}
 use native.Mathlib.Omega.{arith}
 use lib.Dec.{T}
 use Rattle.meaning.specs.Whole.{any}
+use Rattle.meaning.specs.Requirement.{every}
 
 -- ---- true and false
 
@@ -74,6 +75,13 @@ pub found-any : {A : Type 0} (p : A → Bool) {y : A} {xs : List A} → List·Me
 unfolding any
 found-any p (List·Memᴰ·head {x} {xs} e) t = or-left (p x) (any p xs) (subst (λ z. T (p z)) e t)
 found-any p (List·Memᴰ·tail {x} {xs} m) t = or-right (p x) (any p xs) (found-any p m t)
+
+-- ---- a test of each element
+
+pub every-append : {A : Type 0} (p : A → Bool) (xs ys : List A) → T (every p xs) → T (every p ys) → T (every p (xs ++ ys))
+unfolding every
+every-append p [] ys h k = k
+every-append p (x ∷ xs) ys h k = let c = and-both (p x) (every p xs) h in both-and (p x) _ (c .0) (every-append p xs ys (c .1) k)
 
 -- ---- Option
 

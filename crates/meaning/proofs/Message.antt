@@ -1,0 +1,191 @@
+-- Document 01, "Requirement message": a requirement has one message, of at most 12,066 bytes, and reading gives it back; whatever is accepted is such a
+-- message; and the parts that reading hands on are where the thresholds stand.
+-- Assumes nothing.
+use mathlib.Core.Path.{_≡_, refl, sym, ap, ap₂, _∙_, subst}
+use mathlib.Core.Bool.{Bool, true, false, _&&_}
+use mathlib.Core.List.{List, [], _∷_, _++_, map, append-assoc, append-nil, Forall₂, Forall₂·nil, Forall₂·cons}
+use Prim.Native.Nat.{ℕ, zero, suc, _+_, _*_, _≤_, _<_}
+use native.Mathlib.Omega.{arith}
+use lib.Dec.{T, ltb, leb, leb→le, le→leb}
+use lib.ListN.{length, getD, length-append}
+use Rattle.meaning.specs.declared.Side.the-variants.{Requirement as requirement}
+use Rattle.meaning.specs.Refusal.{Answer, good, refused, at, refuseIf, _>>=_, _>>_}
+use Rattle.meaning.specs.Bytes.{bytes, Bytes, readHead, unequal, headed}
+use Rattle.meaning.specs.Names.{isSet}
+use Rattle.meaning.specs.Tree.{Tree, node, Forest, none, more, nodes, levels, each, written, writtenF}
+use Rattle.meaning.specs.Requirement.{Threshold, Label, Requirement, every}
+use Rattle.meaning.specs.Message.{
+  mostLevels, mostNodes, mostThresholds, lawful, bounded, soundInner, soundThreshold, soundLabel, joined, thresholdsOf, sound, conceptBytes, thresholdBytes,
+  thresholdsBytes, requirementBytes, encode, Part, Spot, entered, readNode, withThresholds, readRequirement, partBytes, kth, innerPart,
+}
+use Rattle.meaning.specs.Message.{passed as onward}
+use Rattle.meaning.proofs.Tests.{and-both, both-and}
+use Rattle.meaning.proofs.Reading.{
+  good-inj, then-test, then-take, of-test, of-take, not-below, le-of-not-below, total, Stands, stands-taken, headed-length, headed-stands, headed-read,
+  headed-back,
+}
+use Rattle.meaning.proofs.MessageTree.{
+  Within, past, pastLabel, partsOf, partsOfF, owned, tree-length, each-written, LabelAt, TreeAt, ForestAt, node-open, more-open, node-read, node-back,
+}
+use Rattle.meaning.proofs.MessageLabel.{
+  bounded-open, bounded-close, concept-least, concept-most, threshold-length, partsAt, outerKind, start, ThresholdAt, PartAt, parts-at, outer-at, outer-read, outer-back,
+}
+
+-- ---- the thresholds of a requirement
+
+joined-append : (as′ bs : List Label) → joined (as′ ++ bs) ≡ joined as′ ++ joined bs
+unfolding joined
+joined-append [] bs = refl
+joined-append (a ∷ as′) bs = ap (λ (z : List Threshold). a .thresholds ++ z) (joined-append as′ bs) ∙ sym (append-assoc (a .thresholds) _ _)
+
+-- where they stand
+abbrev pub partsIn : Requirement → List Part
+partsIn q = partsOf outerKind q 0 3
+
+at-length : (hs : List Threshold) (k p : ℕ) → length (partsAt hs k p) ≡ length hs
+unfolding partsAt
+at-length [] k p = refl
+at-length (h ∷ hs) k p = ap suc (at-length hs k _)
+
+mutual
+  unfolding partsOf joined written
+
+  parts-length : (t : Requirement) (k p : ℕ) → length (partsOf outerKind t k p) ≡ length (thresholdsOf t)
+  parts-length (node a f) k p = simp (length-append, at-length, parts-lengthF f (suc k) (p + 10 + length (thresholdsBytes (a .thresholds))))
+
+  parts-lengthF : (f : Forest Label) (k p : ℕ) → length (partsOfF outerKind f k p) ≡ length (joined (writtenF f))
+  parts-lengthF none k p = refl
+  parts-lengthF (more r t f) k p =
+      simp (joined-append, length-append, parts-length t k (p + 1), parts-lengthF f (k + nodes t) (p + 1 + length (requirementBytes t)))
+
+-- ---- how long a message is
+
+thresholds-length : (hs : List Threshold) → T (every soundThreshold hs) → length (thresholdsBytes hs) ≤ 710 * length hs
+unfolding thresholdsBytes every
+thresholds-length [] t = omega arith
+thresholds-length (h ∷ hs) t =
+    let c = and-both (soundThreshold h) (every soundThreshold hs) t in
+    let d = and-both (lawful (h .limit .num) (h .limit .den)) (soundInner (h .inner)) (c .0) in
+    rw length-append (omega (arith, threshold-length h, concept-most (h .inner) (d .1), thresholds-length hs (c .1)))
+
+owned-length : (as′ : List Label) → T (every soundLabel as′) → total (owned outerKind as′) ≤ 710 * length (joined as′)
+unfolding joined every
+owned-length [] t = omega arith
+owned-length (a ∷ as′) t =
+    let c = and-both (soundLabel a) (every soundLabel as′) t in
+    let d = and-both (isSet (a .names)) (every soundThreshold (a .thresholds)) (c .0) in
+    rw length-append (omega (arith, thresholds-length (a .thresholds) (d .1), owned-length as′ (c .1)))
+
+-- what a well-formed requirement is
+pub sound-open : (q : Requirement) → T (sound q) → T (bounded soundLabel q) × (length (thresholdsOf q) ≤ mostThresholds)
+unfolding sound
+sound-open q h =
+    let c = and-both (bounded soundLabel q) (leb (length (thresholdsOf q)) mostThresholds) h in
+    (c .0, leb→le (length (thresholdsOf q)) mostThresholds (c .1))
+
+-- "Longest message: 12,066 bytes."
+pub message-length : (q : Requirement) → T (sound q) → length (encode q) ≤ 12066
+unfolding encode
+message-length q h =
+    let c = sound-open q h in
+    let b = bounded-open soundLabel q (c .0) in
+    omega (arith, headed-length (requirementBytes q), tree-length outerKind q, owned-length (written q) (each-written outerKind q (b .0)))
+
+-- ---- reading gives it back
+
+-- its bytes stand in its message behind the head
+whole : (q : Requirement) → T (sound q) → TreeAt outerKind (encode q) (length (encode q)) mostLevels q (start 3)
+unfolding encode
+whole q h =
+    let c = sound-open q h in
+    let b = bounded-open soundLabel q (c .0) in
+    record {
+      allowed = b .0;
+      shallow = b .1;
+      stands = headed-stands (requirementBytes q);
+      fits = record {
+        reached = omega (arith, headed-length (requirementBytes q));
+        few = omega arith;
+        room = omega (arith, parts-length q 0 3);
+      };
+    }
+
+-- `readRequirement` as it is defined
+abbrev reading : List ℕ → Answer (Requirement × List Part)
+reading s = do
+  end ← readHead requirement unequal s
+  (t, w) ← readNode (withThresholds s end) s end mostLevels (start 3)
+  refuseIf (ltb (w .next) end) (at requirement 8 (w .next))
+  good (t, w .parts)
+
+reading-is : (s : List ℕ) → readRequirement s ≡ reading s
+unfolding readRequirement
+reading-is s = refl
+
+pub read-encode : (q : Requirement) → T (sound q) → readRequirement (encode q) ≡ good (q, partsIn q)
+unfolding encode
+read-encode q h =
+    let s = encode q in
+    let end = 3 + length (requirementBytes q) in
+    let l = headed-length (requirementBytes q) in
+    let c : TreeAt outerKind s end mostLevels q (start 3) = subst (λ (z : ℕ). TreeAt outerKind s z mostLevels q (start 3)) l (whole q h) in
+    let e = node-read outerKind s end (withThresholds s end) (outer-read s end) mostLevels q (start 3) c in
+    let b : length (requirementBytes q) < 65536 = omega (arith, message-length q h) in
+    reading-is s ∙ then-take _ _ end (headed-read requirement (requirementBytes q) b)
+    (then-take _ _ (q, past outerKind q (start 3)) e (then-test _ _ _ (not-below end end (omega arith)) refl))
+
+-- ---- whatever is accepted is such a message
+
+pub record Accepted (s : List ℕ) (r : Requirement × List Part) : Type 0 where
+  pub sound : T (sound (r .0))
+  pub same : s ≡ encode (r .0)
+  pub parts : r .1 ≡ partsIn (r .0)
+
+pub read-back : (s : List ℕ) (r : Requirement × List Part) → Bytes s → readRequirement s ≡ good r → Accepted s r
+unfolding encode sound
+read-back s r bs e =
+    of-take _ _ (sym (reading-is s) ∙ e) (λ end ee e₁. of-take _ _ e₁ (λ x ex e₂. of-test _ _ _ e₂ (λ b e₃.
+    let d = headed-back requirement s bs ee in
+    let c =
+        node-back outerKind s end (withThresholds s end) (outer-back s end bs) mostLevels (start 3) x
+            (record { reached = d .0; few = omega arith; room = omega arith }) ex in
+    let n : 3 + length (requirementBytes (x .0)) ≡ end =
+        omega (arith, le-of-not-below (x .1 .next) end b, ap (λ (z : Spot). z .next) (c .1), c .0 .fits .reached) in
+    let few : nodes (x .0) ≤ mostNodes = omega (arith, c .0 .fits .few) in
+    let room : length (thresholdsOf (x .0)) ≤ mostThresholds = omega (arith, parts-length (x .0) 0 3, c .0 .fits .room) in
+    subst (Accepted s) (good-inj e₃) (record {
+      sound =
+        both-and (bounded soundLabel (x .0)) _ (bounded-close soundLabel (x .0) (c .0 .allowed) (c .0 .shallow) few)
+            (le→leb (length (thresholdsOf (x .0))) mostThresholds room);
+      same = d .2 (requirementBytes (x .0)) (c .0 .stands) n;
+      parts = ap (λ (z : Spot). z .parts) (c .1);
+    }))))
+
+-- ---- the parts are where the thresholds stand
+
+pairs-append : {A B : Type 0} {R : A → B → Type 0} {xs xs′ : List A} {ys ys′ : List B} → Forall₂ R xs ys → Forall₂ R xs′ ys′ → Forall₂ R (xs ++ xs′) (ys ++ ys′)
+pairs-append Forall₂·nil g = g
+pairs-append (Forall₂·cons r f) g = Forall₂·cons r (pairs-append f g)
+
+module _ (s : List ℕ) (end : ℕ) where
+  mutual
+    unfolding partsOf joined written levels
+
+    tree-parts : (t : Requirement) (left : ℕ) (w : Spot) → TreeAt outerKind s end left t w
+        → Forall₂ (PartAt s end) (partsOf outerKind t (w .nodes) (w .next)) (thresholdsOf t)
+    tree-parts (node a f) zero w h = absurd (omega (arith, h .shallow))
+    tree-parts (node a f) (suc left) w h =
+        let c = node-open outerKind s end left a f w h in
+        pairs-append (parts-at s end (w .nodes) (a .thresholds) (entered w) (outer-at s end a w (c .label)))
+            (forest-parts f left (pastLabel outerKind a w) (c .below))
+
+    forest-parts : (f : Forest Label) (left : ℕ) (w : Spot) → ForestAt outerKind s end left f w
+        → Forall₂ (PartAt s end) (partsOfF outerKind f (w .nodes) (w .next)) (joined (writtenF f))
+    forest-parts none left w h = Forall₂·nil
+    forest-parts (more r t f) left w h =
+        let c = more-open outerKind s end left r t f w h in
+        rw (joined-append (written t) (writtenF f))
+            (pairs-append (tree-parts t left (onward 1 w) (c .child)) (forest-parts f left (past outerKind t (onward 1 w)) (c .others)))
+
+pub parts-stand : (q : Requirement) → T (sound q) → Forall₂ (PartAt (encode q) (length (encode q))) (partsIn q) (thresholdsOf q)
+parts-stand q h = tree-parts (encode q) (length (encode q)) q mostLevels (start 3) (whole q h)
