@@ -7,7 +7,7 @@ use mathlib.Core.List.{List, [], _∷_, _++_, map, append-assoc, append-nil, For
 use Prim.Native.Nat.{ℕ, zero, suc, _+_, _*_, _≤_, _<_}
 use native.Mathlib.Omega.{arith}
 use lib.Dec.{T, ltb, leb, leb→le, le→leb}
-use lib.ListN.{length, getD, length-append}
+use lib.ListN.{length, getD, take, drop, length-append}
 use Rattle.meaning.specs.declared.Side.the-variants.{Requirement as requirement}
 use Rattle.meaning.specs.Refusal.{Answer, good, refused, at, refuseIf, _>>=_, _>>_}
 use Rattle.meaning.specs.Bytes.{bytes, Bytes, readHead, unequal, headed}
@@ -16,7 +16,7 @@ use Rattle.meaning.specs.Tree.{Tree, node, Forest, none, more, nodes, le
 use Rattle.meaning.specs.Requirement.{Threshold, Label, Requirement, every}
 use Rattle.meaning.specs.Message.{
   mostLevels, mostNodes, mostThresholds, lawful, bounded, soundInner, soundThreshold, soundLabel, joined, thresholdsOf, sound, conceptBytes, thresholdBytes,
-  thresholdsBytes, requirementBytes, encode, Part, Spot, entered, readNode, withThresholds, readRequirement, partBytes, kth, innerPart,
+  thresholdsBytes, requirementBytes, encode, Part, Spot, entered, readNode, withThresholds, readRequirement, partBytes, kth, partOf, innerPart,
 }
 use Rattle.meaning.specs.Message.{passed as onward}
 use Rattle.meaning.proofs.Tests.{and-both, both-and}
@@ -161,6 +161,9 @@ read-back s r bs e =
       parts = ap (λ (z : Spot). z .parts) (c .1);
     }))))
 
+pub accepted-read : (s : List ℕ) (r : Requirement × List Part) → Accepted s r → readRequirement s ≡ good r
+accepted-read s r c = ap readRequirement (c .same) ∙ read-encode (r .0) (c .sound) ∙ ap (λ (z : List Part). good (r .0, z)) (sym (c .parts))
+
 -- ---- the parts are where the thresholds stand
 
 pairs-append : {A B : Type 0} {R : A → B → Type 0} {xs xs′ : List A} {ys ys′ : List B} → Forall₂ R xs ys → Forall₂ R xs′ ys′ → Forall₂ R (xs ++ xs′) (ys ++ ys′)
@@ -187,5 +190,55 @@ module _ (s : List ℕ) (end : ℕ) where
         rw (joined-append (written t) (writtenF f))
             (pairs-append (tree-parts t left (onward 1 w) (c .child)) (forest-parts f left (past outerKind t (onward 1 w)) (c .others)))
 
-pub parts-stand : (q : Requirement) → T (sound q) → Forall₂ (PartAt (encode q) (length (encode q))) (partsIn q) (thresholdsOf q)
-parts-stand q h = tree-parts (encode q) (length (encode q)) q mostLevels (start 3) (whole q h)
+-- of what is accepted each part is where the threshold of its number stands
+pub parts-stand : (s : List ℕ) (r : Requirement × List Part) → Accepted s r → Forall₂ (PartAt s (length s)) (r .1) (thresholdsOf (r .0))
+parts-stand s r c =
+    let q = r .0 in
+    rw (c .same, c .parts) (tree-parts (encode q) (length (encode q)) q mostLevels (start 3) (whole q (c .sound)))
+
+-- it lies inside the message and has 10 to 703 bytes
+pub part-inside : (s : List ℕ) (end : ℕ) (x : Part) (h : Threshold) → PartAt s end x h
+    → (x .first + 7 + x .len ≤ end) × (10 ≤ x .len) × (x .len ≤ 703)
+part-inside s end x h c =
+    let k = and-both (lawful (h .limit .num) (h .limit .den)) (soundInner (h .inner)) (c .here .sound) in
+    let l = c .long in
+    let i = c .here .inside in
+    (omega arith, omega (arith, concept-least (h .inner)), omega (arith, concept-most (h .inner) (k .1)))
+
+-- and its bytes are the inner concept's
+abbrev pub innerBytes : Threshold → List ℕ
+innerBytes h = conceptBytes (h .inner)
+
+pairs-bytes : (s : List ℕ) {ps : List Part} {hs : List Threshold} → Forall₂ (PartAt s (length s)) ps hs → map (partBytes s) ps ≡ map innerBytes hs
+pairs-bytes s Forall₂·nil = refl
+pairs-bytes s (Forall₂·cons {a} {b} c f) =
+    ap₂ {C = List (List ℕ)} _∷_
+        (ap (λ (n : ℕ). take n (drop (a .first + 7) s)) (c .long) ∙ stands-taken s (a .first + 7) (innerBytes b) (c .here .stands) (c .here .inside))
+        (pairs-bytes s f)
+
+pub parts-bytes : (s : List ℕ) (r : Requirement × List Part) → Accepted s r → map (partBytes s) (r .1) ≡ map innerBytes (thresholdsOf (r .0))
+parts-bytes s r c = pairs-bytes s (parts-stand s r c)
+
+-- "the bytes of the k-th inner concept (k from 0, in reading order)"; there are none where there is no k-th
+kth-part : (s : List ℕ) (ps : List Part) (k : ℕ) → kth s ps k ≡ getD (map (partBytes s) ps) k []
+unfolding kth
+kth-part s [] k = refl
+kth-part s (p ∷ ps) zero = refl
+kth-part s (p ∷ ps) (suc k) = kth-part s ps k
+
+inner-is : (s : List ℕ) (k : ℕ) → innerPart s k ≡ partOf s k (readRequirement s)
+unfolding innerPart
+inner-is s k = refl
+
+pub inner-part : (s : List ℕ) (r : Requirement × List Part) → Accepted s r → (k : ℕ) → innerPart s k ≡ getD (map innerBytes (thresholdsOf (r .0))) k []
+inner-part s r c k =
+    inner-is s k ∙ ap (partOf s k) (accepted-read s r c) ∙ kth-part s (r .1) k ∙ ap (λ (z : List (List ℕ)). getD z k []) (parts-bytes s r c)
+
+-- ---- one requirement has one message, and no other is accepted
+
+pub encode-inj : (q q′ : Requirement) → T (sound q) → T (sound q′) → encode q ≡ encode q′ → q ≡ q′
+encode-inj q q′ h h′ e =
+    ap (λ (r : Requirement × List Part). r .0) (good-inj (sym (read-encode q h) ∙ ap readRequirement e ∙ read-encode q′ h′))
+
+pub accepted-length : (s : List ℕ) (r : Requirement × List Part) → Accepted s r → length s ≤ 12066
+accepted-length s r c = omega (arith, ap length (c .same), message-length (r .0) (c .sound))
