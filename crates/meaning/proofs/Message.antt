@@ -2,33 +2,110 @@
 -- message; and the parts that reading hands on are where the thresholds stand.
 -- Assumes nothing.
 use mathlib.Core.Path.{_≡_, refl, sym, ap, ap₂, _∙_, subst}
-use mathlib.Core.Bool.{Bool, true, false, _&&_}
-use mathlib.Core.List.{List, [], _∷_, _++_, map, append-assoc, append-nil, Forall₂, Forall₂·nil, Forall₂·cons}
+use mathlib.Core.Logic.{_⊎_, inl, inr}
+use mathlib.Core.List.{
+  List,
+  [],
+  _∷_,
+  _++_,
+  map,
+  append-assoc,
+  Forall₂,
+  Forall₂·nil,
+  Forall₂·cons,
+  List·Memᴰ,
+  List·Memᴰ·head,
+  List·Memᴰ·tail,
+  List·Memᴰ·cases-cons,
+  List·Memᴰ·not-nil,
+}
 use Prim.Native.Nat.{ℕ, zero, suc, _+_, _*_, _≤_, _<_}
 use native.Mathlib.Omega.{arith}
 use lib.Dec.{T, ltb, leb, leb→le, le→leb}
 use lib.ListN.{length, getD, take, drop, length-append}
 use Rattle.meaning.specs.declared.Side.the-variants.{Requirement as requirement}
+use Rattle.meaning.specs.declared.Refusal.{Refusal}
 use Rattle.meaning.specs.Refusal.{Answer, good, refused, at, refuseIf, _>>=_, _>>_}
-use Rattle.meaning.specs.Bytes.{bytes, Bytes, readHead, unequal, headed}
+use Rattle.meaning.specs.Bytes.{Bytes, readHead, unequal}
 use Rattle.meaning.specs.Names.{isSet}
-use Rattle.meaning.specs.Tree.{Tree, node, Forest, none, more, nodes, levels, each, written, writtenF}
+use Rattle.meaning.specs.Tree.{node, Forest, none, more, nodes, levels, written, writtenF}
 use Rattle.meaning.specs.Requirement.{Threshold, Label, Requirement, every}
 use Rattle.meaning.specs.Message.{
-  mostLevels, mostNodes, mostThresholds, lawful, bounded, soundInner, soundThreshold, soundLabel, joined, thresholdsOf, sound, conceptBytes, thresholdBytes,
-  thresholdsBytes, requirementBytes, encode, Part, Spot, entered, readNode, withThresholds, readRequirement, partBytes, kth, partOf, innerPart,
+  mostLevels,
+  mostNodes,
+  mostThresholds,
+  lawful,
+  bounded,
+  soundInner,
+  soundThreshold,
+  soundLabel,
+  joined,
+  thresholdsOf,
+  sound,
+  conceptBytes,
+  thresholdsBytes,
+  requirementBytes,
+  encode,
+  Part,
+  Spot,
+  entered,
+  readNode,
+  withThresholds,
+  readRequirement,
+  partBytes,
+  kth,
+  partOf,
+  innerPart,
 }
 use Rattle.meaning.specs.Message.{passed as onward}
 use Rattle.meaning.proofs.Tests.{and-both, both-and}
 use Rattle.meaning.proofs.Reading.{
-  good-inj, then-test, then-take, of-test, of-take, not-below, le-of-not-below, total, Stands, stands-taken, headed-length, headed-stands, headed-read,
+  good-inj,
+  then-test,
+  then-take,
+  of-test,
+  of-take,
+  not-below,
+  le-of-not-below,
+  total,
+  stands-taken,
+  headed-length,
+  headed-bytes,
+  headed-stands,
+  headed-read,
   headed-back,
 }
 use Rattle.meaning.proofs.MessageTree.{
-  Within, past, pastLabel, partsOf, partsOfF, owned, tree-length, each-written, LabelAt, TreeAt, ForestAt, node-open, more-open, node-read, node-back,
+  past,
+  pastLabel,
+  partsOf,
+  partsOfF,
+  owned,
+  tree-length,
+  tree-bytes,
+  each-written,
+  TreeAt,
+  ForestAt,
+  node-open,
+  more-open,
+  node-read,
+  node-back,
 }
 use Rattle.meaning.proofs.MessageLabel.{
-  bounded-open, bounded-close, concept-least, concept-most, threshold-length, partsAt, outerKind, start, ThresholdAt, PartAt, parts-at, outer-at, outer-read, outer-back,
+  bounded-open,
+  bounded-close,
+  concept-least,
+  concept-most,
+  threshold-length,
+  at-length,
+  outerKind,
+  start,
+  PartAt,
+  parts-at,
+  outer-at,
+  outer-bytes,
+  outer-read,
+  outer-back,
 }
 
 -- ---- the thresholds of a requirement
@@ -42,15 +119,10 @@ joined-append (a ∷ as′) bs = ap (λ (z : List Threshold). a .thresholds ++ z
 abbrev pub partsIn : Requirement → List Part
 partsIn q = partsOf outerKind q 0 3
 
-at-length : (hs : List Threshold) (k p : ℕ) → length (partsAt hs k p) ≡ length hs
-unfolding partsAt
-at-length [] k p = refl
-at-length (h ∷ hs) k p = ap suc (at-length hs k _)
-
 mutual
   unfolding partsOf joined written
 
-  parts-length : (t : Requirement) (k p : ℕ) → length (partsOf outerKind t k p) ≡ length (thresholdsOf t)
+  pub parts-length : (t : Requirement) (k p : ℕ) → length (partsOf outerKind t k p) ≡ length (thresholdsOf t)
   parts-length (node a f) k p = simp (length-append, at-length, parts-lengthF f (suc k) (p + 10 + length (thresholdsBytes (a .thresholds))))
 
   parts-lengthF : (f : Forest Label) (k p : ℕ) → length (partsOfF outerKind f k p) ≡ length (joined (writtenF f))
@@ -110,6 +182,14 @@ whole q h =
       };
     }
 
+-- which are bytes
+pub message-bytes : (q : Requirement) → T (sound q) → Bytes (encode q)
+unfolding encode
+message-bytes q h =
+    let s = encode q in
+    let n = length s in
+    headed-bytes (requirementBytes q) (tree-bytes outerKind s n (outer-bytes s n) q mostLevels (start 3) (whole q h))
+
 -- `readRequirement` as it is defined
 abbrev reading : List ℕ → Answer (Requirement × List Part)
 reading s = do
@@ -147,16 +227,16 @@ read-back s r bs e =
     of-take _ _ (sym (reading-is s) ∙ e) (λ end ee e₁. of-take _ _ e₁ (λ x ex e₂. of-test _ _ _ e₂ (λ b e₃.
     let d = headed-back requirement s bs ee in
     let c =
-        node-back outerKind s end (withThresholds s end) (outer-back s end bs) mostLevels (start 3) x
-            (record { reached = d .0; few = omega arith; room = omega arith }) ex in
+    node-back outerKind s end (withThresholds s end) (outer-back s end bs) mostLevels (start 3) x
+    (record { reached = d .0; few = omega arith; room = omega arith }) ex in
     let n : 3 + length (requirementBytes (x .0)) ≡ end =
-        omega (arith, le-of-not-below (x .1 .next) end b, ap (λ (z : Spot). z .next) (c .1), c .0 .fits .reached) in
+    omega (arith, le-of-not-below (x .1 .next) end b, ap (λ (z : Spot). z .next) (c .1), c .0 .fits .reached) in
     let few : nodes (x .0) ≤ mostNodes = omega (arith, c .0 .fits .few) in
     let room : length (thresholdsOf (x .0)) ≤ mostThresholds = omega (arith, parts-length (x .0) 0 3, c .0 .fits .room) in
     subst (Accepted s) (good-inj e₃) (record {
       sound =
-        both-and (bounded soundLabel (x .0)) _ (bounded-close soundLabel (x .0) (c .0 .allowed) (c .0 .shallow) few)
-            (le→leb (length (thresholdsOf (x .0))) mostThresholds room);
+          both-and (bounded soundLabel (x .0)) _ (bounded-close soundLabel (x .0) (c .0 .allowed) (c .0 .shallow) few)
+          (le→leb (length (thresholdsOf (x .0))) mostThresholds room);
       same = d .2 (requirementBytes (x .0)) (c .0 .stands) n;
       parts = ap (λ (z : Spot). z .parts) (c .1);
     }))))
@@ -170,6 +250,14 @@ pairs-append : {A B : Type 0} {R : A → B → Type 0} {xs xs′ : List A} {ys y
 pairs-append Forall₂·nil g = g
 pairs-append (Forall₂·cons r f) g = Forall₂·cons r (pairs-append f g)
 
+pair-of : {A B : Type 0} {R : A → B → Type 0} {xs : List A} {ys : List B} {x : A} → Forall₂ R xs ys → List·Memᴰ x xs → (y : B) × List·Memᴰ y ys × R x y
+pair-of Forall₂·nil m = absurd (List·Memᴰ·not-nil m)
+pair-of {A} {B} {R} {x} (Forall₂·cons {a} {b} {l₁} {l₂} r f) m = go (List·Memᴰ·cases-cons m) (λ n. pair-of f n)
+  where
+    go : (x ≡ a) ⊎ List·Memᴰ x l₁ → (List·Memᴰ x l₁ → (y : B) × List·Memᴰ y l₂ × R x y) → (y : B) × List·Memᴰ y (b ∷ l₂) × R x y
+    go (inl e) k = (b, List·Memᴰ·head refl, subst (λ (z : A). R z b) (sym e) r)
+    go (inr n) k = let p = k n in (p .0, List·Memᴰ·tail (p .1), p .2)
+
 module _ (s : List ℕ) (end : ℕ) where
   mutual
     unfolding partsOf joined written levels
@@ -180,7 +268,7 @@ module _ (s : List ℕ) (end : ℕ) where
     tree-parts (node a f) (suc left) w h =
         let c = node-open outerKind s end left a f w h in
         pairs-append (parts-at s end (w .nodes) (a .thresholds) (entered w) (outer-at s end a w (c .label)))
-            (forest-parts f left (pastLabel outerKind a w) (c .below))
+        (forest-parts f left (pastLabel outerKind a w) (c .below))
 
     forest-parts : (f : Forest Label) (left : ℕ) (w : Spot) → ForestAt outerKind s end left f w
         → Forall₂ (PartAt s end) (partsOfF outerKind f (w .nodes) (w .next)) (joined (writtenF f))
@@ -188,7 +276,7 @@ module _ (s : List ℕ) (end : ℕ) where
     forest-parts (more r t f) left w h =
         let c = more-open outerKind s end left r t f w h in
         rw (joined-append (written t) (writtenF f))
-            (pairs-append (tree-parts t left (onward 1 w) (c .child)) (forest-parts f left (past outerKind t (onward 1 w)) (c .others)))
+        (pairs-append (tree-parts t left (onward 1 w) (c .child)) (forest-parts f left (past outerKind t (onward 1 w)) (c .others)))
 
 -- of what is accepted each part is where the threshold of its number stands
 pub parts-stand : (s : List ℕ) (r : Requirement × List Part) → Accepted s r → Forall₂ (PartAt s (length s)) (r .1) (thresholdsOf (r .0))
@@ -205,6 +293,10 @@ part-inside s end x h c =
     let i = c .here .inside in
     (omega arith, omega (arith, concept-least (h .inner)), omega (arith, concept-most (h .inner) (k .1)))
 
+pub parts-inside : (s : List ℕ) (r : Requirement × List Part) → Accepted s r → {x : Part} → List·Memᴰ x (r .1)
+    → (x .first + 7 + x .len ≤ length s) × (10 ≤ x .len) × (x .len ≤ 703)
+parts-inside s r c {x} m = let p = pair-of (parts-stand s r c) m in part-inside s (length s) x (p .0) (p .2)
+
 -- and its bytes are the inner concept's
 abbrev pub innerBytes : Threshold → List ℕ
 innerBytes h = conceptBytes (h .inner)
@@ -213,8 +305,8 @@ pairs-bytes : (s : List ℕ) {ps : List Part} {hs : List Threshold} → Forall�
 pairs-bytes s Forall₂·nil = refl
 pairs-bytes s (Forall₂·cons {a} {b} c f) =
     ap₂ {C = List (List ℕ)} _∷_
-        (ap (λ (n : ℕ). take n (drop (a .first + 7) s)) (c .long) ∙ stands-taken s (a .first + 7) (innerBytes b) (c .here .stands) (c .here .inside))
-        (pairs-bytes s f)
+    (ap (λ (n : ℕ). take n (drop (a .first + 7) s)) (c .long) ∙ stands-taken s (a .first + 7) (innerBytes b) (c .here .stands) (c .here .inside))
+    (pairs-bytes s f)
 
 pub parts-bytes : (s : List ℕ) (r : Requirement × List Part) → Accepted s r → map (partBytes s) (r .1) ≡ map innerBytes (thresholdsOf (r .0))
 parts-bytes s r c = pairs-bytes s (parts-stand s r c)
@@ -233,6 +325,18 @@ inner-is s k = refl
 pub inner-part : (s : List ℕ) (r : Requirement × List Part) → Accepted s r → (k : ℕ) → innerPart s k ≡ getD (map innerBytes (thresholdsOf (r .0))) k []
 inner-part s r c k =
     inner-is s k ∙ ap (partOf s k) (accepted-read s r c) ∙ kth-part s (r .1) k ∙ ap (λ (z : List (List ℕ)). getD z k []) (parts-bytes s r c)
+
+-- "A part without bytes means refused: message bad, or no k-th."
+some-bytes : (hs : List Threshold) (k : ℕ) → k < length hs → 10 ≤ length (getD (map innerBytes hs) k [])
+some-bytes [] k l = absurd (omega arith)
+some-bytes (h ∷ hs) zero l = concept-least (h .inner)
+some-bytes (h ∷ hs) (suc k) l = some-bytes hs k (omega arith)
+
+pub inner-some : (s : List ℕ) (r : Requirement × List Part) → Accepted s r → (k : ℕ) → k < length (thresholdsOf (r .0)) → 10 ≤ length (innerPart s k)
+inner-some s r c k l = rw (inner-part s r c k) (some-bytes (thresholdsOf (r .0)) k l)
+
+pub inner-refused : (s : List ℕ) (e : Refusal) → readRequirement s ≡ refused e → (k : ℕ) → innerPart s k ≡ []
+inner-refused s e h k = inner-is s k ∙ ap (partOf s k) h
 
 -- ---- one requirement has one message, and no other is accepted
 

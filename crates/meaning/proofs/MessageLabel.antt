@@ -2,31 +2,89 @@
 -- Both are kinds of label for MessageTree.antt: reading gives a label exactly when its bytes stand there.
 -- Assumes nothing.
 use mathlib.Core.Path.{_≡_, refl, sym, ap, ap₂, _∙_, subst}
-use mathlib.Core.Bool.{Bool, true, false, _&&_, not}
-use mathlib.Core.List.{List, [], _∷_, _++_, map, append-assoc, append-nil, Forall₂, Forall₂·nil, Forall₂·cons}
-use Prim.Native.Nat.{ℕ, zero, suc, _+_, _*_, _^_, _≤_, _<_}
-use native.Mathlib.Nat.{add-zero, add-assoc}
+use mathlib.Core.Bool.{Bool, _&&_, not}
+use mathlib.Core.List.{List, [], _∷_, _++_, append-assoc, append-nil, Forall₂, Forall₂·nil, Forall₂·cons}
+use Prim.Native.Nat.{ℕ, zero, suc, _+_, _*_, _≤_, _<_}
+use native.Mathlib.Nat.{add-zero}
 use native.Mathlib.Omega.{arith}
 use lib.Dec.{T, ltb, leb, eqb, leb→le, le→leb, ltb→lt, lt→ltb}
 use lib.ListN.{length, length-append}
 use Rattle.meaning.specs.declared.Side.the-variants.{Requirement as requirement}
-use Rattle.meaning.specs.Refusal.{Answer, good, refused, at, refuseIf, _>>=_, _>>_}
+use Rattle.meaning.specs.Refusal.{Answer, good, at, refuseIf, _>>=_, _>>_}
 use Rattle.meaning.specs.Bytes.{number, bytes, Bytes, fields}
 use Rattle.meaning.specs.Names.{isSet}
-use Rattle.meaning.specs.Tree.{Tree, node, Forest, none, more, Concept, nodes, nodesF, levels, each, written}
-use Rattle.meaning.specs.Fraction.{Frac, _//_, gcd, Comparison, less, atMost, greater, atLeast}
+use Rattle.meaning.specs.Tree.{Tree, node, Forest, none, more, Concept, nodes, levels, each, written}
+use Rattle.meaning.specs.Fraction.{_//_, gcd, Comparison, less, atMost, greater, atLeast}
 use Rattle.meaning.specs.Reduce.{reduce, size, mostSize}
-use Rattle.meaning.specs.Requirement.{Threshold, Label, Requirement, every}
+use Rattle.meaning.specs.Requirement.{Threshold, Label, every}
 use Rattle.meaning.specs.Message.{
-  mostLevels, mostNodes, mostThresholds, mostQ, lawful, code, comparison, bounded, soundInner, soundThreshold, soundLabel, conceptBytes, thresholdBytes,
-  thresholdsBytes, Part, Spot, entered, readNode, noThresholds, readInner, readThresholds, withThresholds,
+  mostLevels,
+  mostNodes,
+  mostThresholds,
+  mostQ,
+  lawful,
+  code,
+  comparison,
+  bounded,
+  soundInner,
+  soundThreshold,
+  soundLabel,
+  conceptBytes,
+  thresholdBytes,
+  thresholdsBytes,
+  Part,
+  Spot,
+  entered,
+  noThresholds,
+  readInner,
+  readThresholds,
+  withThresholds,
 }
 use Rattle.meaning.proofs.Tests.{and-both, both-and, is-true, of-not}
 use Rattle.meaning.proofs.Reading.{
-  good-inj, then-test, then-take, then-fit, of-test, of-take, of-fit, not-below, le-of-not-below, total, Stands, stands-none, stands-split, stands-join, number-of,
-  number-below, number-stands, bytes-of, byte-of, byte-stands,
+  good-inj,
+  then-test,
+  then-take,
+  then-fit,
+  of-test,
+  of-take,
+  of-fit,
+  not-below,
+  le-of-not-below,
+  total,
+  Stands,
+  stands-none,
+  stands-split,
+  stands-join,
+  number-of,
+  number-below,
+  number-stands,
+  bytes-of,
+  byte-of,
+  byte-stands,
+  stands-self,
+  none-bytes,
+  cons-bytes,
+  append-bytes,
+  bytes-bytes,
 }
-use Rattle.meaning.proofs.MessageTree.{Kind, Within, same-spot, treeBytes, pastLabel, past, partsOf, partsOfF, owned, tree-length, LabelAt, TreeAt, LabelRead, TreeRead, node-read, node-back}
+use Rattle.meaning.proofs.MessageTree.{
+  Kind,
+  Within,
+  same-spot,
+  pastLabel,
+  past,
+  partsOf,
+  partsOfF,
+  owned,
+  tree-length,
+  tree-bytes,
+  LabelAt,
+  TreeAt,
+  LabelRead,
+  node-read,
+  node-back,
+}
 
 -- ---- inner concepts
 
@@ -68,7 +126,7 @@ bounded-open ok t h =
 pub bounded-close : {L : Type 0} (ok : L → Bool) (t : Tree L) → T (each ok t) → levels t ≤ mostLevels → nodes t ≤ mostNodes → T (bounded ok t)
 bounded-close ok t a l n =
     both-and (each ok t && leb (levels t) mostLevels) (leb (nodes t) mostNodes)
-        (both-and (each ok t) (leb (levels t) mostLevels) a (le→leb (levels t) mostLevels l)) (le→leb (nodes t) mostNodes n)
+    (both-and (each ok t) (leb (levels t) mostLevels) a (le→leb (levels t) mostLevels l)) (le→leb (nodes t) mostNodes n)
 
 -- ---- an inner concept whole
 
@@ -104,17 +162,27 @@ concept-most t h = let c = bounded-open isSet t (sound-inner t h .0) in omega (a
 abbrev pub start : ℕ → Spot
 start p = record { next = p; nodes = 0; parts = [] }
 
-inner-read : (s : List ℕ) (p : ℕ) (t : Concept) → T (soundInner t) → Stands s p (conceptBytes t)
-    → readInner s (p + length (conceptBytes t)) p ≡ good (t, past plainKind t (start p))
-inner-read s p t h k =
+inner-at : (s : List ℕ) (p : ℕ) (t : Concept) → T (soundInner t) → Stands s p (conceptBytes t)
+    → TreeAt plainKind s (p + length (conceptBytes t)) mostLevels t (start p)
+inner-at s p t h k =
     let c = bounded-open isSet t (sound-inner t h .0) in
-    let end = p + length (conceptBytes t) in
-    node-read plainKind s end (noThresholds s) (plain-read s end) mostLevels t (start p) (record {
+    record {
       allowed = c .0;
       shallow = c .1;
       stands = k;
       fits = record { reached = omega arith; few = omega arith; room = rw (plain-parts t 0 p) (omega arith) };
-    })
+    }
+
+pub concept-bytes : (t : Concept) → T (soundInner t) → Bytes (conceptBytes t)
+concept-bytes t h =
+    let s = conceptBytes t in
+    tree-bytes plainKind s (0 + length s) (λ a w c. (omega arith, none-bytes)) t mostLevels (start 0) (inner-at s 0 t h (stands-self s))
+
+inner-read : (s : List ℕ) (p : ℕ) (t : Concept) → T (soundInner t) → Stands s p (conceptBytes t)
+    → readInner s (p + length (conceptBytes t)) p ≡ good (t, past plainKind t (start p))
+inner-read s p t h k =
+    let end = p + length (conceptBytes t) in
+    node-read plainKind s end (noThresholds s) (plain-read s end) mostLevels t (start p) (inner-at s p t h k)
 
 -- ---- a threshold
 
@@ -144,6 +212,24 @@ pub threshold-length : (h : Threshold) → length (thresholdBytes h) ≡ 7 + len
 unfolding bytes
 threshold-length h = omega arith
 
+threshold-bytes : (h : Threshold) → T (soundThreshold h) → Bytes (thresholdBytes h)
+threshold-bytes h k =
+    let c = and-both (lawful (h .limit .num) (h .limit .den)) (soundInner (h .inner)) k in
+    let d = decoded (h .how) .1 in
+    let n = bytes 2 (h .limit .num) in
+    let m = bytes 2 (h .limit .den) in
+    let l = bytes 2 (length (conceptBytes (h .inner))) in
+    append-bytes (code (h .how) ∷ n ++ m ++ l) (conceptBytes (h .inner)) (append-bytes (code (h .how) ∷ n ++ m) l
+    (append-bytes (code (h .how) ∷ n) m (cons-bytes (code (h .how)) n (omega arith) (bytes-bytes 2 _)) (bytes-bytes 2 _)) (bytes-bytes 2 _))
+    (concept-bytes (h .inner) (c .1))
+
+thresholds-bytes : (hs : List Threshold) → T (every soundThreshold hs) → Bytes (thresholdsBytes hs)
+unfolding thresholdsBytes every
+thresholds-bytes [] k = none-bytes
+thresholds-bytes (h ∷ hs) k =
+    let c = and-both (soundThreshold h) (every soundThreshold hs) k in
+    append-bytes (thresholdBytes h) (thresholdsBytes hs) (threshold-bytes h (c .0)) (thresholds-bytes hs (c .1))
+
 -- ---- the thresholds of a label, which is of the written node `owner`
 
 abbrev partAt : ℕ → Threshold → ℕ → Part
@@ -152,6 +238,11 @@ partAt owner h p = record { owner = owner; first = p; len = length (conceptBytes
 unfoldable pub partsAt : List Threshold → ℕ → ℕ → List Part
 partsAt [] owner p = []
 partsAt (h ∷ hs) owner p = partAt owner h p ∷ partsAt hs owner (p + 7 + length (conceptBytes (h .inner)))
+
+pub at-length : (hs : List Threshold) (k p : ℕ) → length (partsAt hs k p) ≡ length hs
+unfolding partsAt
+at-length [] k p = refl
+at-length (h ∷ hs) k p = ap suc (at-length hs k _)
 
 abbrev pastOne : ℕ → Threshold → Spot → Spot
 pastOne owner h w =
@@ -217,7 +308,7 @@ module _ (s : List ℕ) (end : ℕ) where
       let one = stands-join s p (p + 1) (code (h .how) ∷ []) _ (byte-stands s p _ (c .how)) (number-stands s (p + 1) 2 _ bs (c .num)) refl in
       let two = stands-join s p (p + 3) (code (h .how) ∷ bytes 2 (h .limit .num)) _ one (number-stands s (p + 3) 2 _ bs (c .den)) refl in
       let three =
-          stands-join s p (p + 5) (code (h .how) ∷ bytes 2 (h .limit .num) ++ bytes 2 (h .limit .den)) _ two (number-stands s (p + 5) 2 _ bs (c .len)) refl in
+      stands-join s p (p + 5) (code (h .how) ∷ bytes 2 (h .limit .num) ++ bytes 2 (h .limit .den)) _ two (number-stands s (p + 5) 2 _ bs (c .len)) refl in
       stands-join s p (p + 7) (code (h .how) ∷ bytes 2 (h .limit .num) ++ bytes 2 (h .limit .den) ++ bytes 2 n) _ three (c .stands) refl
 
   pub record ThresholdsAt (owner : ℕ) (hs : List Threshold) (w : Spot) : Type 0 where
@@ -241,7 +332,7 @@ module _ (s : List ℕ) (end : ℕ) where
       let l = subst (Within end) (sym (past-all owner h hs w)) (c .fits) in
       let m = before-all owner hs (pastOne owner h w) l in
       let two =
-          stands-split s p (p + 7 + length (conceptBytes (h .inner))) (thresholdBytes h) (thresholdsBytes hs) (c .stands) (omega (arith, threshold-length h)) in
+      stands-split s p (p + 7 + length (conceptBytes (h .inner))) (thresholdBytes h) (thresholdsBytes hs) (c .stands) (omega (arith, threshold-length h)) in
       record {
         first = threshold-open h p (k .0) (two .0) (omega (arith, threshold-length h, m .reached));
         others = record { allowed = k .1; stands = two .1; fits = l };
@@ -254,8 +345,8 @@ module _ (s : List ℕ) (end : ℕ) where
       record {
         allowed = both-and (soundThreshold h) (every soundThreshold hs) (c .first .sound) (c .others .allowed);
         stands =
-          stands-join s p (p + 7 + length (conceptBytes (h .inner))) (thresholdBytes h) (thresholdsBytes hs) (threshold-close bs h p (c .first))
-              (c .others .stands) (omega (arith, threshold-length h));
+            stands-join s p (p + 7 + length (conceptBytes (h .inner))) (thresholdBytes h) (thresholdsBytes hs) (threshold-close bs h p (c .first))
+            (c .others .stands) (omega (arith, threshold-length h));
         fits = subst (Within end) (past-all owner h hs w) (c .others .fits);
       }
 
@@ -330,10 +421,10 @@ module _ (s : List ℕ) (end : ℕ) where
       of-fit requirement end 2 [] (p + 5) _ e₂ (λ l₃ e₃. of-test _ _ _ e₃ (λ b₄ e₄. of-take _ _ e₄ (λ x ex e₅. of-test _ _ _ e₅ (λ b₆ e₆.
       of-test _ _ _ e₆ (λ b₇ e₇. of-take _ _ e₇ (λ y ey e₈.
       let c =
-          node-back plainKind s inner-end (noThresholds s) (plain-back s inner-end bs) mostLevels (start (p + 7)) x
-              (record { reached = omega arith; few = omega arith; room = omega arith }) ex in
+      node-back plainKind s inner-end (noThresholds s) (plain-back s inner-end bs) mostLevels (start (p + 7)) x
+      (record { reached = omega arith; few = omega arith; room = omega arith }) ex in
       let n : len ≡ length (conceptBytes (x .0)) =
-          omega (arith, le-of-not-below (x .1 .next) inner-end b₆, ap (λ (z : Spot). z .next) (c .1), c .0 .fits .reached) in
+      omega (arith, le-of-not-below (x .1 .next) inner-end b₆, ap (λ (z : Spot). z .next) (c .1), c .0 .fits .reached) in
       let a = and-both (leb (number s p 1) 3) (lawful (number s (p + 1) 2) (number s (p + 3) 2)) (of-not (rules (number s p 1) (number s (p + 1) 2) (number s (p + 3) 2)) b₂) in
       let t : Threshold = record { how = comparison (number s p 1); limit = number s (p + 1) 2 // number s (p + 3) 2; inner = x .0 } in
       let few : nodes (x .0) ≤ mostNodes = omega (arith, c .0 .fits .few) in
@@ -350,11 +441,11 @@ module _ (s : List ℕ) (end : ℕ) where
         inside = inside;
       } in
       let room : length (w .parts ++ (partAt owner t p ∷ [])) ≤ mostThresholds =
-          omega (arith, le-of-not-below 15 (length (w .parts)) b₀, length-append (w .parts) (partAt owner t p ∷ [])) in
+      omega (arith, le-of-not-below 15 (length (w .parts)) b₀, length-append (w .parts) (partAt owner t p ∷ [])) in
       let g =
-          thresholds-back bs owner k (pastOne owner t w) y (record { reached = inside; few = h .few; room = room }) (rw n at ey) in
+      thresholds-back bs owner k (pastOne owner t w) y (record { reached = inside; few = h .few; room = room }) (rw n at ey) in
       subst (ThresholdsRead owner (suc k) w) (good-inj e₈)
-          (first-close bs owner t (y .0) w (record { first = f; others = g .0 }), ap suc (g .1), g .2 ∙ past-all owner t (y .0) w))))))))))
+      (first-close bs owner t (y .0) w (record { first = f; others = g .0 }), ap suc (g .1), g .2 ∙ past-all owner t (y .0) w))))))))))
 
   -- the part x is where the threshold h stands
   pub record PartAt (x : Part) (h : Threshold) : Type 0 where
@@ -382,6 +473,12 @@ module _ (s : List ℕ) (end : ℕ) where
   pub outer-at : (a : Label) (w : Spot) → LabelAt outerKind s end a w → ThresholdsAt (w .nodes) (a .thresholds) (entered w)
   outer-at a w h =
       record { allowed = and-both (isSet (a .names)) (every soundThreshold (a .thresholds)) (h .allowed) .1; stands = h .rest; fits = h .fits }
+
+  pub outer-bytes : (a : Label) (w : Spot) → LabelAt outerKind s end a w → (length (a .thresholds) < 256) × Bytes (thresholdsBytes (a .thresholds))
+  outer-bytes a w h =
+      let hs = a .thresholds in
+      let p = w .next + 10 in
+      (omega (arith, h .fits .room, at-length hs (w .nodes) p, length-append (w .parts) (partsAt hs (w .nodes) p)), thresholds-bytes hs (outer-at a w h .allowed))
 
   pub outer-read : (a : Label) (w : Spot) → LabelAt outerKind s end a w → withThresholds s end w ≡ good (a, pastLabel outerKind a w)
   outer-read a w h =

@@ -2,7 +2,7 @@
 -- and then ends past them: `node-read` and `node-back`, for a label reader that is such (`label-read`, `label-back`).
 -- Assumes nothing.
 use mathlib.Core.Path.{_≡_, refl, sym, ap, _∙_, subst}
-use mathlib.Core.Bool.{Bool, true, false, _&&_}
+use mathlib.Core.Bool.{Bool, false, _&&_}
 use mathlib.Core.List.{List, [], _∷_, _++_, map, append-assoc, append-nil, map-append}
 use Prim.Native.Nat.{ℕ, zero, suc, _+_, _*_, _≤_, _<_, max}
 use native.Mathlib.Nat.{add-zero, add-assoc}
@@ -10,16 +10,37 @@ use native.Mathlib.Omega.{arith}
 use lib.Dec.{T, ltb, leb, leb→le, le→leb}
 use lib.ListN.{length, length-append}
 use Rattle.meaning.specs.declared.Side.the-variants.{Requirement as requirement}
-use Rattle.meaning.specs.Refusal.{Answer, good, refused, at, refuseIf, _>>=_, _>>_}
-use Rattle.meaning.specs.Bytes.{number, bytes, Bytes, fields}
+use Rattle.meaning.specs.Refusal.{Answer, good}
+use Rattle.meaning.specs.Bytes.{number, bytes, Bytes}
 use Rattle.meaning.specs.Tree.{Tree, node, Forest, none, more, count, nodes, nodesF, levels, levelsF, each, eachF, written, writtenF}
 use Rattle.meaning.specs.Requirement.{every}
 use Rattle.meaning.specs.Message.{mostNodes, mostThresholds, nodeBytes, childrenBytes, Part, Spot, entered, readNode, readChildren}
 use Rattle.meaning.specs.Message.{passed as onward}
 use Rattle.meaning.proofs.Tests.{and-both, both-and, every-append}
 use Rattle.meaning.proofs.Reading.{
-  not-good, good-inj, then-test, then-take, then-fit, of-test, of-take, of-fit, not-below, le-of-not-below, total, total-append, fields-fitted, Stands, stands-none, stands-split, stands-join,
-  bytes-length, byte-of, byte-stands,
+  not-good,
+  good-inj,
+  then-test,
+  then-take,
+  then-fit,
+  of-test,
+  of-take,
+  of-fit,
+  not-below,
+  le-of-not-below,
+  total,
+  total-append,
+  fields-fitted,
+  Stands,
+  stands-none,
+  stands-split,
+  stands-join,
+  byte-of,
+  byte-stands,
+  none-bytes,
+  cons-bytes,
+  append-bytes,
+  bytes-bytes,
 }
 
 -- what a kind of label is: which are allowed, its names, how many thresholds, their bytes, and where these stand from a place on, at a written node
@@ -38,6 +59,11 @@ pub record Within (end : ℕ) (w : Spot) : Type 0 where
 
 pub same-spot : (v w : Spot) → v .next ≡ w .next → v .nodes ≡ w .nodes → v .parts ≡ w .parts → v ≡ w
 same-spot v w e f g = λ i. record { next = e i; nodes = f i; parts = g i }
+
+count-nodes : {L : Type 0} (f : Forest L) → count f ≤ nodesF f
+unfolding count nodes
+count-nodes none = omega arith
+count-nodes (more r (node a g) f) = omega (arith, count-nodes f)
 
 module _ {L : Type 0} (K : Kind L) where
   abbrev pub treeBytes : Tree L → List ℕ
@@ -238,6 +264,31 @@ module _ {L : Type 0} (K : Kind L) where
     none-at left w h =
         record { allowed = tt; shallow = omega arith; stands = stands-none s (w .next); fits = subst (Within end) (sym (past-none w)) h }
 
+    -- ---- the bytes are bytes
+
+    module _ (label-bytes : (a : L) (w : Spot) → LabelAt a w → (K .howMany a < 256) × Bytes (K .own a)) where
+      mutual
+        unfolding nodeBytes levels
+
+        pub tree-bytes : (t : Tree L) (left : ℕ) (w : Spot) → TreeAt left t w → Bytes (treeBytes t)
+        tree-bytes (node a f) zero w h = absurd (omega (arith, h .shallow))
+        tree-bytes (node a f) (suc left) w h =
+            let c = node-open left a f w h in
+            let o = label-bytes a w (c .label) in
+            let few = c .below .fits .few in
+            let two = cons-bytes (K .howMany a) (count f ∷ []) (o .0) (cons-bytes (count f) [] (omega (arith, count-nodes f)) none-bytes) in
+            append-bytes (fixed a (count f) ++ K .own a) (forestBytes f) (append-bytes (fixed a (count f)) (K .own a)
+            (append-bytes (bytes 8 (K .namesOf a)) (K .howMany a ∷ count f ∷ []) (bytes-bytes 8 (K .namesOf a)) two) (o .1))
+            (forest-bytes f left (pastLabel a w) (c .below))
+
+        forest-bytes : (f : Forest L) (left : ℕ) (w : Spot) → ForestAt left f w → Bytes (forestBytes f)
+        forest-bytes none left w h = none-bytes
+        forest-bytes (more r t f) left w h =
+            let c = more-open left r t f w h in
+            let low = c .low in
+            append-bytes (r ∷ treeBytes t) (forestBytes f) (cons-bytes r (treeBytes t) (omega arith) (tree-bytes t left (onward 1 w) (c .child)))
+            (forest-bytes f left (past t (onward 1 w)) (c .others))
+
     -- ---- reading
 
     module _ (label : Spot → Answer (L × Spot)) where
@@ -256,7 +307,7 @@ module _ {L : Type 0} (K : Kind L) where
             let l : ltb 31 (number s (w .next) 1) ≡ false = rw (c .role) (not-below 31 r (c .low)) in
             let n : count (more r t f) ≡ suc (count f) = omega arith in
             ap (λ (n : ℕ). readChildren label s end child n w) n
-                ∙ then-fit _ _ _ _ _ k (then-test _ _ _ l (then-take _ _ (t, v) e (then-take _ _ (f, pastF f v) g (rw (c .role, past-more r t f w)))))
+            ∙ then-fit _ _ _ _ _ k (then-test _ _ _ l (then-take _ _ (t, v) e (then-take _ _ (f, pastF f v) g (rw (c .role, past-more r t f w)))))
 
         pub node-read : (left : ℕ) (t : Tree L) (w : Spot) → TreeAt left t w → readNode label s end left w ≡ good (t, past t w)
         unfolding readNode levels
@@ -300,6 +351,6 @@ module _ {L : Type 0} (K : Kind L) where
             let child : Spot → Answer (Tree L × Spot) = λ z. readNode label s end left z in
             let k = number s (w .next + 9) 1 in
             let g =
-                children-back left child (λ z q. node-back left z q) k v y (c .0 .fits) (subst (λ (z : Spot). readChildren label s end child k z ≡ good y) (c .1) ey) in
+            children-back left child (λ z q. node-back left z q) k v y (c .0 .fits) (subst (λ (z : Spot). readChildren label s end child k z ≡ good y) (c .1) ey) in
             let m = node-close left (x .0) (y .0) w (record { label = c .0; counted = g .1; below = g .0 }) in
             subst (TreeRead (suc left) w) (good-inj e₄) (m, g .2 ∙ past-node (x .0) (y .0) w)))))

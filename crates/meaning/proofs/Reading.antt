@@ -214,6 +214,30 @@ stands-taken s p xs h l =
     let e : length (take (length xs) (drop p s)) ≡ length xs = simp (length-take, length-drop) (omega arith) in
     ext-getD 0 _ xs e (λ i b. getD-take (length xs) (drop p s) i 0 (omega arith) ∙ getD-drop p s i 0 ∙ h i (omega arith))
 
+-- ---- lists of bytes
+
+pub none-bytes : Bytes []
+none-bytes i = omega arith
+
+pub cons-bytes : (x : ℕ) (xs : List ℕ) → x < 256 → Bytes xs → Bytes (x ∷ xs)
+cons-bytes x xs h k zero = h
+cons-bytes x xs h k (suc i) = k i
+
+pub append-bytes : (xs ys : List ℕ) → Bytes xs → Bytes ys → Bytes (xs ++ ys)
+append-bytes [] ys h k = k
+append-bytes (x ∷ xs) ys h k = cons-bytes x (xs ++ ys) (h 0) (append-bytes xs ys (λ i. h (suc i)) k)
+
+pub bytes-bytes : (w n : ℕ) → Bytes (bytes w n)
+unfolding bytes
+bytes-bytes zero n = none-bytes
+bytes-bytes (suc w) n =
+    append-bytes (bytes w (n / 256)) (n % 256 ∷ []) (bytes-bytes w (n / 256)) (cons-bytes (n % 256) [] (omega arith) none-bytes)
+
+pub headed-bytes : (body : List ℕ) → Bytes body → Bytes (headed body)
+unfolding headed
+headed-bytes body h =
+    append-bytes (1 ∷ bytes 2 (length body)) body (cons-bytes 1 (bytes 2 (length body)) (omega arith) (bytes-bytes 2 (length body))) h
+
 -- ---- a step that is passed, and then the rest
 
 pub then-test : {B : Type 0} (b : Bool) (r : Refusal) (k : Answer B) {c : Answer B} → b ≡ false → k ≡ c → (refuseIf b r >> k) ≡ c
@@ -277,8 +301,11 @@ pub headed-back : (side : Side) (s : List ℕ) {end : ℕ} → Bytes s → readH
 unfolding headed
 headed-back side s bs e =
     let c = head-back side unequal s e in
-    let d = eq-of-unequal (number s 1 2) (length s - 3) (c .2) in
-    (omega (arith, c .3), omega (arith, c .0, c .3), λ body h k.
-    let two = number-stands s 1 2 (length body) bs (omega (arith, c .3)) in
-    let front = stands-join s 0 1 (1 ∷ []) (bytes 2 (length body)) (byte-stands s 0 1 (c .1)) two refl in
-    stands-whole s (headed body) (stands-join s 0 3 (1 ∷ bytes 2 (length body)) body front h refl) (omega (arith, headed-length body, c .0, c .3)))
+    let d = eq-of-unequal (number s 1 2) (length s - 3) (c .2) in (
+      omega (arith, c .3),
+      omega (arith, c .0, c .3),
+      λ body h k.
+          let two = number-stands s 1 2 (length body) bs (omega (arith, c .3)) in
+          let front = stands-join s 0 1 (1 ∷ []) (bytes 2 (length body)) (byte-stands s 0 1 (c .1)) two refl in
+          stands-whole s (headed body) (stands-join s 0 3 (1 ∷ bytes 2 (length body)) body front h refl) (omega (arith, headed-length body, c .0, c .3)),
+    )
