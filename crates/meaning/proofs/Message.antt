@@ -3,22 +3,8 @@
 -- Assumes nothing.
 use mathlib.Core.Path.{_≡_, refl, sym, ap, ap₂, _∙_, subst}
 use mathlib.Core.Logic.{_⊎_, inl, inr}
-use mathlib.Core.List.{
-  List,
-  [],
-  _∷_,
-  _++_,
-  map,
-  append-assoc,
-  Forall₂,
-  Forall₂·nil,
-  Forall₂·cons,
-  List·Memᴰ,
-  List·Memᴰ·head,
-  List·Memᴰ·tail,
-  List·Memᴰ·cases-cons,
-  List·Memᴰ·not-nil,
-}
+use mathlib.Core.List.{List, [], _∷_, _++_, map, append-assoc, Forall₂, Forall₂·nil, Forall₂·cons, List·Memᴰ, List·Memᴰ·head, List·Memᴰ·tail}
+use mathlib.Core.List.{List·Memᴰ·cases-cons, List·Memᴰ·not-nil}
 use Prim.Native.Nat.{ℕ, zero, suc, _+_, _*_, _≤_, _<_}
 use native.Mathlib.Omega.{arith}
 use lib.Dec.{T, ltb, leb, leb→le, le→leb}
@@ -30,83 +16,17 @@ use Rattle.meaning.specs.Bytes.{Bytes, readHead, unequal}
 use Rattle.meaning.specs.Names.{isSet}
 use Rattle.meaning.specs.Tree.{node, Forest, none, more, nodes, levels, written, writtenF}
 use Rattle.meaning.specs.Requirement.{Threshold, Label, Requirement, every}
-use Rattle.meaning.specs.Message.{
-  mostLevels,
-  mostNodes,
-  mostThresholds,
-  lawful,
-  bounded,
-  soundInner,
-  soundThreshold,
-  soundLabel,
-  joined,
-  thresholdsOf,
-  sound,
-  conceptBytes,
-  thresholdsBytes,
-  requirementBytes,
-  encode,
-  Part,
-  Spot,
-  entered,
-  readNode,
-  withThresholds,
-  readRequirement,
-  partBytes,
-  kth,
-  partOf,
-  innerPart,
-}
+use Rattle.meaning.specs.Message.{mostLevels, mostNodes, mostThresholds, lawful, bounded, soundInner, soundThreshold, soundLabel, joined}
+use Rattle.meaning.specs.Message.{thresholdsOf, sound, conceptBytes, thresholdsBytes, requirementBytes, encode, Part, Spot, entered, readNode}
+use Rattle.meaning.specs.Message.{withThresholds, readRequirement, partBytes, kth, partOf, innerPart}
 use Rattle.meaning.specs.Message.{passed as onward}
 use Rattle.meaning.proofs.Tests.{and-both, both-and}
-use Rattle.meaning.proofs.Reading.{
-  good-inj,
-  then-test,
-  then-take,
-  of-test,
-  of-take,
-  not-below,
-  le-of-not-below,
-  total,
-  stands-taken,
-  headed-length,
-  headed-bytes,
-  headed-stands,
-  headed-read,
-  headed-back,
-}
-use Rattle.meaning.proofs.MessageTree.{
-  past,
-  pastLabel,
-  partsOf,
-  partsOfF,
-  owned,
-  tree-length,
-  tree-bytes,
-  each-written,
-  TreeAt,
-  ForestAt,
-  node-open,
-  more-open,
-  node-read,
-  node-back,
-}
-use Rattle.meaning.proofs.MessageLabel.{
-  bounded-open,
-  bounded-close,
-  concept-least,
-  concept-most,
-  threshold-length,
-  at-length,
-  outerKind,
-  start,
-  PartAt,
-  parts-at,
-  outer-at,
-  outer-bytes,
-  outer-read,
-  outer-back,
-}
+use Rattle.meaning.proofs.Reading.{good-inj, then-test, then-take, of-test, of-take, not-below, le-of-not-below, total, stands-taken}
+use Rattle.meaning.proofs.Reading.{headed-length, headed-bytes, headed-stands, headed-read, headed-back}
+use Rattle.meaning.proofs.MessageTree.{past, pastLabel, partsOf, partsOfF, owned, tree-length, tree-bytes, each-written, TreeAt, ForestAt}
+use Rattle.meaning.proofs.MessageTree.{node-open, more-open, node-read, node-back}
+use Rattle.meaning.proofs.MessageLabel.{bounded-open, bounded-close, concept-least, concept-most, threshold-length, at-length, outerKind}
+use Rattle.meaning.proofs.MessageLabel.{start, PartAt, parts-at, outer-at, outer-bytes, outer-read, outer-back}
 
 -- ---- the thresholds of a requirement
 

@@ -17,74 +17,15 @@ use Rattle.meaning.specs.Tree.{Tree, node, Forest, none, more, Concept, 
 use Rattle.meaning.specs.Fraction.{_//_, gcd, Comparison, less, atMost, greater, atLeast}
 use Rattle.meaning.specs.Reduce.{reduce, size, mostSize}
 use Rattle.meaning.specs.Requirement.{Threshold, Label, every}
-use Rattle.meaning.specs.Message.{
-  mostLevels,
-  mostNodes,
-  mostThresholds,
-  mostQ,
-  lawful,
-  code,
-  comparison,
-  bounded,
-  soundInner,
-  soundThreshold,
-  soundLabel,
-  conceptBytes,
-  thresholdBytes,
-  thresholdsBytes,
-  Part,
-  Spot,
-  entered,
-  noThresholds,
-  readInner,
-  readThresholds,
-  withThresholds,
-}
+use Rattle.meaning.specs.Message.{mostLevels, mostNodes, mostThresholds, mostQ, lawful, code, comparison, bounded, soundInner, soundThreshold}
+use Rattle.meaning.specs.Message.{soundLabel, conceptBytes, thresholdBytes, thresholdsBytes, Part, Spot, entered, noThresholds, readInner}
+use Rattle.meaning.specs.Message.{readThresholds, withThresholds}
 use Rattle.meaning.proofs.Tests.{and-both, both-and, is-true, of-not}
-use Rattle.meaning.proofs.Reading.{
-  good-inj,
-  then-test,
-  then-take,
-  then-fit,
-  of-test,
-  of-take,
-  of-fit,
-  not-below,
-  le-of-not-below,
-  total,
-  Stands,
-  stands-none,
-  stands-split,
-  stands-join,
-  number-of,
-  number-below,
-  number-stands,
-  bytes-of,
-  byte-of,
-  byte-stands,
-  stands-self,
-  none-bytes,
-  cons-bytes,
-  append-bytes,
-  bytes-bytes,
-}
-use Rattle.meaning.proofs.MessageTree.{
-  Kind,
-  Within,
-  same-spot,
-  pastLabel,
-  past,
-  partsOf,
-  partsOfF,
-  owned,
-  tree-length,
-  tree-bytes,
-  LabelAt,
-  TreeAt,
-  LabelRead,
-  node-read,
-  node-back,
-}
+use Rattle.meaning.proofs.Reading.{good-inj, then-test, then-take, then-fit, of-test, of-take, of-fit, not-below, le-of-not-below, total}
+use Rattle.meaning.proofs.Reading.{Stands, stands-none, stands-split, stands-join, number-of, number-below, number-stands, bytes-of, byte-of}
+use Rattle.meaning.proofs.Reading.{byte-stands, stands-self, none-bytes, cons-bytes, append-bytes, bytes-bytes}
+use Rattle.meaning.proofs.MessageTree.{Kind, Within, same-spot, pastLabel, past, partsOf, partsOfF, owned, tree-length, tree-bytes, LabelAt}
+use Rattle.meaning.proofs.MessageTree.{TreeAt, LabelRead, TreeRead, node-read, node-back}
 
 -- ---- inner concepts
 
@@ -100,7 +41,8 @@ plain-read s end a w h =
     let e = number-of s (w .next) 8 a (ltb→lt a 18446744073709551616 (h .allowed)) (h .names) in
     then-test _ _ _ (rw (h .many) (not-below 0 0 (omega arith))) (rw (e, past-plain a w))
 
-plain-back : (s : List ℕ) (end : ℕ) → Bytes s → (w : Spot) (r : ℕ × Spot) → Within end (entered w) → noThresholds s w ≡ good r → LabelRead plainKind s end w r
+plain-back : (s : List ℕ) (end : ℕ) → Bytes s → (w : Spot) (r : ℕ × Spot) → Within end (entered w) → noThresholds s w ≡ good r
+    → LabelRead plainKind s end w r
 unfolding noThresholds
 plain-back s end bs w r h e =
     of-test _ _ _ e (λ b e₁.
@@ -184,6 +126,12 @@ inner-read s p t h k =
     let end = p + length (conceptBytes t) in
     node-read plainKind s end (noThresholds s) (plain-read s end) mostLevels t (start p) (inner-at s p t h k)
 
+inner-back : (s : List ℕ) (end p : ℕ) (r : Concept × Spot) → Bytes s → p ≤ end → readInner s end p ≡ good r
+    → TreeRead plainKind s end mostLevels (start p) r
+inner-back s end p r bs l e =
+    let w : Within end (start p) = record { reached = l; few = omega arith; room = omega arith } in
+    node-back plainKind s end (noThresholds s) (plain-back s end bs) mostLevels (start p) r w e
+
 -- ---- a threshold
 
 decoded : (c : Comparison) → (comparison (code c) ≡ c) × (code c ≤ 3)
@@ -216,12 +164,12 @@ threshold-bytes : (h : Threshold) → T (soundThreshold h) → Bytes (thresholdB
 threshold-bytes h k =
     let c = and-both (lawful (h .limit .num) (h .limit .den)) (soundInner (h .inner)) k in
     let d = decoded (h .how) .1 in
-    let n = bytes 2 (h .limit .num) in
-    let m = bytes 2 (h .limit .den) in
-    let l = bytes 2 (length (conceptBytes (h .inner))) in
-    append-bytes (code (h .how) ∷ n ++ m ++ l) (conceptBytes (h .inner)) (append-bytes (code (h .how) ∷ n ++ m) l
-    (append-bytes (code (h .how) ∷ n) m (cons-bytes (code (h .how)) n (omega arith) (bytes-bytes 2 _)) (bytes-bytes 2 _)) (bytes-bytes 2 _))
-    (concept-bytes (h .inner) (c .1))
+    let n = length (conceptBytes (h .inner)) in
+    let to = code (h .how) ∷ bytes 2 (h .limit .num) in
+    let one = cons-bytes (code (h .how)) (bytes 2 (h .limit .num)) (omega arith) (bytes-bytes 2 (h .limit .num)) in
+    let two = append-bytes to (bytes 2 (h .limit .den)) one (bytes-bytes 2 (h .limit .den)) in
+    let three = append-bytes (to ++ bytes 2 (h .limit .den)) (bytes 2 n) two (bytes-bytes 2 n) in
+    append-bytes (to ++ bytes 2 (h .limit .den) ++ bytes 2 n) (conceptBytes (h .inner)) three (concept-bytes (h .inner) (c .1))
 
 thresholds-bytes : (hs : List Threshold) → T (every soundThreshold hs) → Bytes (thresholdsBytes hs)
 unfolding thresholdsBytes every
@@ -280,16 +228,18 @@ module _ (s : List ℕ) (end : ℕ) where
     pub stands : Stands s (p + 7) (conceptBytes (h .inner))
     pub inside : p + 7 + length (conceptBytes (h .inner)) ≤ end
 
-  threshold-open : (h : Threshold) (p : ℕ) → T (soundThreshold h) → Stands s p (thresholdBytes h) → p + length (thresholdBytes h) ≤ end → ThresholdAt h p
+  threshold-open : (h : Threshold) (p : ℕ) → T (soundThreshold h) → Stands s p (thresholdBytes h) → p + length (thresholdBytes h) ≤ end
+      → ThresholdAt h p
   unfolding bytes
   threshold-open h p k st l =
       let c = and-both (lawful (h .limit .num) (h .limit .den)) (soundInner (h .inner)) k in
       let d = lawful-open (h .limit .num) (h .limit .den) (c .0) in
       let m = concept-most (h .inner) (c .1) in
       let n = length (conceptBytes (h .inner)) in
-      let four = stands-split s p (p + 7) (code (h .how) ∷ bytes 2 (h .limit .num) ++ bytes 2 (h .limit .den) ++ bytes 2 n) _ st refl in
-      let three = stands-split s p (p + 5) (code (h .how) ∷ bytes 2 (h .limit .num) ++ bytes 2 (h .limit .den)) _ (four .0) refl in
-      let two = stands-split s p (p + 3) (code (h .how) ∷ bytes 2 (h .limit .num)) _ (three .0) refl in
+      let to = code (h .how) ∷ bytes 2 (h .limit .num) in
+      let four = stands-split s p (p + 7) (to ++ bytes 2 (h .limit .den) ++ bytes 2 n) _ st refl in
+      let three = stands-split s p (p + 5) (to ++ bytes 2 (h .limit .den)) _ (four .0) refl in
+      let two = stands-split s p (p + 3) to _ (three .0) refl in
       let one = stands-split s p (p + 1) (code (h .how) ∷ []) _ (two .0) refl in
       record {
         sound = k;
@@ -305,11 +255,11 @@ module _ (s : List ℕ) (end : ℕ) where
   unfolding bytes
   threshold-close bs h p c =
       let n = length (conceptBytes (h .inner)) in
+      let to = code (h .how) ∷ bytes 2 (h .limit .num) in
       let one = stands-join s p (p + 1) (code (h .how) ∷ []) _ (byte-stands s p _ (c .how)) (number-stands s (p + 1) 2 _ bs (c .num)) refl in
-      let two = stands-join s p (p + 3) (code (h .how) ∷ bytes 2 (h .limit .num)) _ one (number-stands s (p + 3) 2 _ bs (c .den)) refl in
-      let three =
-      stands-join s p (p + 5) (code (h .how) ∷ bytes 2 (h .limit .num) ++ bytes 2 (h .limit .den)) _ two (number-stands s (p + 5) 2 _ bs (c .len)) refl in
-      stands-join s p (p + 7) (code (h .how) ∷ bytes 2 (h .limit .num) ++ bytes 2 (h .limit .den) ++ bytes 2 n) _ three (c .stands) refl
+      let two = stands-join s p (p + 3) to _ one (number-stands s (p + 3) 2 _ bs (c .den)) refl in
+      let three = stands-join s p (p + 5) (to ++ bytes 2 (h .limit .den)) _ two (number-stands s (p + 5) 2 _ bs (c .len)) refl in
+      stands-join s p (p + 7) (to ++ bytes 2 (h .limit .den) ++ bytes 2 n) _ three (c .stands) refl
 
   pub record ThresholdsAt (owner : ℕ) (hs : List Threshold) (w : Spot) : Type 0 where
     pub allowed : T (every soundThreshold hs)
@@ -331,10 +281,10 @@ module _ (s : List ℕ) (end : ℕ) where
       let k = and-both (soundThreshold h) (every soundThreshold hs) (c .allowed) in
       let l = subst (Within end) (sym (past-all owner h hs w)) (c .fits) in
       let m = before-all owner hs (pastOne owner h w) l in
-      let two =
-      stands-split s p (p + 7 + length (conceptBytes (h .inner))) (thresholdBytes h) (thresholdsBytes hs) (c .stands) (omega (arith, threshold-length h)) in
+      let n = threshold-length h in
+      let two = stands-split s p (p + 7 + length (conceptBytes (h .inner))) (thresholdBytes h) (thresholdsBytes hs) (c .stands) (omega arith) in
       record {
-        first = threshold-open h p (k .0) (two .0) (omega (arith, threshold-length h, m .reached));
+        first = threshold-open h p (k .0) (two .0) (omega (arith, m .reached));
         others = record { allowed = k .1; stands = two .1; fits = l };
       }
 
@@ -342,11 +292,11 @@ module _ (s : List ℕ) (end : ℕ) where
   unfolding thresholdsBytes every
   first-close bs owner h hs w c =
       let p = w .next in
+      let n = threshold-length h in
+      let one = threshold-close bs h p (c .first) in
       record {
         allowed = both-and (soundThreshold h) (every soundThreshold hs) (c .first .sound) (c .others .allowed);
-        stands =
-            stands-join s p (p + 7 + length (conceptBytes (h .inner))) (thresholdBytes h) (thresholdsBytes hs) (threshold-close bs h p (c .first))
-            (c .others .stands) (omega (arith, threshold-length h));
+        stands = stands-join s p (p + 7 + length (conceptBytes (h .inner))) (thresholdBytes h) (thresholdsBytes hs) one (c .others .stands) (omega arith);
         fits = subst (Within end) (past-all owner h hs w) (c .others .fits);
       }
 
@@ -400,8 +350,8 @@ module _ (s : List ℕ) (end : ℕ) where
       let rule = both-and (leb (code (h .how)) 3) (lawful (h .limit .num) (h .limit .den)) (le→leb (code (h .how)) 3 (d .1)) (k .0) in
       turn-is owner (length hs) w ∙ rw (f .how, f .num, f .den, f .len) (
       then-test _ _ _ (not-below 15 (length (w .parts)) few) (then-fit requirement end (1 ∷ 2 ∷ 2 ∷ []) p _ (omega arith)
-      (then-test _ _ _ (ap not (is-true (rules (code (h .how)) (h .limit .num) (h .limit .den)) rule)) (then-fit requirement end (2 ∷ []) (p + 5) _ (omega arith)
-      (then-test _ _ _ (not-below end n inside) (then-take _ _ (h .inner, v) (inner-read s (p + 7) (h .inner) (k .1) (f .stands))
+      (then-test _ _ _ (ap not (is-true (rules (code (h .how)) (h .limit .num) (h .limit .den)) rule))
+      (then-fit requirement end (2 ∷ []) (p + 5) _ (omega arith) (then-test _ _ _ (not-below end n inside) (then-take _ _ (h .inner, v) (inner-read s (p + 7) (h .inner) (k .1) (f .stands))
       (then-test _ _ _ (not-below n n (omega arith)) (then-test _ _ _ (not-below 60 _ (sound-inner (h .inner) (k .1) .1))
       (then-take _ _ (hs, pastAll owner hs (pastOne owner h w)) g
       (ap₂ (λ (z : Comparison) (u : Spot). good (record { how = z; limit = h .limit; inner = h .inner } ∷ hs, u)) (d .0) (past-all owner h hs w)))))))))))
@@ -416,36 +366,34 @@ module _ (s : List ℕ) (end : ℕ) where
   thresholds-back bs owner (suc k) w r h e =
       let p = w .next in
       let len = number s (p + 5) 2 in
-      let inner-end = p + 7 + len in
+      let last = p + 7 + len in
       of-test _ _ _ (sym (turn-is owner k w) ∙ e) (λ b₀ e₀. of-fit requirement end 1 (2 ∷ 2 ∷ []) p _ e₀ (λ l₁ e₁. of-test _ _ _ e₁ (λ b₂ e₂.
       of-fit requirement end 2 [] (p + 5) _ e₂ (λ l₃ e₃. of-test _ _ _ e₃ (λ b₄ e₄. of-take _ _ e₄ (λ x ex e₅. of-test _ _ _ e₅ (λ b₆ e₆.
       of-test _ _ _ e₆ (λ b₇ e₇. of-take _ _ e₇ (λ y ey e₈.
-      let c =
-      node-back plainKind s inner-end (noThresholds s) (plain-back s inner-end bs) mostLevels (start (p + 7)) x
-      (record { reached = omega arith; few = omega arith; room = omega arith }) ex in
-      let n : len ≡ length (conceptBytes (x .0)) =
-      omega (arith, le-of-not-below (x .1 .next) inner-end b₆, ap (λ (z : Spot). z .next) (c .1), c .0 .fits .reached) in
-      let a = and-both (leb (number s p 1) 3) (lawful (number s (p + 1) 2) (number s (p + 3) 2)) (of-not (rules (number s p 1) (number s (p + 1) 2) (number s (p + 3) 2)) b₂) in
-      let t : Threshold = record { how = comparison (number s p 1); limit = number s (p + 1) 2 // number s (p + 3) 2; inner = x .0 } in
+      let c = inner-back s last (p + 7) x bs (omega arith) ex in
+      let next = ap (λ (z : Spot). z .next) (c .1) in
+      let same : len ≡ length (conceptBytes (x .0)) = omega (arith, le-of-not-below (x .1 .next) last b₆, c .0 .fits .reached) in
+      let n = number s p 1 in
+      let t : Threshold = record { how = comparison n; limit = number s (p + 1) 2 // number s (p + 3) 2; inner = x .0 } in
+      let rule = and-both (leb n 3) (lawful (t .limit .num) (t .limit .den)) (of-not (rules n (t .limit .num) (t .limit .den)) b₂) in
       let few : nodes (x .0) ≤ mostNodes = omega (arith, c .0 .fits .few) in
       let inner = bounded-close isSet (x .0) (c .0 .allowed) (c .0 .shallow) few in
       let small = le→leb (size (reduce (x .0))) mostSize (le-of-not-below 60 (size (reduce (x .0))) b₇) in
-      let inside : p + 7 + length (conceptBytes (x .0)) ≤ end = omega (arith, le-of-not-below end inner-end b₄) in
+      let inside : p + 7 + length (conceptBytes (x .0)) ≤ end = omega (arith, le-of-not-below end last b₄) in
       let f : ThresholdAt t p = record {
-        sound = both-and (lawful (number s (p + 1) 2) (number s (p + 3) 2)) (soundInner (x .0)) (a .1) (both-and (bounded isSet (x .0)) _ inner small);
-        how = coded (number s p 1) (leb→le (number s p 1) 3 (a .0));
+        sound = both-and (lawful (t .limit .num) (t .limit .den)) (soundInner (x .0)) (rule .1) (both-and (bounded isSet (x .0)) _ inner small);
+        how = coded n (leb→le n 3 (rule .0));
         num = refl;
         den = refl;
-        len = n;
+        len = same;
         stands = c .0 .stands;
         inside = inside;
       } in
-      let room : length (w .parts ++ (partAt owner t p ∷ [])) ≤ mostThresholds =
-      omega (arith, le-of-not-below 15 (length (w .parts)) b₀, length-append (w .parts) (partAt owner t p ∷ [])) in
-      let g =
-      thresholds-back bs owner k (pastOne owner t w) y (record { reached = inside; few = h .few; room = room }) (rw n at ey) in
-      subst (ThresholdsRead owner (suc k) w) (good-inj e₈)
-      (first-close bs owner t (y .0) w (record { first = f; others = g .0 }), ap suc (g .1), g .2 ∙ past-all owner t (y .0) w))))))))))
+      let more = length-append (w .parts) (partAt owner t p ∷ []) in
+      let room : length (w .parts ++ (partAt owner t p ∷ [])) ≤ mostThresholds = omega (arith, le-of-not-below 15 (length (w .parts)) b₀) in
+      let g = thresholds-back bs owner k (pastOne owner t w) y (record { reached = inside; few = h .few; room = room }) (rw same at ey) in
+      let all = first-close bs owner t (y .0) w (record { first = f; others = g .0 }) in
+      subst (ThresholdsRead owner (suc k) w) (good-inj e₈) (all, ap suc (g .1), g .2 ∙ past-all owner t (y .0) w))))))))))
 
   -- the part x is where the threshold h stands
   pub record PartAt (x : Part) (h : Threshold) : Type 0 where
@@ -478,7 +426,8 @@ module _ (s : List ℕ) (end : ℕ) where
   outer-bytes a w h =
       let hs = a .thresholds in
       let p = w .next + 10 in
-      (omega (arith, h .fits .room, at-length hs (w .nodes) p, length-append (w .parts) (partsAt hs (w .nodes) p)), thresholds-bytes hs (outer-at a w h .allowed))
+      let n = length-append (w .parts) (partsAt hs (w .nodes) p) in
+      (omega (arith, h .fits .room, at-length hs (w .nodes) p), thresholds-bytes hs (outer-at a w h .allowed))
 
   pub outer-read : (a : Label) (w : Spot) → LabelAt outerKind s end a w → withThresholds s end w ≡ good (a, pastLabel outerKind a w)
   outer-read a w h =

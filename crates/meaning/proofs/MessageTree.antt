@@ -17,31 +17,9 @@ use Rattle.meaning.specs.Requirement.{every}
 use Rattle.meaning.specs.Message.{mostNodes, mostThresholds, nodeBytes, childrenBytes, Part, Spot, entered, readNode, readChildren}
 use Rattle.meaning.specs.Message.{passed as onward}
 use Rattle.meaning.proofs.Tests.{and-both, both-and, every-append}
-use Rattle.meaning.proofs.Reading.{
-  not-good,
-  good-inj,
-  then-test,
-  then-take,
-  then-fit,
-  of-test,
-  of-take,
-  of-fit,
-  not-below,
-  le-of-not-below,
-  total,
-  total-append,
-  fields-fitted,
-  Stands,
-  stands-none,
-  stands-split,
-  stands-join,
-  byte-of,
-  byte-stands,
-  none-bytes,
-  cons-bytes,
-  append-bytes,
-  bytes-bytes,
-}
+use Rattle.meaning.proofs.Reading.{not-good, good-inj, then-test, then-take, then-fit, of-test, of-take, of-fit, not-below, le-of-not-below}
+use Rattle.meaning.proofs.Reading.{total, total-append, fields-fitted, Stands, stands-none, stands-split, stands-join, byte-of, byte-stands}
+use Rattle.meaning.proofs.Reading.{none-bytes, cons-bytes, append-bytes, bytes-bytes}
 
 -- what a kind of label is: which are allowed, its names, how many thresholds, their bytes, and where these stand from a place on, at a written node
 pub record Kind (L : Type 0) : Type 0 where
@@ -202,13 +180,7 @@ module _ {L : Type 0} (K : Kind L) where
         let one = stands-split s p (p + 8) (bytes 8 (K .namesOf a)) _ (two .0) refl in
         let both = stands-split s (p + 8) (p + 9) (K .howMany a ∷ []) (count f ∷ []) (one .1) (omega arith) in
         record {
-          label = record {
-            allowed = k .0;
-            names = one .0;
-            many = byte-of s (p + 8) _ (both .0);
-            rest = two .1;
-            fits = before f (pastLabel a w) l;
-          };
+          label = record { allowed = k .0; names = one .0; many = byte-of s (p + 8) _ (both .0); rest = two .1; fits = before f (pastLabel a w) l };
           counted = byte-of s (p + 9) _ (both .1);
           below = record { allowed = k .1; shallow = below; stands = three .1; fits = l };
         }
@@ -326,16 +298,13 @@ module _ {L : Type 0} (K : Kind L) where
       module _ (label-back : (w : Spot) (r : L × Spot) → Within end (entered w) → label w ≡ good r → LabelRead w r) where
         children-back : (left : ℕ) (child : Spot → Answer (Tree L × Spot))
             → ((w : Spot) (r : Tree L × Spot) → Within end w → child w ≡ good r → TreeRead left w r)
-            → (k : ℕ) (w : Spot) (r : Forest L × Spot) → Within end w → readChildren label s end child k w ≡ good r
-            → ForestRead left k w r
+            → (k : ℕ) (w : Spot) (r : Forest L × Spot) → Within end w → readChildren label s end child k w ≡ good r → ForestRead left k w r
         unfolding readChildren count
-        children-back left child back zero w r h e =
-            subst (ForestRead left 0 w) (good-inj e) (none-at left w h, refl, sym (past-none w))
+        children-back left child back zero w r h e = subst (ForestRead left 0 w) (good-inj e) (none-at left w h, refl, sym (past-none w))
         children-back left child back (suc k) w r h e =
             of-fit _ _ _ _ _ _ e (λ l e₁. of-test _ _ _ e₁ (λ b e₂. of-take _ _ e₂ (λ x ex e₃. of-take _ _ e₃ (λ y ey e₄.
             let c = back (onward 1 w) x (record { reached = l; few = h .few; room = h .room }) ex in
-            let v = past (x .0) (onward 1 w) in
-            let g = children-back left child back k v y (c .0 .fits) (subst (λ (z : Spot). readChildren label s end child k z ≡ good y) (c .1) ey) in
+            let g = children-back left child back k (past (x .0) (onward 1 w)) y (c .0 .fits) (rw (c .1) at ey) in
             let n = number s (w .next) 1 in
             let m = more-close left n (x .0) (y .0) w (record { low = le-of-not-below 31 n b; role = refl; child = c .0; others = g .0 }) in
             subst (ForestRead left (suc k) w) (good-inj e₄) (m, omega (arith, g .1), g .2 ∙ past-more n (x .0) (y .0) w)))))
@@ -347,10 +316,8 @@ module _ {L : Type 0} (K : Kind L) where
             of-fit _ _ _ _ _ _ e (λ l e₁. of-test _ _ _ e₁ (λ b e₂. of-take _ _ e₂ (λ x ex e₃. of-take _ _ e₃ (λ y ey e₄.
             let few : suc (w .nodes) ≤ mostNodes = omega (arith, le-of-not-below 63 (w .nodes) b) in
             let c = label-back w x (record { reached = l; few = few; room = h .room }) ex in
-            let v = pastLabel (x .0) w in
-            let child : Spot → Answer (Tree L × Spot) = λ z. readNode label s end left z in
             let k = number s (w .next + 9) 1 in
-            let g =
-            children-back left child (λ z q. node-back left z q) k v y (c .0 .fits) (subst (λ (z : Spot). readChildren label s end child k z ≡ good y) (c .1) ey) in
+            let child : Spot → Answer (Tree L × Spot) = λ z. readNode label s end left z in
+            let g = children-back left child (λ z q. node-back left z q) k (pastLabel (x .0) w) y (c .0 .fits) (rw (c .1) at ey) in
             let m = node-close left (x .0) (y .0) w (record { label = c .0; counted = g .1; below = g .0 }) in
             subst (TreeRead (suc left) w) (good-inj e₄) (m, g .2 ∙ past-node (x .0) (y .0) w)))))
