@@ -2,9 +2,7 @@
 -- message; and the parts that reading hands on are where the thresholds stand.
 -- Assumes nothing.
 use mathlib.Core.Path.{_≡_, refl, sym, ap, ap₂, _∙_, subst}
-use mathlib.Core.Logic.{_⊎_, inl, inr}
-use mathlib.Core.List.{List, [], _∷_, _++_, map, append-assoc, Forall₂, Forall₂·nil, Forall₂·cons, List·Memᴰ, List·Memᴰ·head, List·Memᴰ·tail}
-use mathlib.Core.List.{List·Memᴰ·cases-cons, List·Memᴰ·not-nil}
+use mathlib.Core.List.{List, [], _∷_, _++_, map, append-assoc, Forall₂, Forall₂·nil, Forall₂·cons, List·Memᴰ}
 use Prim.Native.Nat.{ℕ, zero, suc, _+_, _*_, _≤_, _<_}
 use native.Mathlib.Omega.{arith}
 use lib.Dec.{T, ltb, leb, leb→le, le→leb}
@@ -20,10 +18,10 @@ use Rattle.meaning.specs.Message.{mostLevels, mostNodes, mostThresholds,
 use Rattle.meaning.specs.Message.{thresholdsOf, sound, conceptBytes, thresholdsBytes, requirementBytes, encode, Part, Spot, entered, readNode}
 use Rattle.meaning.specs.Message.{withThresholds, readRequirement, partBytes, kth, partOf, innerPart}
 use Rattle.meaning.specs.Message.{passed as onward}
-use Rattle.meaning.proofs.Tests.{and-both, both-and}
+use Rattle.meaning.proofs.Tests.{and-both, both-and, pairs-append, pair-of}
 use Rattle.meaning.proofs.Reading.{good-inj, then-test, then-take, of-test, of-take, not-below, le-of-not-below, total, stands-taken}
 use Rattle.meaning.proofs.Reading.{headed-length, headed-bytes, headed-stands, headed-read, headed-back}
-use Rattle.meaning.proofs.MessageTree.{past, pastLabel, partsOf, partsOfF, owned, tree-length, tree-bytes, each-written, TreeAt, ForestAt}
+use Rattle.meaning.proofs.MessageTree.{Within, past, pastLabel, partsOf, partsOfF, owned, tree-length, tree-bytes, each-written, TreeAt, ForestAt}
 use Rattle.meaning.proofs.MessageTree.{node-open, more-open, node-read, node-back}
 use Rattle.meaning.proofs.MessageLabel.{bounded-open, bounded-close, concept-least, concept-most, threshold-length, at-length, outerKind}
 use Rattle.meaning.proofs.MessageLabel.{start, PartAt, parts-at, outer-at, outer-bytes, outer-read, outer-back}
@@ -95,11 +93,7 @@ whole q h =
       allowed = b .0;
       shallow = b .1;
       stands = headed-stands (requirementBytes q);
-      fits = record {
-        reached = omega (arith, headed-length (requirementBytes q));
-        few = omega arith;
-        room = omega (arith, parts-length q 0 3);
-      };
+      fits = record { reached = omega (arith, headed-length (requirementBytes q)); few = omega arith; room = omega (arith, parts-length q 0 3) };
     }
 
 -- which are bytes
@@ -146,37 +140,26 @@ unfolding encode sound
 read-back s r bs e =
     of-take _ _ (sym (reading-is s) ∙ e) (λ end ee e₁. of-take _ _ e₁ (λ x ex e₂. of-test _ _ _ e₂ (λ b e₃.
     let d = headed-back requirement s bs ee in
-    let c =
-    node-back outerKind s end (withThresholds s end) (outer-back s end bs) mostLevels (start 3) x
-    (record { reached = d .0; few = omega arith; room = omega arith }) ex in
-    let n : 3 + length (requirementBytes (x .0)) ≡ end =
-    omega (arith, le-of-not-below (x .1 .next) end b, ap (λ (z : Spot). z .next) (c .1), c .0 .fits .reached) in
+    let w : Within end (start 3) = record { reached = d .0; few = omega arith; room = omega arith } in
+    let c = node-back outerKind s end (withThresholds s end) (outer-back s end bs) mostLevels (start 3) x w ex in
+    let next = ap (λ (z : Spot). z .next) (c .1) in
+    let last : 3 + length (requirementBytes (x .0)) ≡ end = omega (arith, le-of-not-below (x .1 .next) end b, c .0 .fits .reached) in
     let few : nodes (x .0) ≤ mostNodes = omega (arith, c .0 .fits .few) in
     let room : length (thresholdsOf (x .0)) ≤ mostThresholds = omega (arith, parts-length (x .0) 0 3, c .0 .fits .room) in
+    let tree = bounded-close soundLabel (x .0) (c .0 .allowed) (c .0 .shallow) few in
     subst (Accepted s) (good-inj e₃) (record {
-      sound =
-          both-and (bounded soundLabel (x .0)) _ (bounded-close soundLabel (x .0) (c .0 .allowed) (c .0 .shallow) few)
-          (le→leb (length (thresholdsOf (x .0))) mostThresholds room);
-      same = d .2 (requirementBytes (x .0)) (c .0 .stands) n;
+      sound = both-and (bounded soundLabel (x .0)) _ tree (le→leb (length (thresholdsOf (x .0))) mostThresholds room);
+      same = d .2 (requirementBytes (x .0)) (c .0 .stands) last;
       parts = ap (λ (z : Spot). z .parts) (c .1);
     }))))
+
+pub accepted : (q : Requirement) → T (sound q) → Accepted (encode q) (q, partsIn q)
+accepted q h = record { sound = h; same = refl; parts = refl }
 
 pub accepted-read : (s : List ℕ) (r : Requirement × List Part) → Accepted s r → readRequirement s ≡ good r
 accepted-read s r c = ap readRequirement (c .same) ∙ read-encode (r .0) (c .sound) ∙ ap (λ (z : List Part). good (r .0, z)) (sym (c .parts))
 
 -- ---- the parts are where the thresholds stand
-
-pairs-append : {A B : Type 0} {R : A → B → Type 0} {xs xs′ : List A} {ys ys′ : List B} → Forall₂ R xs ys → Forall₂ R xs′ ys′ → Forall₂ R (xs ++ xs′) (ys ++ ys′)
-pairs-append Forall₂·nil g = g
-pairs-append (Forall₂·cons r f) g = Forall₂·cons r (pairs-append f g)
-
-pair-of : {A B : Type 0} {R : A → B → Type 0} {xs : List A} {ys : List B} {x : A} → Forall₂ R xs ys → List·Memᴰ x xs → (y : B) × List·Memᴰ y ys × R x y
-pair-of Forall₂·nil m = absurd (List·Memᴰ·not-nil m)
-pair-of {A} {B} {R} {x} (Forall₂·cons {a} {b} {l₁} {l₂} r f) m = go (List·Memᴰ·cases-cons m) (λ n. pair-of f n)
-  where
-    go : (x ≡ a) ⊎ List·Memᴰ x l₁ → (List·Memᴰ x l₁ → (y : B) × List·Memᴰ y l₂ × R x y) → (y : B) × List·Memᴰ y (b ∷ l₂) × R x y
-    go (inl e) k = (b, List·Memᴰ·head refl, subst (λ (z : A). R z b) (sym e) r)
-    go (inr n) k = let p = k n in (p .0, List·Memᴰ·tail (p .1), p .2)
 
 module _ (s : List ℕ) (end : ℕ) where
   mutual
@@ -242,7 +225,8 @@ inner-is : (s : List ℕ) (k : ℕ) → innerPart s k ≡ partOf s k (readRequir
 unfolding innerPart
 inner-is s k = refl
 
-pub inner-part : (s : List ℕ) (r : Requirement × List Part) → Accepted s r → (k : ℕ) → innerPart s k ≡ getD (map innerBytes (thresholdsOf (r .0))) k []
+pub inner-part : (s : List ℕ) (r : Requirement × List Part) → Accepted s r → (k : ℕ)
+    → innerPart s k ≡ getD (map innerBytes (thresholdsOf (r .0))) k []
 inner-part s r c k =
     inner-is s k ∙ ap (partOf s k) (accepted-read s r c) ∙ kth-part s (r .1) k ∙ ap (λ (z : List (List ℕ)). getD z k []) (parts-bytes s r c)
 
@@ -252,7 +236,8 @@ some-bytes [] k l = absurd (omega arith)
 some-bytes (h ∷ hs) zero l = concept-least (h .inner)
 some-bytes (h ∷ hs) (suc k) l = some-bytes hs k (omega arith)
 
-pub inner-some : (s : List ℕ) (r : Requirement × List Part) → Accepted s r → (k : ℕ) → k < length (thresholdsOf (r .0)) → 10 ≤ length (innerPart s k)
+pub inner-some : (s : List ℕ) (r : Requirement × List Part) → Accepted s r → (k : ℕ) → k < length (thresholdsOf (r .0))
+    → 10 ≤ length (innerPart s k)
 inner-some s r c k l = rw (inner-part s r c k) (some-bytes (thresholdsOf (r .0)) k l)
 
 pub inner-refused : (s : List ℕ) (e : Refusal) → readRequirement s ≡ refused e → (k : ℕ) → innerPart s k ≡ []
