@@ -87,7 +87,7 @@ plain-owned : (as′ : List ℕ) → total (owned plainKind as′) ≡ 0
 plain-owned [] = refl
 plain-owned (a ∷ as′) = omega (arith, plain-owned as′)
 
--- "11 for each node, one less for the root": 10 to 703 bytes
+-- 11 bytes for each node, one less for the root: 10 to 703
 pub concept-length : (t : Concept) → length (conceptBytes t) + 1 ≡ 11 * nodes t
 concept-length t = omega (arith, tree-length plainKind t, plain-owned (written t))
 
@@ -351,7 +351,8 @@ module _ (s : List ℕ) (end : ℕ) where
       turn-is owner (length hs) w ∙ rw (f .how, f .num, f .den, f .len) (
       then-test _ _ _ (not-below 15 (length (w .parts)) few) (then-fit requirement end (1 ∷ 2 ∷ 2 ∷ []) p _ (omega arith)
       (then-test _ _ _ (ap not (is-true (rules (code (h .how)) (h .limit .num) (h .limit .den)) rule))
-      (then-fit requirement end (2 ∷ []) (p + 5) _ (omega arith) (then-test _ _ _ (not-below end n inside) (then-take _ _ (h .inner, v) (inner-read s (p + 7) (h .inner) (k .1) (f .stands))
+      (then-fit requirement end (2 ∷ []) (p + 5) _ (omega arith) (then-test _ _ _ (not-below end n inside)
+      (then-take _ _ (h .inner, v) (inner-read s (p + 7) (h .inner) (k .1) (f .stands))
       (then-test _ _ _ (not-below n n (omega arith)) (then-test _ _ _ (not-below 60 _ (sound-inner (h .inner) (k .1) .1))
       (then-take _ _ (hs, pastAll owner hs (pastOne owner h w)) g
       (ap₂ (λ (z : Comparison) (u : Spot). good (record { how = z; limit = h .limit; inner = h .inner } ∷ hs, u)) (d .0) (past-all owner h hs w)))))))))))
@@ -389,7 +390,7 @@ module _ (s : List ℕ) (end : ℕ) where
         stands = c .0 .stands;
         inside = inside;
       } in
-      let more = length-append (w .parts) (partAt owner t p ∷ []) in
+      let one = length-append (w .parts) (partAt owner t p ∷ []) in
       let room : length (w .parts ++ (partAt owner t p ∷ [])) ≤ mostThresholds = omega (arith, le-of-not-below 15 (length (w .parts)) b₀) in
       let g = thresholds-back bs owner k (pastOne owner t w) y (record { reached = inside; few = h .few; room = room }) (rw same at ey) in
       let all = first-close bs owner t (y .0) w (record { first = f; others = g .0 }) in
