@@ -10,8 +10,8 @@ use lib.ListN.{length, getD, length-append}
 use Rattle.meaning.specs.declared.Side.{Side}
 use Rattle.meaning.specs.Refusal.{Answer, good, refused, at, refuseIf, _>>=_, _>>_}
 use Rattle.meaning.specs.Bytes.{number, bytes, Bytes, readHead, unequal, moreThan, headed}
-use Rattle.meaning.proofs.Tests.{is-not}
-use Rattle.meaning.proofs.Reading.{good-inj, pass, passed, stop, below, number-one, not-below, le-of-not-below, not-not, not-back, Stands, stands-left, stands-right, stands-both, bytes-length, number-of, bytes-of}
+use Rattle.meaning.proofs.Tests.{is-not, of-not}
+use Rattle.meaning.proofs.Reading.{good-inj, pass, passed, stop, below, number-one, not-below, le-of-not-below, not-not, not-unequal, eq-of-unequal, Stands, stands-self, stands-whole, number-stands, stands-left, stands-right, stands-both, bytes-length, number-of, bytes-of}
 
 -- the version byte and the length's two, and the body behind them
 pub headed-length : (body : List ℕ) → length (headed body) ≡ 3 + length body
@@ -64,17 +64,31 @@ read-head side wrong s end e =
     let c = passed (wrong (number s 1 2) (length s - 3)) _ _ (b .1) in
     record {
       long = le-of-not-below _ _ (a .0);
-      version = eqb→eq _ _ (not-back (eqb (number s 0 1) 1) (b .0));
+      version = eqb→eq _ _ (of-not (eqb (number s 0 1) 1) (b .0));
       right = c .0;
       ends = sym (good-inj (c .1));
     }
 
--- number 3's two tests
-pub equal-right : (len rest : ℕ) → unequal len rest ≡ false → len ≡ rest
-equal-right len rest e = eqb→eq len rest (not-back (eqb len rest) e)
+-- a body under its head, in a list that it fills
+pub headed-stands : (body : List ℕ) → Stands (headed body) 3 body
+headed-stands body = body-stands (headed body) body (stands-self (headed body))
 
-pub right-equal : (len rest : ℕ) → len ≡ rest → unequal len rest ≡ false
-right-equal len rest e = not-not (eqb len rest) (rw e (eqb-refl rest))
+pub headed-read : (side : Side) (body : List ℕ) → length body < 65536 → readHead side unequal (headed body) ≡ good (3 + length body)
+headed-read side body h =
+    let l = headed-length body in
+    head-read (headed body) body side unequal h (omega arith) (not-unequal (length body) (length (headed body) - 3) (omega arith)) (stands-self (headed body))
+
+pub headed-back : (side : Side) (s : List ℕ) (end : ℕ) → Bytes s → readHead side unequal s ≡ good end
+    → (3 ≤ end) × (end ≡ length s) × ((body : List ℕ) → Stands s 3 body → 3 + length body ≡ end → s ≡ headed body)
+headed-back side s end b e =
+    let q = read-head side unequal s end e in
+    let d = eq-of-unequal (number s 1 2) (length s - 3) (q .right) in (
+      omega (arith, q .ends),
+      omega (arith, q .ends, q .long),
+      λ body h k.
+          stands-whole s (headed body) (head-stands s body (q .version) (number-stands s 1 2 (length body) b (omega (arith, q .ends))) h)
+          (omega (arith, headed-length body, q .long, q .ends)),
+    )
 
 -- ---- each end of a head, as code comes to it
 

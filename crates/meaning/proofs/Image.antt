@@ -16,9 +16,9 @@ use Rattle.meaning.specs.Refusal.{Answer, good, refused, at, refuseIf, _
 use Rattle.meaning.specs.Bytes.{number, bytes, Bytes, fields, readHead, unequal, moreThan, headed}
 use Rattle.meaning.specs.Names.{isSet}
 use Rattle.meaning.specs.Register.{Link, Register, above, allSets, linksOf, mostItems, mostLinks, wellFormed, linkBytes, itemsBytes, linksBytes, encode, linkAt, readItems, readLink, readLinks, readBody, readRegisterBy, readRegister, readBuffer}
-use Rattle.meaning.proofs.Tests.{and-both, both-and, neither, neither-of}
-use Rattle.meaning.proofs.Head.{headed-length, body-stands, head-stands, head-read, read-head, equal-right, right-equal}
-use Rattle.meaning.proofs.Reading.{good-inj, pass, passed, took, taken, not-below, le-of-not-below, not-le, lt-of-not-le, not-not, not-back, total, fitted, fields-fitted, Stands, stands-self, stands-left, stands-right, stands-both, stands-whole, bytes-length, number-of, bytes-of, number-below}
+use Rattle.meaning.proofs.Tests.{of-not, and-both, both-and, neither, neither-of}
+use Rattle.meaning.proofs.Head.{headed-length, body-stands, head-stands, head-read, read-head}
+use Rattle.meaning.proofs.Reading.{good-inj, pass, passed, took, taken, not-below, le-of-not-below, not-le, lt-of-not-le, not-not, not-unequal, eq-of-unequal, total, fitted, fields-fitted, Stands, stands-self, stands-left, stands-right, stands-both, stands-whole, bytes-length, number-of, bytes-of, number-below}
 
 -- ---- lengths
 
@@ -173,7 +173,7 @@ read-link s end n before p l e =
       from = lt-of-not-le _ _ (b .0);
       role = le-of-not-below _ _ (c .0);
       to = lt-of-not-le _ _ (d .0);
-      rises = not-back (above before (linkAt s p)) (f .0);
+      rises = of-not (above before (linkAt s p)) (f .0);
     } in
     (omega (arith, a .0), subst (λ (m : Link). Right n before m) g q, g)
 
@@ -361,7 +361,7 @@ register-read wrong s g w h l r =
 pub image-read : (g : Register) → T (wellFormed g) → readRegister (encode g) ≡ good g
 image-read g w =
     let e : length (bodyOf g) ≡ length (encode g) - 3 = omega (arith, image-length g, body-length g) in
-    register-read unequal (encode g) g w (stands-self (encode g)) (le-refl _) (right-equal _ _ e)
+    register-read unequal (encode g) g w (stands-self (encode g)) (le-refl _) (not-unequal _ _ e)
 
 pub buffer-read : (s : List ℕ) (g : Register) → T (wellFormed g) → Stands s 0 (encode g) → length (encode g) ≤ length s → readBuffer s ≡ good g
 buffer-read s g w h l =
@@ -385,7 +385,7 @@ read-register wrong s g b e =
 pub read-image : (s : List ℕ) (g : Register) → Bytes s → readRegister s ≡ good g → T (wellFormed g) × (s ≡ encode g)
 read-image s g b e =
     let q = read-register unequal s g b e in
-    let l = equal-right (length (bodyOf g)) (length s - 3) (q .2) in
+    let l = eq-of-unequal (length (bodyOf g)) (length s - 3) (q .2) in
     (q .0, stands-whole s (encode g) (q .1) (omega (arith, image-length g, body-length g, q .3)))
 
 pub read-buffer : (s : List ℕ) (g : Register) → Bytes s → readBuffer s ≡ good g → T (wellFormed g) × Stands s 0 (encode g) × (length (encode g) ≤ length s)

@@ -2,12 +2,13 @@
 pub mod Tests
 pub mod Names
 pub mod Rising
-
--- Reading and writing
+-- Reading and writing: laws, register images, requirement messages
 pub mod Reading
 pub mod Head
 pub mod Image
-
+pub mod MessageTree
+pub mod MessageLabel
+pub mod Message
 -- Whole maps, subsumption and the reduced form
 pub mod Whole
 pub mod Under
@@ -15,7 +16,6 @@ pub mod Subsumes
 pub mod Keep
 pub mod Reduced
 pub mod Apart
-
 -- The degree
 pub mod Best
 pub mod Fraction
@@ -29,7 +29,6 @@ pub mod Margin
 pub mod One
 pub mod Written
 pub mod InPlace
-
 -- Registers as graphs, membership, and the maps shown
 pub mod Links
 pub mod Member
@@ -38,7 +37,6 @@ pub mod Picked
 pub mod Kept
 pub mod Shown
 pub mod YesShown
-
 -- Examples
 pub mod Sheet
 pub mod Orders

@@ -7,15 +7,15 @@ use Prim.Native.Nat.{ℕ, zero, suc, _+_, _*_, _-_, _/_, _%_, _^_, _≤_, _<_}
 use native.Mathlib.Nat.{div-lt-iff-lt-mul, add-zero, zero-add, add-assoc, pow-suc, div-add-mod', mod-lt, le-refl, le-trans}
 use native.Mathlib.Decide.{decLt}
 use native.Mathlib.Omega.{arith}
-use lib.Dec.{lit≤, T, ltb, ltb→lt, lt→ltb, nltb→le, leb, leb→le, le→leb, nleb→lt, eqb}
-use lib.ListN.{length, getD, length-append}
+use lib.Dec.{lit≤, T, ltb, ltb→lt, lt→ltb, nltb→le, leb, leb→le, le→leb, nleb→lt, eqb, eqb→eq, eqb-refl}
+use lib.ListN.{length, getD, take, drop, length-append, length-take, length-drop}
 use lib.ListN.{List·getD-append as getD-append}
-use lib.Seq.{getD-append-add, getD-append-seam, ext-getD}
+use lib.Seq.{getD-append-add, getD-append-seam, getD-take, getD-drop, ext-getD}
 use Rattle.meaning.specs.declared.Side.{Side}
 use Rattle.meaning.specs.declared.Refusal.{Refusal}
 use Rattle.meaning.specs.Refusal.{Answer, good, refused, at, refuseIf, _>>=_, _>>_}
-use Rattle.meaning.specs.Bytes.{number, bytes, Bytes, fields}
-use Rattle.meaning.proofs.Tests.{is-true, is-false}
+use Rattle.meaning.specs.Bytes.{number, bytes, Bytes, fields, unequal, headed}
+use Rattle.meaning.proofs.Tests.{is-true, is-false, of-not}
 
 -- ---- steps
 
@@ -98,24 +98,30 @@ pub not-not : (b : Bool) → T b → not b ≡ false
 not-not true t = refl
 not-not false t = absurd t
 
-pub not-back : (b : Bool) → not b ≡ false → T b
-not-back true e = tt
-not-back false e = let z : _≡_ {A = ℕ} 0 1 = cc in absurd (omega arith)
+pub not-unequal : (m n : ℕ) → m ≡ n → unequal m n ≡ false
+not-unequal m n e = ap not (is-true (eqb m n) (subst (λ (z : ℕ). T (eqb m z)) e (eqb-refl m)))
+
+pub eq-of-unequal : (m n : ℕ) → unequal m n ≡ false → m ≡ n
+eq-of-unequal m n e = eqb→eq m n (of-not (eqb m n) e)
 
 -- ---- fields
 
-unfoldable pub total : List ℕ → ℕ
+abbrev pub total : List ℕ → ℕ
 total [] = 0
 total (w ∷ ws) = w + total ws
 
+pub total-append : (xs ys : List ℕ) → total (xs ++ ys) ≡ total xs + total ys
+total-append [] ys = omega arith
+total-append (x ∷ xs) ys = omega (arith, total-append xs ys)
+
 -- fields that fit are passed, and of a good answer the fields before it fitted
 pub fields-fit : (side : Side) (end : ℕ) (ws : List ℕ) (p : ℕ) → p + total ws ≤ end → fields side end ws p ≡ good tt
-unfolding fields total
+unfolding fields
 fields-fit side end [] p h = refl
 fields-fit side end (w ∷ ws) p h = pass (ltb end (p + w)) _ _ (not-below end (p + w) (omega arith)) ∙ fields-fit side end ws (p + w) (omega arith)
 
 fields-end : (side : Side) (end : ℕ) (ws : List ℕ) (p : ℕ) {u : Unit {0}} → p ≤ end → fields side end ws p ≡ good u → p + total ws ≤ end
-unfolding fields total
+unfolding fields
 fields-end side end [] p h e = omega arith
 fields-end side end (w ∷ ws) p h e =
     let q = passed (ltb end (p + w)) _ _ e in
@@ -124,7 +130,7 @@ fields-end side end (w ∷ ws) p h e =
 
 pub fields-fitted : {B : Type 0} (side : Side) (end w : ℕ) (ws : List ℕ) (p : ℕ) (k : Answer B) {a : B}
     → (fields side end (w ∷ ws) p >> k) ≡ good a → (p + total (w ∷ ws) ≤ end) × (k ≡ good a)
-unfolding fields total
+unfolding fields
 fields-fitted side end w ws p k e =
     let q = gone (fields side end (w ∷ ws) p) k e in
     let h = passed (ltb end (p + w)) _ _ (q .0) in
@@ -230,3 +236,82 @@ number-more s p w =
 pub number-eight : (s : List ℕ) (p : ℕ)
     → number s p 8 ≡ ((number s p 2 * 65536 + number s (p + 2) 2) * 65536 + number s (p + 4) 2) * 65536 + number s (p + 6) 2
 number-eight s p = omega (arith, number-more s p 6, number-more s p 4, number-more s p 2)
+
+-- ---- parts of what stands, at places that are given
+
+pub stands-none : (s : List ℕ) (p : ℕ) → Stands s p []
+unfolding Stands
+stands-none s p i l = absurd (omega arith)
+
+pub stands-split : (s : List ℕ) (p q : ℕ) (xs ys : List ℕ) → Stands s p (xs ++ ys) → p + length xs ≡ q → Stands s p xs × Stands s q ys
+stands-split s p q xs ys h e = (stands-left s p xs ys h, rw e at (stands-right s p xs ys h))
+
+pub stands-join : (s : List ℕ) (p q : ℕ) (xs ys : List ℕ) → Stands s p xs → Stands s q ys → p + length xs ≡ q → Stands s p (xs ++ ys)
+stands-join s p q xs ys h k e = stands-both s p xs ys h (rw e k)
+
+-- a single byte
+pub byte-of : (s : List ℕ) (p x : ℕ) → Stands s p (x ∷ []) → number s p 1 ≡ x
+unfolding number Stands
+byte-of s p x h = omega (arith, h 0 (omega arith))
+
+pub byte-stands : (s : List ℕ) (p x : ℕ) → number s p 1 ≡ x → Stands s p (x ∷ [])
+unfolding number Stands
+byte-stands s p x e zero l = omega arith
+byte-stands s p x e (suc i) l = absurd (omega arith)
+
+pub number-stands : (s : List ℕ) (p w n : ℕ) → Bytes s → number s p w ≡ n → Stands s p (bytes w n)
+number-stands s p w n h e = subst (λ (z : ℕ). Stands s p (bytes w z)) e (bytes-of s p w h)
+
+-- what stands is that part of the list
+pub stands-taken : (s : List ℕ) (p : ℕ) (xs : List ℕ) → Stands s p xs → p + length xs ≤ length s → take (length xs) (drop p s) ≡ xs
+unfolding Stands
+stands-taken s p xs h l =
+    let e : length (take (length xs) (drop p s)) ≡ length xs = simp (length-take, length-drop) (omega arith) in
+    ext-getD 0 _ xs e (λ i b. getD-take (length xs) (drop p s) i 0 (omega arith) ∙ getD-drop p s i 0 ∙ h i (omega arith))
+
+-- ---- lists of bytes
+
+pub none-bytes : Bytes []
+none-bytes i = omega arith
+
+pub cons-bytes : (x : ℕ) (xs : List ℕ) → x < 256 → Bytes xs → Bytes (x ∷ xs)
+cons-bytes x xs h k zero = h
+cons-bytes x xs h k (suc i) = k i
+
+pub append-bytes : (xs ys : List ℕ) → Bytes xs → Bytes ys → Bytes (xs ++ ys)
+append-bytes [] ys h k = k
+append-bytes (x ∷ xs) ys h k = cons-bytes x (xs ++ ys) (h 0) (append-bytes xs ys (λ i. h (suc i)) k)
+
+pub bytes-bytes : (w n : ℕ) → Bytes (bytes w n)
+unfolding bytes
+bytes-bytes zero n = none-bytes
+bytes-bytes (suc w) n =
+    append-bytes (bytes w (n / 256)) (n % 256 ∷ []) (bytes-bytes w (n / 256)) (cons-bytes (n % 256) [] (omega arith) none-bytes)
+
+pub headed-bytes : (body : List ℕ) → Bytes body → Bytes (headed body)
+unfolding headed
+headed-bytes body h =
+    append-bytes (1 ∷ bytes 2 (length body)) body (cons-bytes 1 (bytes 2 (length body)) (omega arith) (bytes-bytes 2 (length body))) h
+
+-- ---- a step that is passed, and then the rest
+
+pub then-test : {B : Type 0} (b : Bool) (r : Refusal) (k : Answer B) {c : Answer B} → b ≡ false → k ≡ c → (refuseIf b r >> k) ≡ c
+then-test b r k e f = pass b r k e ∙ f
+
+pub then-take : {A B : Type 0} (e : Answer A) (k : A → Answer B) (a : A) {c : Answer B} → e ≡ good a → k a ≡ c → (e >>= k) ≡ c
+then-take e k a p f = took e k a p ∙ f
+
+pub then-fit : {B : Type 0} (side : Side) (end : ℕ) (ws : List ℕ) (p : ℕ) (k : Answer B) {c : Answer B}
+    → p + total ws ≤ end → k ≡ c → (fields side end ws p >> k) ≡ c
+then-fit side end ws p k h f = fitted side end ws p k h ∙ f
+
+-- of a good answer each step was passed: what follows from that
+pub of-test : {B C : Type 0} (b : Bool) (r : Refusal) (k : Answer B) {a : B} → (refuseIf b r >> k) ≡ good a → (b ≡ false → k ≡ good a → C) → C
+of-test b r k e f = let q = passed b r k e in f (q .0) (q .1)
+
+pub of-take : {A B C : Type 0} (e : Answer A) (k : A → Answer B) {b : B} → (e >>= k) ≡ good b → ((a : A) → e ≡ good a → k a ≡ good b → C) → C
+of-take e k p f = let q = taken e k p in f (q .0) (q .1) (q .2)
+
+pub of-fit : {B C : Type 0} (side : Side) (end w : ℕ) (ws : List ℕ) (p : ℕ) (k : Answer B) {a : B}
+    → (fields side end (w ∷ ws) p >> k) ≡ good a → (p + total (w ∷ ws) ≤ end → k ≡ good a → C) → C
+of-fit side end w ws p k e f = let q = fields-fitted side end w ws p k e in f (q .0) (q .1)

@@ -1,9 +1,10 @@
--- Tests as facts: what a conjunction, a disjunction and a search through a list say, and values of Option apart.
+-- Tests as facts: what a conjunction, a disjunction and a search through a list say; lists paired off; values of Option apart.
 -- Assumes nothing.
 use mathlib.Core.Path.{_≡_, refl, sym, subst, _∙_}
 use mathlib.Core.Logic.{_⊎_, inl, inr}
 use mathlib.Core.Bool.{Bool, true, false, _&&_, _||_, not, cond}
-use mathlib.Core.List.{List, [], _∷_, List·Memᴰ, List·Memᴰ·head, List·Memᴰ·tail}
+use mathlib.Core.List.{List, [], _∷_, _++_, List·Memᴰ, List·Memᴰ·head, List·Memᴰ·tail, List·Memᴰ·cases-cons, List·Memᴰ·not-nil}
+use mathlib.Core.List.{Forall₂, Forall₂·nil, Forall₂·cons}
 use mathlib.Core.Option.{Option, some}
 use mathlib.Core.Option.{none as nowhere}
 use Prim.Native.Nat.{ℕ}
@@ -11,6 +12,7 @@ use native.Mathlib.Omega.{arith}
 use lib.Dec.{T, eqb, eqb-refl}
 use Rattle.meaning.specs.Whole.{any}
 use Rattle.meaning.specs.Shown.{first}
+use Rattle.meaning.specs.Requirement.{every}
 
 -- ---- true and false
 
@@ -34,6 +36,10 @@ is-not false f = refl
 
 pub true-false : {b : Bool} → b ≡ true → b ≡ false → ⊥
 true-false e d = let z : _≡_ {A = Bool} true false = sym e ∙ d in let y : _≡_ {A = ℕ} 0 1 = cc in omega arith
+
+pub of-not : (b : Bool) → not b ≡ false → T b
+of-not true e = tt
+of-not false e = absurd (true-false refl e)
 
 pub bool-eq : (a b : Bool) → (T a → T b) → (T b → T a) → a ≡ b
 bool-eq true true f g = refl
@@ -93,6 +99,29 @@ pub found-any : {A : Type 0} (p : A → Bool) {y : A} {xs : List A} → List·Me
 unfolding any
 found-any p (List·Memᴰ·head {x} {xs} e) t = or-left (p x) (any p xs) (subst (λ z. T (p z)) e t)
 found-any p (List·Memᴰ·tail {x} {xs} m) t = or-right (p x) (any p xs) (found-any p m t)
+
+-- ---- a test of each element
+
+pub every-append : {A : Type 0} (p : A → Bool) (xs ys : List A) → T (every p xs) → T (every p ys) → T (every p (xs ++ ys))
+unfolding every
+every-append p [] ys h k = k
+every-append p (x ∷ xs) ys h k = let c = and-both (p x) (every p xs) h in both-and (p x) _ (c .0) (every-append p xs ys (c .1) k)
+
+-- ---- lists paired off
+
+pub pairs-append : {A B : Type 0} {R : A → B → Type 0} {xs xs′ : List A} {ys ys′ : List B}
+    → Forall₂ R xs ys → Forall₂ R xs′ ys′ → Forall₂ R (xs ++ xs′) (ys ++ ys′)
+pairs-append Forall₂·nil g = g
+pairs-append (Forall₂·cons r f) g = Forall₂·cons r (pairs-append f g)
+
+pub pair-of : {A B : Type 0} {R : A → B → Type 0} {xs : List A} {ys : List B} {x : A}
+    → Forall₂ R xs ys → List·Memᴰ x xs → (y : B) × List·Memᴰ y ys × R x y
+pair-of Forall₂·nil m = absurd (List·Memᴰ·not-nil m)
+pair-of {A} {B} {R} {x} (Forall₂·cons {a} {b} {l₁} {l₂} r f) m = go (List·Memᴰ·cases-cons m) (λ n. pair-of f n)
+  where
+    go : (x ≡ a) ⊎ List·Memᴰ x l₁ → (List·Memᴰ x l₁ → (y : B) × List·Memᴰ y l₂ × R x y) → (y : B) × List·Memᴰ y (b ∷ l₂) × R x y
+    go (inl e) k = (b, List·Memᴰ·head refl, subst (λ (z : A). R z b) (sym e) r)
+    go (inr n) k = let p = k n in (p .0, List·Memᴰ·tail (p .1), p .2)
 
 -- ---- Option
 
