@@ -25,7 +25,6 @@ unfolding fields
 cut-field end w p h = stop (ltb end (p + w)) _ _ (below end (p + w) h)
 
 fit-field : {B : Type 0} (end w p : ℕ) (k : Answer B) → p + w ≤ end → (fields register end (w ∷ []) p >> k) ≡ k
-unfolding total
 fit-field end w p k h = fitted register end (w ∷ []) p k (omega arith)
 
 items-cut : (s : List ℕ) (end k p : ℕ) → p ≤ end → end < p + 8 * k → readItems s end k p ≡ refused (at register 1 (p + (end - p) / 8 * 8))

@@ -47,7 +47,6 @@ module _ (s : List ℕ) (end n : ℕ) (before : Option Link) (p : ℕ) where
 
   module _ (fits : p + 5 ≤ end) where
     whole : {B : Type 0} (k : Answer B) → (fields register end (2 ∷ 1 ∷ 2 ∷ []) p >> k) ≡ k
-    unfolding total
     whole k = fitted register end (2 ∷ 1 ∷ 2 ∷ []) p k (omega arith)
 
     pub link-from : n ≤ number s p 2 → answer ≡ refused (at register 5 p)
