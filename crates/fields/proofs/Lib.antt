@@ -1,1 +1,2 @@
 pub mod Wrong
+pub mod Known

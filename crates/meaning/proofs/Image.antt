@@ -401,3 +401,61 @@ one-register g h w v e = good-inj (sym (image-read g w) ∙ ap readRegister e �
 -- "Largest image: 24,583 bytes."
 pub largest-image : (g : Register) → T (wellFormed g) → length (encode g) ≤ 24583
 largest-image g w = let f = fits g w in omega (arith, image-length g, f .items, f .few)
+
+-- ---- one fact of an image that was read
+
+items-stand : (s : List ℕ) (as′ : List ℕ) (p i : ℕ) → Bytes s → T (allSets as′) → Stands s p (itemsBytes as′) → i < length as′ → number s (p + 8 * i) 8 ≡ getD as′ i 0
+unfolding allSets itemsBytes
+items-stand s [] p i b w h l = absurd (omega arith)
+items-stand s (a ∷ as′) p zero b w h l =
+    let q = and-both (isSet a) (allSets as′) w in
+    ap (λ (z : ℕ). number s z 8) (omega arith) ∙ number-of s p 8 a (ltb→lt _ _ (q .0)) (stands-left s p (bytes 8 a) (itemsBytes as′) h)
+items-stand s (a ∷ as′) p (suc i) b w h l =
+    let q = and-both (isSet a) (allSets as′) w in
+    let later = subst (λ (z : ℕ). Stands s (p + z) (itemsBytes as′)) (bytes-length 8 a) (stands-right s p (bytes 8 a) (itemsBytes as′) h) in
+    ap (λ (z : ℕ). number s z 8) (omega arith) ∙ items-stand s as′ (p + 8) i b (q .1) later (omega arith)
+
+links-stand : (s : List ℕ) (n : ℕ) (before : Option Link) (ls : List Link) (p k : ℕ) (d : Link) → n ≤ mostItems → T (linksOf n before ls) → Stands s p (linksBytes ls)
+    → k < length ls → linkAt s (p + 5 * k) ≡ getD ls k d
+unfolding linksBytes
+links-stand s n before [] p k d c w h l = absurd (omega arith)
+links-stand s n before (x ∷ ls) p zero d c w h l =
+    let q = right n before x ls w in
+    ap (λ (z : ℕ). linkAt s z) (omega arith)
+    ∙ link-at s p x (omega (arith, q .0 .from)) (omega (arith, q .0 .role)) (omega (arith, q .0 .to)) (stands-left s p (linkBytes x) (linksBytes ls) h)
+links-stand s n before (x ∷ ls) p (suc k) d c w h l =
+    let later = subst (λ (z : ℕ). Stands s (p + z) (linksBytes ls)) (link-length x) (stands-right s p (linkBytes x) (linksBytes ls) h) in
+    ap (λ (z : ℕ). linkAt s z) (omega arith) ∙ links-stand s n (some x) ls (p + 5) k d c (right n before x ls w .1) later (omega arith)
+
+module _ (s : List ℕ) (g : Register) (b : Bytes s) (e : readBuffer s ≡ good g) where
+  body-here : Body s g
+  unfolding encode
+  body-here = body-parts s g (body-stands s (bodyOf g) (read-buffer s g b e .1))
+
+  pub image-fits : Fits g × (7 + 8 * length (g .names) + 5 * length (g .links) ≤ length s)
+  image-fits = let q = read-buffer s g b e in (fits g (q .0), omega (arith, image-length g, q .2))
+
+  pub image-names : (i : ℕ) → i < length (g .names) → number s (5 + 8 * i) 8 ≡ getD (g .names) i 0
+  image-names i l = items-stand s (g .names) 5 i b (image-fits .0 .sets) (body-here .1) l
+
+  pub image-link : (k : ℕ) (d : Link) → k < length (g .links) → linkAt s (7 + 8 * length (g .names) + 5 * k) ≡ getD (g .links) k d
+  image-link k d l =
+      ap (λ (z : ℕ). linkAt s z) (omega arith)
+      ∙ links-stand s (length (g .names)) nowhere (g .links) (5 + 8 * length (g .names) + 2) k d (image-fits .0 .items) (image-fits .0 .rising) (body-here .3) l
+
+-- a link among links that are right is right
+link-of : (n : ℕ) (before : Option Link) (ls : List Link) (k : ℕ) (d : Link) → T (linksOf n before ls) → k < length ls
+    → (getD ls k d .from < n) × (getD ls k d .role ≤ 31) × (getD ls k d .to < n)
+link-of n before [] k d w l = absurd (omega arith)
+link-of n before (x ∷ ls) zero d w l = let q = right n before x ls w .0 in (q .from, q .role, q .to)
+link-of n before (x ∷ ls) (suc k) d w l = link-of n (some x) ls k d (right n before x ls w .1) (omega arith)
+
+pub link-right : (s : List ℕ) (g : Register) → Bytes s → readBuffer s ≡ good g → (k : ℕ) (d : Link) → k < length (g .links)
+    → (getD (g .links) k d .from < length (g .names)) × (getD (g .links) k d .role ≤ 31) × (getD (g .links) k d .to < length (g .names))
+link-right s g b e k d l = link-of (length (g .names)) nowhere (g .links) k d (image-fits s g b e .0 .rising) l
+
+-- what was read of a whole input is what a buffer that holds it begins with
+pub whole-buffer : (s : List ℕ) (g : Register) → Bytes s → readRegister s ≡ good g → readBuffer s ≡ good g
+whole-buffer s g b e =
+    let q = read-image s g b e in
+    buffer-read s g (q .0) (subst (λ (z : List ℕ). Stands z 0 (encode g)) (sym (q .1)) (stands-self (encode g))) (le-of-eq (ap length (sym (q .1))))

@@ -13,6 +13,7 @@ pub mod Requirement
 pub mod Message
 pub mod Shown
 pub mod InPlace
+pub mod Rows
 pub mod Calls
 pub mod Sheet
 pub mod Slips

@@ -3,3 +3,4 @@ pub mod OneLink
 pub mod Links
 pub mod Body
 pub mod Whole
+pub mod Facts

@@ -3,13 +3,12 @@ use fields::Head;
 use meaning::Refusal;
 use meaning::Side;
 ghost use mathlib.Core.Path.{_≡_};
-ghost use mathlib.Core.Option.{Option, none as nowhere};
+ghost use mathlib.Core.Option.{Option};
 ghost use Prim.Native.Nat.{_+_, _*_, _≤_, _<_};
-ghost use lib.ListN.{length};
-ghost use Rattle.meaning.specs.declared.Side.the-variants.{Register as register};
-ghost use Rattle.meaning.specs.Refusal.{at};
-ghost use Rattle.meaning.specs.Register.{Link, readLink, readLinks, readBody, readRegisterBy};
+ghost use lib.ListN.{length, getD};
+ghost use Rattle.meaning.specs.Register.{Link, readLink, readBody, readRegisterBy};
 ghost use Rattle.fields.specs.Head.{wrongIn};
+ghost use Rattle.register.specs.Image.{Asked, Image, linkNo};
 ghost use Rattle.register.specs.Reading.{paper, counted, linksAnswer, refusedAt, Floor, paperLink, keyed, Passed, cutAt};
 
 // An image: how many items and links it has, or its refusal.
@@ -164,4 +163,36 @@ fn cut(room: usize, at: usize) -> Linked
         number: 1,
         place: at + 3,
     }
+}
+
+// The names of an item of an image that was read.
+pub fn names_of(s: &[u8], item: usize) -> u64
+    requires { ⌜ Asked (now s) (λ g. item < length (g .names)) ⌝ }
+    ensures { λ r. ⌜ Image (now (s .entry)) (λ g. r ≡ getD (g .names) item 0) ⌝ }
+{
+    fields::eight(s, 5 + 8 * item)
+}
+
+// Where its k-th link leads from, among so many items.
+pub fn from_of(s: &[u8], items: usize, k: usize) -> usize
+    requires { ⌜ Asked (now s) (λ g. (items ≡ length (g .names)) × (k < length (g .links))) ⌝ }
+    ensures { λ r. ⌜ Image (now (s .entry)) (λ g. (r ≡ linkNo g k .from) × (r < length (g .names))) ⌝ }
+{
+    fields::two(s, 7 + 8 * items + 5 * k)
+}
+
+// The role of its k-th link.
+pub fn role_of(s: &[u8], items: usize, k: usize) -> usize
+    requires { ⌜ Asked (now s) (λ g. (items ≡ length (g .names)) × (k < length (g .links))) ⌝ }
+    ensures { λ r. ⌜ Image (now (s .entry)) (λ g. (r ≡ linkNo g k .role) × (r ≤ 31)) ⌝ }
+{
+    fields::one(s, 7 + 8 * items + 5 * k + 2)
+}
+
+// Where its k-th link leads to.
+pub fn to_of(s: &[u8], items: usize, k: usize) -> usize
+    requires { ⌜ Asked (now s) (λ g. (items ≡ length (g .names)) × (k < length (g .links))) ⌝ }
+    ensures { λ r. ⌜ Image (now (s .entry)) (λ g. (r ≡ linkNo g k .to) × (r < length (g .names))) ⌝ }
+{
+    fields::two(s, 7 + 8 * items + 5 * k + 3)
 }

@@ -1,0 +1,25 @@
+-- An image that was read, and its links by number.
+-- Assumes nothing.
+use mathlib.Core.Path.{_≡_}
+use mathlib.Core.List.{List}
+use Prim.Native.Nat.{ℕ}
+use lib.ListN.{getD}
+use Rattle.meaning.specs.Refusal.{good}
+use Rattle.meaning.specs.Register.{Link, Register, readBuffer}
+
+-- what is asked of the register that these bytes begin with: there is one, and it is as wanted
+pub record Asked (s : List ℕ) (P : Register → Type 0) : Type 0 where
+  pub register : Register
+  pub read : readBuffer s ≡ good register
+  pub holds : P register
+
+-- what is said of it
+abbrev pub Image : List ℕ → (Register → Type 0) → Type 0
+Image s P = (g : Register) → readBuffer s ≡ good g → P g
+
+abbrev pub noLink : Link
+noLink = record { from = 0; role = 0; to = 0 }
+
+-- the k-th link
+abbrev pub linkNo : Register → ℕ → Link
+linkNo g k = getD (g .links) k noLink
