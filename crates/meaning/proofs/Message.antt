@@ -105,20 +105,8 @@ message-bytes q h =
     let n = length s in
     headed-bytes (requirementBytes q) (tree-bytes outerKind s n (outer-bytes s n) q mostLevels (start 3) (whole q h))
 
--- `readRequirement` as it is defined
-abbrev reading : List ℕ → Answer (Requirement × List Part)
-reading s = do
-  end ← readHead requirement unequal s
-  (t, w) ← readNode (withThresholds s end) s end mostLevels (start 3)
-  refuseIf (ltb (w .next) end) (at requirement 8 (w .next))
-  good (t, w .parts)
-
-reading-is : (s : List ℕ) → readRequirement s ≡ reading s
-unfolding readRequirement
-reading-is s = refl
-
 pub read-encode : (q : Requirement) → T (sound q) → readRequirement (encode q) ≡ good (q, partsIn q)
-unfolding encode
+unfolding encode readRequirement
 read-encode q h =
     let s = encode q in
     let end = 3 + length (requirementBytes q) in
@@ -126,7 +114,7 @@ read-encode q h =
     let c : TreeAt outerKind s end mostLevels q (start 3) = subst (λ (z : ℕ). TreeAt outerKind s z mostLevels q (start 3)) l (whole q h) in
     let e = node-read outerKind s end (withThresholds s end) (outer-read s end) mostLevels q (start 3) c in
     let b : length (requirementBytes q) < 65536 = omega (arith, message-length q h) in
-    reading-is s ∙ then-take _ _ end (headed-read requirement (requirementBytes q) b)
+    then-take _ _ end (headed-read requirement (requirementBytes q) b)
     (then-take _ _ (q, past outerKind q (start 3)) e (then-test _ _ _ (not-below end end (omega arith)) refl))
 
 -- ---- whatever is accepted is such a message
@@ -137,9 +125,9 @@ pub record Accepted (s : List ℕ) (r : Requirement × List Part) : Type 0 where
   pub parts : r .1 ≡ partsIn (r .0)
 
 pub read-back : (s : List ℕ) (r : Requirement × List Part) → Bytes s → readRequirement s ≡ good r → Accepted s r
-unfolding encode sound
+unfolding encode sound readRequirement
 read-back s r bs e =
-    of-take _ _ (sym (reading-is s) ∙ e) (λ end ee e₁. of-take _ _ e₁ (λ x ex e₂. of-test _ _ _ e₂ (λ b e₃.
+    of-take _ _ e (λ end ee e₁. of-take _ _ e₁ (λ x ex e₂. of-test _ _ _ e₂ (λ b e₃.
     let d = headed-back requirement s _ bs ee in
     let w : Within end (start 3) = record { reached = d .0; few = omega arith; room = omega arith } in
     let c = node-back outerKind s end (withThresholds s end) (outer-back s end bs) mostLevels (start 3) x w ex in
@@ -222,14 +210,11 @@ kth-part s [] k = refl
 kth-part s (p ∷ ps) zero = refl
 kth-part s (p ∷ ps) (suc k) = kth-part s ps k
 
-inner-is : (s : List ℕ) (k : ℕ) → innerPart s k ≡ partOf s k (readRequirement s)
-unfolding innerPart
-inner-is s k = refl
-
 pub inner-part : (s : List ℕ) (r : Requirement × List Part) → Accepted s r → (k : ℕ)
     → innerPart s k ≡ getD (map innerBytes (thresholdsOf (r .0))) k []
+unfolding innerPart
 inner-part s r c k =
-    inner-is s k ∙ ap (partOf s k) (accepted-read s r c) ∙ kth-part s (r .1) k ∙ ap (λ (z : List (List ℕ)). getD z k []) (parts-bytes s r c)
+    ap (partOf s k) (accepted-read s r c) ∙ kth-part s (r .1) k ∙ ap (λ (z : List (List ℕ)). getD z k []) (parts-bytes s r c)
 
 -- "A part without bytes means refused: message bad, or no k-th."
 some-bytes : (hs : List Threshold) (k : ℕ) → k < length hs → 10 ≤ length (getD (map innerBytes hs) k [])
@@ -242,7 +227,8 @@ pub inner-some : (s : List ℕ) (r : Requirement × List Part) → Accepted s r 
 inner-some s r c k l = rw (inner-part s r c k) (some-bytes (thresholdsOf (r .0)) k l)
 
 pub inner-refused : (s : List ℕ) (e : Refusal) → readRequirement s ≡ refused e → (k : ℕ) → innerPart s k ≡ []
-inner-refused s e h k = inner-is s k ∙ ap (partOf s k) h
+unfolding innerPart
+inner-refused s e h k = ap (partOf s k) h
 
 -- ---- one requirement has one message, and no other is accepted
 

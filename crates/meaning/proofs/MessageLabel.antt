@@ -19,7 +19,7 @@ use Rattle.meaning.specs.Reduce.{reduce, size, mostSize}
 use Rattle.meaning.specs.Requirement.{Threshold, Label, every}
 use Rattle.meaning.specs.Message.{mostLevels, mostNodes, mostThresholds, mostQ, lawful, code, comparison, bounded, soundInner, soundThreshold}
 use Rattle.meaning.specs.Message.{soundLabel, conceptBytes, thresholdBytes, thresholdsBytes, Part, Spot, entered, noThresholds, readInner}
-use Rattle.meaning.specs.Message.{readThresholds, withThresholds}
+use Rattle.meaning.specs.Message.{readThreshold, readThresholds, withThresholds}
 use Rattle.meaning.proofs.Tests.{and-both, both-and, is-true, of-not}
 use Rattle.meaning.proofs.Reading.{good-inj, then-test, then-take, then-fit, of-test, of-take, of-fit, not-below, le-of-not-below, total}
 use Rattle.meaning.proofs.Reading.{Stands, stands-none, stands-split, stands-join, number-of, number-below, number-stands, bytes-of, byte-of}
@@ -300,77 +300,53 @@ module _ (s : List ℕ) (end : ℕ) where
         fits = subst (Within end) (past-all owner h hs w) (c .others .fits);
       }
 
-  -- one turn of `readThresholds`, as it is defined
-  abbrev turn : ℕ → ℕ → Spot → Answer (List Threshold × Spot)
-  turn owner k w = do
-    let p = w .next
-    refuseIf (leb mostThresholds (length (w .parts))) (at requirement 12 p)
-    fields requirement end (1 ∷ 2 ∷ 2 ∷ []) p
-    refuseIf (not (leb (number s p 1) 3 && lawful (number s (p + 1) 2) (number s (p + 3) 2))) (at requirement 13 p)
-    fields requirement end (2 ∷ []) (p + 5)
-    let len = number s (p + 5) 2
-    refuseIf (ltb end (p + 7 + len)) (at requirement 1 (p + 5))
-    (t, v) ← readInner s (p + 7 + len) (p + 7)
-    refuseIf (ltb (v .next) (p + 7 + len)) (at requirement 8 (v .next))
-    refuseIf (ltb mostSize (size (reduce t))) (at requirement 14 (p + 7))
-    (hs, u) ← readThresholds s end owner k (record {
-      next = p + 7 + len;
-      nodes = w .nodes;
-      parts = w .parts ++ (record { owner = owner; first = p; len = len } ∷ []);
-    })
-    good (record { how = comparison (number s p 1); limit = number s (p + 1) 2 // number s (p + 3) 2; inner = t } ∷ hs, u)
-
-  turn-is : (owner k : ℕ) (w : Spot) → readThresholds s end owner (suc k) w ≡ turn owner k w
-  unfolding readThresholds
-  turn-is owner k w = refl
-
   none-at : (owner : ℕ) (w : Spot) → Within end w → ThresholdsAt owner [] w
   unfolding thresholdsBytes every
   none-at owner w h = record { allowed = tt; stands = stands-none s (w .next); fits = subst (Within end) (sym (past-all-none owner w)) h }
 
-  none-read : (owner : ℕ) (w : Spot) → readThresholds s end owner 0 w ≡ good ([], w)
-  unfolding readThresholds
-  none-read owner w = refl
-
-  thresholds-read : (owner : ℕ) (hs : List Threshold) (w : Spot) → ThresholdsAt owner hs w
-      → readThresholds s end owner (length hs) w ≡ good (hs, pastAll owner hs w)
-  thresholds-read owner [] w c = none-read owner w ∙ ap (λ (v : Spot). good ([], v)) (sym (past-all-none owner w))
-  thresholds-read owner (h ∷ hs) w c =
+  threshold-read : (owner : ℕ) (h : Threshold) (w : Spot) → length (w .parts) ≤ 15 → ThresholdAt h (w .next) → readThreshold s end owner w ≡ good (h, pastOne owner h w)
+  unfolding readThreshold
+  threshold-read owner h w few f =
       let p = w .next in
-      let o = first-open owner h hs w c in
-      let f = o .first in
-      let g = thresholds-read owner hs (pastOne owner h w) (o .others) in
       let v = past plainKind (h .inner) (start (p + 7)) in
       let n = p + 7 + length (conceptBytes (h .inner)) in
       let d = decoded (h .how) in
       let k = and-both (lawful (h .limit .num) (h .limit .den)) (soundInner (h .inner)) (f .sound) in
-      let room = before-all owner hs (pastOne owner h w) (o .others .fits) .room in
-      let few : length (w .parts) ≤ 15 = omega (arith, length-append (w .parts) (partAt owner h p ∷ [])) in
       let inside : n ≤ end = f .inside in
       let rule = both-and (leb (code (h .how)) 3) (lawful (h .limit .num) (h .limit .den)) (le→leb (code (h .how)) 3 (d .1)) (k .0) in
-      turn-is owner (length hs) w ∙ rw (f .how, f .num, f .den, f .len) (
+      rw (f .how, f .num, f .den, f .len) (
       then-test _ _ _ (not-below 15 (length (w .parts)) few) (then-fit requirement end (1 ∷ 2 ∷ 2 ∷ []) p _ (omega arith)
       (then-test _ _ _ (ap not (is-true (rules (code (h .how)) (h .limit .num) (h .limit .den)) rule))
       (then-fit requirement end (2 ∷ []) (p + 5) _ (omega arith) (then-test _ _ _ (not-below end n inside)
       (then-take _ _ (h .inner, v) (inner-read s (p + 7) (h .inner) (k .1) (f .stands))
       (then-test _ _ _ (not-below n n (omega arith)) (then-test _ _ _ (not-below 60 _ (sound-inner (h .inner) (k .1) .1))
-      (then-take _ _ (hs, pastAll owner hs (pastOne owner h w)) g
-      (ap₂ (λ (z : Comparison) (u : Spot). good (record { how = z; limit = h .limit; inner = h .inner } ∷ hs, u)) (d .0) (past-all owner h hs w)))))))))))
+      (ap (λ (z : Comparison). good (record { how = z; limit = h .limit; inner = h .inner }, pastOne owner h w)) (d .0))))))))))
 
-  abbrev ThresholdsRead : ℕ → ℕ → Spot → List Threshold × Spot → Type 0
-  ThresholdsRead owner k w r = ThresholdsAt owner (r .0) w × (k ≡ length (r .0)) × (r .1 ≡ pastAll owner (r .0) w)
+  thresholds-read : (owner : ℕ) (hs : List Threshold) (w : Spot) → ThresholdsAt owner hs w
+      → readThresholds s end owner (length hs) w ≡ good (hs, pastAll owner hs w)
+  unfolding readThresholds
+  thresholds-read owner [] w c = ap (λ (v : Spot). good ([], v)) (sym (past-all-none owner w))
+  thresholds-read owner (h ∷ hs) w c =
+      let o = first-open owner h hs w c in
+      let room = before-all owner hs (pastOne owner h w) (o .others .fits) .room in
+      let few : length (w .parts) ≤ 15 = omega (arith, length-append (w .parts) (partAt owner h (w .next) ∷ [])) in
+      then-take _ _ (h, pastOne owner h w) (threshold-read owner h w few (o .first))
+      (then-take _ _ (hs, pastAll owner hs (pastOne owner h w)) (thresholds-read owner hs (pastOne owner h w) (o .others))
+      (ap (λ (u : Spot). good (h ∷ hs, u)) (past-all owner h hs w)))
 
-  thresholds-back : Bytes s → (owner k : ℕ) (w : Spot) (r : List Threshold × Spot) → Within end w → readThresholds s end owner k w ≡ good r
-      → ThresholdsRead owner k w r
-  thresholds-back bs owner zero w r h e =
-      subst (ThresholdsRead owner 0 w) (good-inj (sym (none-read owner w) ∙ e)) (none-at owner w h, refl, sym (past-all-none owner w))
-  thresholds-back bs owner (suc k) w r h e =
+  -- a threshold that was read stands there, and there was room for it
+  ThresholdRead : ℕ → Spot → Threshold × Spot → Type 0
+  ThresholdRead owner w r = ThresholdAt (r .0) (w .next) × (length (w .parts) ≤ 15) × (r .1 ≡ pastOne owner (r .0) w)
+
+  threshold-back : Bytes s → (owner : ℕ) (w : Spot) (r : Threshold × Spot) → readThreshold s end owner w ≡ good r → ThresholdRead owner w r
+  unfolding readThreshold ThresholdRead
+  threshold-back bs owner w r e =
       let p = w .next in
       let len = number s (p + 5) 2 in
       let last = p + 7 + len in
-      of-test _ _ _ (sym (turn-is owner k w) ∙ e) (λ b₀ e₀. of-fit requirement end 1 (2 ∷ 2 ∷ []) p _ e₀ (λ l₁ e₁. of-test _ _ _ e₁ (λ b₂ e₂.
+      of-test _ _ _ e (λ b₀ e₀. of-fit requirement end 1 (2 ∷ 2 ∷ []) p _ e₀ (λ l₁ e₁. of-test _ _ _ e₁ (λ b₂ e₂.
       of-fit requirement end 2 [] (p + 5) _ e₂ (λ l₃ e₃. of-test _ _ _ e₃ (λ b₄ e₄. of-take _ _ e₄ (λ x ex e₅. of-test _ _ _ e₅ (λ b₆ e₆.
-      of-test _ _ _ e₆ (λ b₇ e₇. of-take _ _ e₇ (λ y ey e₈.
+      of-test _ _ _ e₆ (λ b₇ e₇.
       let c = inner-back s last (p + 7) x bs (omega arith) ex in
       let next = ap (λ (z : Spot). z .next) (c .1) in
       let same : len ≡ length (conceptBytes (x .0)) = omega (arith, le-of-not-below (x .1 .next) last b₆, c .0 .fits .reached) in
@@ -390,11 +366,26 @@ module _ (s : List ℕ) (end : ℕ) where
         stands = c .0 .stands;
         inside = inside;
       } in
-      let one = length-append (w .parts) (partAt owner t p ∷ []) in
-      let room : length (w .parts ++ (partAt owner t p ∷ [])) ≤ mostThresholds = omega (arith, le-of-not-below 15 (length (w .parts)) b₀) in
-      let g = thresholds-back bs owner k (pastOne owner t w) y (record { reached = inside; few = h .few; room = room }) (rw same at ey) in
-      let all = first-close bs owner t (y .0) w (record { first = f; others = g .0 }) in
-      subst (ThresholdsRead owner (suc k) w) (good-inj e₈) (all, ap suc (g .1), g .2 ∙ past-all owner t (y .0) w))))))))))
+      let room = le-of-not-below 15 (length (w .parts)) b₀ in
+      let past′ = ap (λ (z : ℕ). record { next = p + 7 + z; nodes = w .nodes; parts = w .parts ++ (record { owner = owner; first = p; len = z } ∷ []) }) same in
+      subst (ThresholdRead owner w) (good-inj e₇) (f, room, past′)))))))))
+
+  abbrev ThresholdsRead : ℕ → ℕ → Spot → List Threshold × Spot → Type 0
+  ThresholdsRead owner k w r = ThresholdsAt owner (r .0) w × (k ≡ length (r .0)) × (r .1 ≡ pastAll owner (r .0) w)
+
+  thresholds-back : Bytes s → (owner k : ℕ) (w : Spot) (r : List Threshold × Spot) → Within end w → readThresholds s end owner k w ≡ good r
+      → ThresholdsRead owner k w r
+  unfolding readThresholds ThresholdRead
+  thresholds-back bs owner zero w r h e = subst (ThresholdsRead owner 0 w) (good-inj e) (none-at owner w h, refl, sym (past-all-none owner w))
+  thresholds-back bs owner (suc k) w r h e =
+      of-take _ _ e (λ x ex e₁. of-take _ _ e₁ (λ y ey e₂.
+      let f = threshold-back bs owner w x ex in
+      let t = x .0 in
+      let one = length-append (w .parts) (partAt owner t (w .next) ∷ []) in
+      let room : length (w .parts ++ (partAt owner t (w .next) ∷ [])) ≤ mostThresholds = omega (arith, f .1) in
+      let g = thresholds-back bs owner k (pastOne owner t w) y (record { reached = f .0 .inside; few = h .few; room = room }) (rw (f .2) at ey) in
+      let all = first-close bs owner t (y .0) w (record { first = f .0; others = g .0 }) in
+      subst (ThresholdsRead owner (suc k) w) (good-inj e₂) (all, ap suc (g .1), g .2 ∙ past-all owner t (y .0) w)))
 
   -- the part x is where the threshold h stands
   pub record PartAt (x : Part) (h : Threshold) : Type 0 where
@@ -410,15 +401,6 @@ module _ (s : List ℕ) (end : ℕ) where
 
   -- ---- the label of a requirement's node
 
-  abbrev with : Spot → Answer (Label × Spot)
-  with w = do
-    (hs, v) ← readThresholds s end (w .nodes) (number s (w .next + 8) 1) (entered w)
-    good (record { names = number s (w .next) 8; thresholds = hs }, v)
-
-  with-is : (w : Spot) → withThresholds s end w ≡ with w
-  unfolding withThresholds
-  with-is w = refl
-
   pub outer-at : (a : Label) (w : Spot) → LabelAt outerKind s end a w → ThresholdsAt (w .nodes) (a .thresholds) (entered w)
   outer-at a w h =
       record { allowed = and-both (isSet (a .names)) (every soundThreshold (a .thresholds)) (h .allowed) .1; stands = h .rest; fits = h .fits }
@@ -431,15 +413,17 @@ module _ (s : List ℕ) (end : ℕ) where
       (omega (arith, h .fits .room, at-length hs (w .nodes) p), thresholds-bytes hs (outer-at a w h .allowed))
 
   pub outer-read : (a : Label) (w : Spot) → LabelAt outerKind s end a w → withThresholds s end w ≡ good (a, pastLabel outerKind a w)
+  unfolding withThresholds
   outer-read a w h =
       let c = and-both (isSet (a .names)) (every soundThreshold (a .thresholds)) (h .allowed) in
       let e = number-of s (w .next) 8 (a .names) (ltb→lt (a .names) 18446744073709551616 (c .0)) (h .names) in
       let g = thresholds-read (w .nodes) (a .thresholds) (entered w) (outer-at a w h) in
-      with-is w ∙ rw (h .many, e) (then-take _ _ (a .thresholds, pastLabel outerKind a w) g refl)
+      rw (h .many, e) (then-take _ _ (a .thresholds, pastLabel outerKind a w) g refl)
 
   pub outer-back : Bytes s → (w : Spot) (r : Label × Spot) → Within end (entered w) → withThresholds s end w ≡ good r → LabelRead outerKind s end w r
+  unfolding withThresholds
   outer-back bs w r h e =
-      of-take _ _ (sym (with-is w) ∙ e) (λ x ex e₁.
+      of-take _ _ e (λ x ex e₁.
       let n = number s (w .next) 8 in
       let g = thresholds-back bs (w .nodes) (number s (w .next + 8) 1) (entered w) x h ex in
       let a : Label = record { names = n; thresholds = x .0 } in

@@ -77,11 +77,11 @@ module _ {L : Type 0} (K : Kind L) where
   pastF f w = record { next = w .next + length (forestBytes f); nodes = w .nodes + nodesF f; parts = w .parts ++ partsOfF f (w .nodes) (w .next) }
 
   node-length : (a : L) (f : Forest L) → length (treeBytes (node a f)) ≡ 10 + length (K .own a) + length (forestBytes f)
-  unfolding nodeBytes
+  unfolding nodeBytes bytes count
   node-length a f = omega (arith, length-append (K .own a) (forestBytes f))
 
   past-none : (w : Spot) → pastF none w ≡ w
-  unfolding nodeBytes partsOf nodes
+  unfolding nodeBytes bytes count partsOf nodes
   past-none w = same-spot _ w (add-zero (w .next)) (add-zero (w .nodes)) (append-nil (w .parts))
 
   past-node : (a : L) (f : Forest L) (w : Spot) → pastF f (pastLabel a w) ≡ past (node a f) w
@@ -89,7 +89,7 @@ module _ {L : Type 0} (K : Kind L) where
   past-node a f w = same-spot _ _ (omega (arith, node-length a f)) (omega arith) (append-assoc (w .parts) _ _)
 
   past-more : (r : ℕ) (t : Tree L) (f : Forest L) (w : Spot) → pastF f (past t (onward 1 w)) ≡ pastF (more r t f) w
-  unfolding nodeBytes partsOf nodes
+  unfolding nodeBytes bytes count partsOf nodes
   past-more r t f w =
       same-spot _ _ (omega (arith, length-append (treeBytes t) (forestBytes f))) (add-assoc (w .nodes) _ _) (append-assoc (w .parts) _ _)
 
@@ -99,7 +99,7 @@ module _ {L : Type 0} (K : Kind L) where
   owned = map (λ a. length (K .own a))
 
   mutual
-    unfolding nodes written nodeBytes
+    unfolding nodes written nodeBytes bytes count
 
     pub tree-length : (t : Tree L) → length (treeBytes t) + 1 ≡ 11 * nodes t + total (owned (written t))
     tree-length (node a f) = omega (arith, node-length a f, forest-length f)
@@ -169,7 +169,7 @@ module _ {L : Type 0} (K : Kind L) where
     before f w h = record { reached = omega arith; few = omega arith; room = omega (arith, length-append (w .parts) (partsOfF f (w .nodes) (w .next))) }
 
     pub node-open : (left : ℕ) (a : L) (f : Forest L) (w : Spot) → TreeAt (suc left) (node a f) w → NodeAt left a f w
-    unfolding each levels nodeBytes
+    unfolding each levels nodeBytes bytes count
     node-open left a f w h =
         let p = w .next in
         let k = and-both (K .ok a) (eachF (K .ok) f) (h .allowed) in
@@ -186,7 +186,7 @@ module _ {L : Type 0} (K : Kind L) where
         }
 
     node-close : (left : ℕ) (a : L) (f : Forest L) (w : Spot) → NodeAt left a f w → TreeAt (suc left) (node a f) w
-    unfolding each levels nodeBytes
+    unfolding each levels nodeBytes bytes count
     node-close left a f w h =
         let p = w .next in
         let at8 = byte-stands s (p + 8) _ (h .label .many) in
@@ -202,7 +202,7 @@ module _ {L : Type 0} (K : Kind L) where
         }
 
     pub more-open : (left r : ℕ) (t : Tree L) (f : Forest L) (w : Spot) → ForestAt left (more r t f) w → MoreAt left r t f w
-    unfolding each levels nodeBytes
+    unfolding each levels nodeBytes bytes count
     more-open left r t f w h =
         let p = w .next in
         let k = and-both (leb r 31 && each (K .ok) t) (eachF (K .ok) f) (h .allowed) in
@@ -219,7 +219,7 @@ module _ {L : Type 0} (K : Kind L) where
         }
 
     more-close : (left r : ℕ) (t : Tree L) (f : Forest L) (w : Spot) → MoreAt left r t f w → ForestAt left (more r t f) w
-    unfolding each levels nodeBytes
+    unfolding each levels nodeBytes bytes count
     more-close left r t f w h =
         let p = w .next in
         let one = stands-join s p (p + 1) (r ∷ []) (treeBytes t) (byte-stands s p r (h .role)) (h .child .stands) refl in
@@ -232,7 +232,7 @@ module _ {L : Type 0} (K : Kind L) where
         }
 
     none-at : (left : ℕ) (w : Spot) → Within end w → ForestAt left none w
-    unfolding each levels nodeBytes
+    unfolding each levels nodeBytes bytes count
     none-at left w h =
         record { allowed = tt; shallow = omega arith; stands = stands-none s (w .next); fits = subst (Within end) (sym (past-none w)) h }
 
@@ -240,7 +240,7 @@ module _ {L : Type 0} (K : Kind L) where
 
     module _ (label-bytes : (a : L) (w : Spot) → LabelAt a w → (K .howMany a < 256) × Bytes (K .own a)) where
       mutual
-        unfolding nodeBytes levels
+        unfolding nodeBytes bytes count levels
 
         pub tree-bytes : (t : Tree L) (left : ℕ) (w : Spot) → TreeAt left t w → Bytes (treeBytes t)
         tree-bytes (node a f) zero w h = absurd (omega (arith, h .shallow))

@@ -12,7 +12,7 @@ use Rattle.meaning.specs.Whole.{any, meetsBy}
 use Rattle.meaning.specs.Reduce.{dropped, keep, reduce, size, scale}
 use Rattle.meaning.specs.Degree.{best, degree}
 use Rattle.meaning.specs.Requirement.{every}
-use Rattle.meaning.specs.Message.{nodeBytes, thresholdsBytes, readNode, readThresholds, withThresholds, readRequirement}
+use Rattle.meaning.specs.Message.{nodeBytes, thresholdsBytes, readChildren, readNode, noThresholds, readThreshold, readThresholds, withThresholds, readRequirement}
 use Rattle.meaning.specs.Message.{encode as message}
 use Rattle.meaning.specs.Shown.{shown, yesBy}
 use Rattle.meaning.specs.Calls.{readPlain, degreeCall, marginCall, memberCall}
@@ -21,6 +21,6 @@ use Rattle.meaning.specs.Sheet.{sameList, sameWhole, rows, allTrue}
 pub sheet : T (allTrue rows)
 unfolding
     rows allTrue sameList sameWhole degreeCall marginCall memberCall readPlain readRequirement readRegisterBy readBody readItems readLink readLinks itemsBytes linksBytes readHead number bytes fields headed
-    image message nodeBytes thresholdsBytes readNode readThresholds withThresholds shown yesBy degree best lowest gcd reduce keep dropped size scale
+    image message nodeBytes thresholdsBytes readNode readChildren noThresholds readThreshold readThresholds withThresholds shown yesBy degree best lowest gcd reduce keep dropped size scale
     meetsBy any every refuseIf _>>=_ _>>_ targets count under nodes relabel ones
 sheet = tt

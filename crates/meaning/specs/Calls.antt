@@ -27,7 +27,6 @@ firstPart [] = good tt
 firstPart (p ∷ ps) = refused (at requirement 11 (p .first))
 
 unfoldable pub readPlain : List ℕ → Answer Concept
-unfolding readRequirement
 readPlain message = do
   (q, parts) ← readRequirement message
   firstPart parts
@@ -44,7 +43,6 @@ pub record Found : Type 0 where
   pub map : List ℕ
 
 unfoldable pub degreeCall : List ℕ → List ℕ → ℕ → ℕ → Answer Found
-unfolding readPlain
 degreeCall image message item room = do
   g ← readRegister image
   t ← readPlain message
@@ -64,7 +62,6 @@ pub record Against : Type 0 where
   pub over : ℕ
 
 unfoldable pub marginCall : List ℕ → List ℕ → ℕ → ℕ → ℕ → Answer Against
-unfolding readPlain
 marginCall image message item p q = do
   g ← readRegister image
   t ← readPlain message

@@ -74,8 +74,6 @@ sound t = bounded soundLabel t && leb (length (thresholdsOf t)) mostThresholds
 -- what stands at a node between its names and its children: how many thresholds, and their bytes
 module _ {L : Type 0} (namesOf : L → ℕ) (howMany : L → ℕ) (own : L → List ℕ) where
   unfoldable mutual
-    unfolding bytes count
-
     pub nodeBytes : Tree L → List ℕ
     nodeBytes (node a f) = bytes 8 (namesOf a) ++ (howMany a ∷ count f ∷ []) ++ own a ++ childrenBytes f
 
@@ -136,7 +134,6 @@ module _ {L : Type 0} (label : Spot → Answer (L × Spot)) (s : List ℕ) (end 
 
   -- "At a node: 1, 9, 10, 11." The first argument is how many levels are left.
   unfoldable pub readNode : ℕ → Spot → Answer (Tree L × Spot)
-  unfolding readChildren
   readNode zero w = do
     fields requirement end (8 ∷ 1 ∷ 1 ∷ []) (w .next)
     refused (at requirement 9 (w .next))
@@ -149,7 +146,6 @@ module _ {L : Type 0} (label : Spot → Answer (L × Spot)) (s : List ℕ) (end 
 
 -- number 11: "threshold inside an inner concept (place of its count)"
 unfoldable pub noThresholds : List ℕ → Spot → Answer (ℕ × Spot)
-unfolding number
 noThresholds s w = do
   refuseIf (ltb 0 (number s (w .next + 8) 1)) (at requirement 11 (w .next + 8))
   good (number s (w .next) 8, entered w)
@@ -158,11 +154,9 @@ noThresholds s w = do
 abbrev pub readInner : List ℕ → ℕ → ℕ → Answer (Concept × Spot)
 readInner s end p = readNode (noThresholds s) s end mostLevels (record { next = p; nodes = 0; parts = [] })
 
--- "At a threshold: 12, 1, 13, 1 (inner length), then the inner concept, 8, 14." k thresholds of the written node `owner`
-unfoldable pub readThresholds : List ℕ → ℕ → ℕ → ℕ → Spot → Answer (List Threshold × Spot)
-unfolding number fields readNode noThresholds
-readThresholds s end owner zero w = good ([], w)
-readThresholds s end owner (suc k) w = do
+-- "At a threshold: 12, 1, 13, 1 (inner length), then the inner concept, 8, 14." One of the written node `owner`
+unfoldable pub readThreshold : List ℕ → ℕ → ℕ → Spot → Answer (Threshold × Spot)
+readThreshold s end owner w = do
   let p = w .next
   refuseIf (leb mostThresholds (length (w .parts))) (at requirement 12 p)
   fields requirement end (1 ∷ 2 ∷ 2 ∷ []) p
@@ -173,22 +167,30 @@ readThresholds s end owner (suc k) w = do
   (t, v) ← readInner s (p + 7 + len) (p + 7)
   refuseIf (ltb (v .next) (p + 7 + len)) (at requirement 8 (v .next))
   refuseIf (ltb mostSize (size (reduce t))) (at requirement 14 (p + 7))
-  (hs, u) ← readThresholds s end owner k (record {
-    next = p + 7 + len;
-    nodes = w .nodes;
-    parts = w .parts ++ (record { owner = owner; first = p; len = len } ∷ []);
-  })
-  good (record { how = comparison (number s p 1); limit = number s (p + 1) 2 // number s (p + 3) 2; inner = t } ∷ hs, u)
+  good (
+    record { how = comparison (number s p 1); limit = number s (p + 1) 2 // number s (p + 3) 2; inner = t },
+    record {
+      next = p + 7 + len;
+      nodes = w .nodes;
+      parts = w .parts ++ (record { owner = owner; first = p; len = len } ∷ []);
+    },
+  )
+
+-- k of them, one after the other
+unfoldable pub readThresholds : List ℕ → ℕ → ℕ → ℕ → Spot → Answer (List Threshold × Spot)
+readThresholds s end owner zero w = good ([], w)
+readThresholds s end owner (suc k) w = do
+  (h, v) ← readThreshold s end owner w
+  (hs, u) ← readThresholds s end owner k v
+  good (h ∷ hs, u)
 
 unfoldable pub withThresholds : List ℕ → ℕ → Spot → Answer (Label × Spot)
-unfolding number readThresholds
 withThresholds s end w = do
   (hs, v) ← readThresholds s end (w .nodes) (number s (w .next + 8) 1) (entered w)
   good (record { names = number s (w .next) 8; thresholds = hs }, v)
 
 -- the whole message: the requirement, and where its thresholds stand
 unfoldable pub readRequirement : List ℕ → Answer (Requirement × List Part)
-unfolding readHead readNode withThresholds
 readRequirement s = do
   end ← readHead requirement unequal s
   (t, w) ← readNode (withThresholds s end) s end mostLevels (record { next = 3; nodes = 0; parts = [] })
@@ -212,5 +214,4 @@ partOf s k (refused r) = []
 
 -- "A part without bytes means refused: message bad, or no k-th."
 unfoldable pub innerPart : List ℕ → ℕ → List ℕ
-unfolding readRequirement kth
 innerPart s k = partOf s k (readRequirement s)
