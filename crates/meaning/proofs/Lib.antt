@@ -20,6 +20,7 @@ pub mod Apart
 pub mod Best
 pub mod Fraction
 pub mod Lowest
+pub mod Euclid
 pub mod Scale
 pub mod Value
 pub mod Chosen
