@@ -1,7 +1,6 @@
 // The C boundary: each call of the libraries as a C function, declared in include/svelgandur.h. A call answers in four numbers that the
 // caller lends: the kind of the answer, then three numbers that go with the kind (specs/Numbers.antt). Everything handed in is bytes or
 // numbers, so no bit pattern that a caller hands in is undefined.
-use meaning::Refusal;
 use register::Reading;
 
 mod answer;

@@ -1,3 +1,5 @@
+-- `svelgandur::svelgandur_read_register` meets its contract: the numbers written are those of the reading, which is meaning's.
+-- Assumes nothing.
 use borrow.Author.Needs.{needs}
 use Rattle.svelgandur.proofs.svelgandur_read_register.Statement.{statement}
 use Rattle.svelgandur.proofs.svelgandur_read_register.Tie as tie

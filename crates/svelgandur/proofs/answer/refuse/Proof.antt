@@ -1,3 +1,5 @@
+-- `svelgandur::answer::refuse` meets its contract: the second number is the side's.
+-- Assumes nothing.
 use borrow.Author.Needs.{needs}
 use Rattle.svelgandur.proofs.answer.refuse.Statement.{statement}
 use Rattle.svelgandur.proofs.answer.refuse.Tie as tie
