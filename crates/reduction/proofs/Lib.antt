@@ -1,1 +1,2 @@
 pub mod Subsumed
+pub mod Marks

@@ -9,6 +9,11 @@ use Rattle.meaning.specs.Reduce.{dropped}
 use Rattle.meaning.specs.Rows.{mark, Marked}
 use Rattle.reduction.specs.Held.{ForTree, ForTrees}
 
+-- one mark is set, and no other is changed
+pub record Put (old new : List ℕ) (c v : ℕ) : Type 0 where
+  pub here : getD new c 0 ≡ v
+  pub others : (k : ℕ) → (k ≡ c → ⊥) → getD new k 0 ≡ getD old k 0
+
 module _ (names roles ends : List ℕ) (left : ℕ) (old new : List ℕ) where
   -- what is below the node is marked, and no mark of another row is changed
   pub record MarkedBelow (n : ℕ) : Type 0 where

@@ -2,12 +2,13 @@
 // For each written node: its names, the role of the edge to it, and the index just past its subtree; marks: 1 kept, 0 dropped.
 ghost use mathlib.Core.Path.{_≡_};
 ghost use Prim.Native.Nat.{ℕ, _+_, _*_, _≤_, _<_};
+ghost use lib.ListN.{length};
 ghost use Rattle.meaning.specs.Names.{names as count, within as contained};
 ghost use Rattle.meaning.specs.Reduce.{subsumes as above, size as sizeOf, reduce as reducedOf};
 ghost use Rattle.meaning.specs.InPlace.{scaleIn};
 ghost use Rattle.reduction.specs.Held.{Held, ForTree};
 ghost use Rattle.reduction.specs.Subsumed.{exceeds as over, Two, Tests, TestsLike, Among, TestsOne, Sibling, TestsDropped};
-ghost use Rattle.reduction.specs.Marks.{MarkedBelow, MarkedChild, MarkedWhole};
+ghost use Rattle.reduction.specs.Marks.{Put, MarkedBelow, MarkedChild, MarkedWhole};
 ghost use Rattle.reduction.specs.Sizes.{HeldBy, Counts, CountsKept, Sized, SizedKept, Small, SmallKept};
 
 // A byte as a number.
@@ -117,6 +118,14 @@ fn dropped(names: &[u64; 64], roles: &[u8; 64], ends: &[u8; 64], first: usize, c
     exceeds_one(names, roles, ends, c, next, end, left)
 }
 
+// Sets one mark.
+fn put(marks: &mut [u8], c: usize, v: u8)
+    requires { ⌜ c < length (now marks) ⌝ }
+    ensures { λ _. ⌜ Put (now (marks .entry)) (now (marks .exit)) c v ⌝ }
+{
+    marks[c] = v;
+}
+
 // Marks what is below the node.
 fn mark(names: &[u64; 64], roles: &[u8; 64], ends: &[u8; 64], marks: &mut [u8; 64], node: usize, left: usize)
     requires { ⌜ Held (now names) (now roles) (now ends) left node ⌝ }
@@ -136,10 +145,10 @@ fn mark_child(names: &[u64; 64], roles: &[u8; 64], ends: &[u8; 64], marks: &mut 
     ensures { λ _. ⌜ MarkedChild (now (names .entry)) (now (roles .entry)) (now (ends .entry)) left (now (marks .entry)) (now (marks .exit)) first c end ⌝ }
 {
     if dropped(names, roles, ends, first, c, end, left) {
-        marks[c] = 0;
+        put(marks, c, 0);
         return;
     }
-    marks[c] = 1;
+    put(marks, c, 1);
     mark(names, roles, ends, marks, c, left);
 }
 
@@ -148,7 +157,7 @@ pub fn reduce(names: &[u64; 64], roles: &[u8; 64], ends: &[u8; 64], marks: &mut 
     requires { ⌜ Held (now names) (now roles) (now ends) 17 0 ⌝ }
     ensures { λ _. ⌜ MarkedWhole (now (names .entry)) (now (roles .entry)) (now (ends .entry)) (now (marks .exit)) ⌝ }
 {
-    marks[0] = 1;
+    put(marks, 0, 1);
     mark(names, roles, ends, marks, 0, 17);
 }
 
