@@ -10,8 +10,12 @@ use lib.Dec.{eqb}
 use lib.ListN.{getD}
 use Rattle.meaning.specs.Tree.{Tree, node, Forest, none, more, Concept, under}
 use Rattle.meaning.specs.Whole.{any}
-use Rattle.meaning.specs.Reduce.{subsumes, dropped}
+use Rattle.meaning.specs.Reduce.{subsumes, dropped, keep, reduce, reduceF, mostSize}
+use Rattle.meaning.specs.InPlace.{sizeIn, scaleIn, scaleInF}
 use Rattle.meaning.specs.Rows.{Holds, HoldsF, mark, Marked, MarkedF}
+use Rattle.meaning.proofs.Scale.{scale-pos, scaleF-pos}
+use Rattle.meaning.proofs.Bound.{mostScale, scale-bound}
+use Rattle.meaning.proofs.InPlace.{size-in, scale-in, scaleF-in}
 
 -- ---- one level at a time
 
@@ -227,3 +231,101 @@ or-none false = refl
 pub dropped-onto : (r : ℕ) (b : Forest ℕ) (t : Concept) (l : List Concept) → dropped (under r (onto b none)) t l ≡ dropped (under r b) t l
 unfolding dropped under any
 dropped-onto r b t l = rw (any-onto (λ d. subsumes t d) r b none ∙ or-none (any (λ d. subsumes t d) (under r b)))
+
+-- ---- a walk over the children of the node n, for what is worked out from a marked tree
+
+module _ (names roles ends marks : List ℕ) (left n : ℕ) where
+  -- The walk has come to row c of the tree t. The children in `before` are passed, the last one first, and those in `rest` are to come.
+  -- Of a marked tree P holds, which says what was worked out so far.
+  pub record Walked (P : Concept → Forest ℕ → Forest ℕ → Type 0) (c : ℕ) (t : Concept) : Type 0 where
+    pub before : Forest ℕ
+    pub rest : Forest ℕ
+    pub back : HoldsF names roles ends rest (left - 1) c (getD ends n 0)
+    pub marked : Marked ends marks t n → MarkedF ends marks rest before c
+    pub so-far : Marked ends marks t n → P t rest before
+
+  -- for whatever tree stands at n
+  abbrev pub Walk : (Concept → Forest ℕ → Forest ℕ → Type 0) → ℕ → Type 0
+  Walk P c = (t : Concept) → Holds names roles ends t left n (getD ends n 0) → Walked P c t
+
+  pub walk-start : (P : Concept → Forest ℕ → Forest ℕ → Type 0) → ((f : Forest ℕ) → P (node (getD names n 0) f) f none) → Walk P (n + 1)
+  unfolding Holds Marked
+  walk-start P start (node a f) h = record {
+    before = none;
+    rest = f;
+    back = h .4;
+    marked = λ m. m;
+    so-far = λ m. subst (λ z. P (node z f) f none) (h .2) (start f)
+    }
+
+  module _ (P : Concept → Forest ℕ → Forest ℕ → Type 0) (c : ℕ) (w : Walk P c) where
+    -- the child at c: whether it is dropped, what is marked below it, and what was worked out before it
+    pub record Met (t v : Concept) (f b : Forest ℕ) : Type 0 where
+      pub holds : Holds names roles ends v (left - 1) c (getD ends c 0)
+      pub marked : getD marks c 0 ≡ mark (dropped (under (getD roles c 0) b) v (under (getD roles c 0) f))
+      pub below : getD marks c 0 ≡ 1 → Marked ends marks v c
+      pub so-far : P t (more (getD roles c 0) v f) b
+
+    pub walk-meets : c < getD ends n 0 → (t : Concept) → Holds names roles ends t left n (getD ends n 0) → Marked ends marks t n
+        → (v : Concept) × (f : Forest ℕ) × (b : Forest ℕ) × Met t v f b
+    unfolding Holds Marked
+    walk-meets lt t h m = let u = w t h in go (u .rest) (u .before) (u .back) (u .marked m) (u .so-far m)
+      where
+        go : (f b : Forest ℕ) → HoldsF names roles ends f (left - 1) c (getD ends n 0) → MarkedF ends marks f b c → P t f b
+            → (v : Concept) × (f : Forest ℕ) × (b : Forest ℕ) × Met t v f b
+        go none b h x p = absurd (let z : c ≡ getD ends n 0 = h in omega arith)
+        go (more r v f) b h x p =
+            let e = sym (h .0) in
+            (
+              v,
+              f,
+              b,
+              record {
+                holds = h .2;
+                marked = x .0 ∙ ap (λ (z : ℕ). mark (dropped (under z b) v (under z f))) e;
+                below = x .1;
+                so-far = subst (λ z. P t (more z v f) b) e p
+                },
+            )
+
+    pub walk-next : (Q : Concept → Forest ℕ → Forest ℕ → Type 0) → c < getD ends n 0 → {m : ℕ} → m ≡ getD ends c 0
+        → ((t v : Concept) (f b : Forest ℕ) → Met t v f b → Q t f (more (getD roles c 0) v b)) → Walk Q m
+    unfolding Holds Marked
+    walk-next Q lt {m} on step t h = let u = w t h in go (u .rest) (u .before) (u .back) (u .marked) (u .so-far)
+      where
+        go : (f b : Forest ℕ) → HoldsF names roles ends f (left - 1) c (getD ends n 0) → (Marked ends marks t n → MarkedF ends marks f b c)
+            → (Marked ends marks t n → P t f b) → Walked Q m t
+        go none b h x p = absurd (let z : c ≡ getD ends n 0 = h in omega arith)
+        go (more r v f) b h x p = record {
+          before = more r v b;
+          rest = f;
+          back = rw on (h .3);
+          marked = λ k. rw on (x k .2);
+          so-far = λ k.
+            let e = sym (h .0) in
+            let y = x k in
+            subst (λ z. Q t f (more z v b)) (h .0)
+            (step t v f b
+            record {
+              holds = h .2;
+              marked = y .0 ∙ ap (λ (z : ℕ). mark (dropped (under z b) v (under z f))) e;
+              below = y .1;
+              so-far = subst (λ z. P t (more z v f) b) e (p k)
+              })
+          }
+
+    pub walk-end : getD ends n 0 ≤ c → (t : Concept) → Holds names roles ends t left n (getD ends n 0) → Marked ends marks t n → (b : Forest ℕ) × P t none b
+    walk-end le t h m =
+        let u = w t h in
+        (u .before, subst (λ z. P t z (u .before)) (ran-out names roles ends (u .rest) (left - 1) c (getD ends n 0) (u .back) le) (u .so-far m))
+
+-- ---- bounds of what is worked out in place
+
+pub scaleIn-pos : (t : Concept) → 0 < scaleIn t
+scaleIn-pos t = rw scale-in at (scale-pos (reduce t))
+
+pub scaleInF-pos : (f b : Forest ℕ) → 0 < scaleInF f b
+scaleInF-pos f b = rw scaleF-in at (scaleF-pos (keep (reduceF b) (reduceF f)))
+
+pub scaleIn-bound : (t : Concept) → sizeIn t ≤ mostSize → scaleIn t ≤ mostScale
+scaleIn-bound t h = rw scale-in at (scale-bound (reduce t) (rw (size-in t) h))

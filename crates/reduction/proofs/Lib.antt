@@ -1,2 +1,3 @@
 pub mod Subsumed
 pub mod Marks
+pub mod Sizes
