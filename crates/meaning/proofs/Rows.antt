@@ -4,14 +4,14 @@
 use mathlib.Core.Path.{_≡_, refl, sym, ap, ap₂, subst, _∙_}
 use mathlib.Core.Bool.{Bool, true, false, _||_, cond}
 use mathlib.Core.List.{List, [], _∷_}
-use Prim.Native.Nat.{ℕ, _+_, _-_, _≤_, _<_}
+use Prim.Native.Nat.{ℕ, _+_, _*_, _-_, _≤_, _<_}
 use native.Mathlib.Omega.{arith}
 use lib.Dec.{eqb}
 use lib.ListN.{getD}
 use Rattle.meaning.specs.Tree.{Tree, node, Forest, none, more, Concept, under}
 use Rattle.meaning.specs.Whole.{any}
 use Rattle.meaning.specs.Reduce.{subsumes, dropped, keep, reduce, reduceF, mostSize}
-use Rattle.meaning.specs.InPlace.{sizeIn, scaleIn, scaleInF}
+use Rattle.meaning.specs.InPlace.{countIn, sizeIn, sizeInF, scaleIn, scaleInF}
 use Rattle.meaning.specs.Rows.{Holds, HoldsF, mark, Marked, MarkedF}
 use Rattle.meaning.proofs.Scale.{scale-pos, scaleF-pos}
 use Rattle.meaning.proofs.Bound.{mostScale, scale-bound}
@@ -318,6 +318,72 @@ module _ (names roles ends marks : List ℕ) (left n : ℕ) where
     walk-end le t h m =
         let u = w t h in
         (u .before, subst (λ z. P t z (u .before)) (ran-out names roles ends (u .rest) (left - 1) c (getD ends n 0) (u .back) le) (u .so-far m))
+
+-- ---- what one child gives: u under r, before which the children b are written, and behind it those of f
+
+module _ (r : ℕ) (u : Concept) (f b : Forest ℕ) where
+  -- whether it is dropped
+  abbrev pub drops : Bool
+  drops = dropped (under r b) u (under r f)
+
+  pub size-more : (x : ℕ) → x ≡ cond drops 0 (1 + sizeIn u) → countIn (more r u f) b + sizeInF (more r u f) b ≡ x + (countIn f (more r u b) + sizeInF f (more r u b))
+  unfolding sizeIn
+  size-more x e = go drops e
+    where
+      c : ℕ
+      c = countIn f (more r u b)
+
+      s : ℕ
+      s = sizeInF f (more r u b)
+
+      go : (d : Bool) → x ≡ cond d 0 (1 + sizeIn u) → cond d c (1 + c) + cond d s (sizeIn u + s) ≡ x + (c + s)
+      go true e = omega arith
+      go false e = omega arith
+
+  pub count-more : (y : ℕ) → y ≡ mark drops → countIn (more r u f) b ≡ y + countIn f (more r u b)
+  unfolding sizeIn
+  count-more y e = go drops e
+    where
+      c : ℕ
+      c = countIn f (more r u b)
+
+      go : (d : Bool) → y ≡ mark d → cond d c (1 + c) ≡ y + c
+      go true e = omega arith
+      go false e = omega arith
+
+  pub scale-more : (x : ℕ) → x ≡ cond drops 1 (scaleIn u) → scaleInF (more r u f) b ≡ x * scaleInF f (more r u b)
+  unfolding scaleIn
+  scale-more x e = go drops e
+    where
+      s : ℕ
+      s = scaleInF f (more r u b)
+
+      go : (d : Bool) → x ≡ cond d 1 (scaleIn u) → cond d s (scaleIn u * s) ≡ x * s
+      go true e = rw e (omega arith)
+      go false e = rw e
+
+  -- what is left is smaller, and so is the child if it is kept
+  pub rest-smaller : sizeInF f (more r u b) ≤ sizeInF (more r u f) b
+  unfolding sizeIn
+  rest-smaller = go drops
+    where
+      s : ℕ
+      s = sizeInF f (more r u b)
+
+      go : (d : Bool) → s ≤ cond d s (sizeIn u + s)
+      go true = omega arith
+      go false = omega arith
+
+  pub child-smaller : drops ≡ false → sizeIn u ≤ sizeInF (more r u f) b
+  unfolding sizeIn
+  child-smaller e = go drops e
+    where
+      s : ℕ
+      s = sizeInF f (more r u b)
+
+      go : (d : Bool) → d ≡ false → sizeIn u ≤ cond d s (sizeIn u + s)
+      go true e = absurd (let z : _≡_ {A = ℕ} 0 1 = cc in omega arith)
+      go false e = omega arith
 
 -- ---- bounds of what is worked out in place
 

@@ -1,7 +1,7 @@
 -- Size and scale as the code works them out: one law for each way out of a function and each turn of a loop.
 -- Assumes nothing.
 use mathlib.Core.Path.{_≡_, refl, sym, ap, ap₂, subst, _∙_}
-use mathlib.Core.Bool.{Bool, true, false, cond}
+use mathlib.Core.Bool.{Bool, true, false}
 use mathlib.Core.List.{List}
 use Prim.Native.Nat.{ℕ, zero, suc, _+_, _*_, _-_, _≤_, _<_, max}
 use native.Mathlib.Nat.{mul-assoc, mul-le-mul-left}
@@ -12,7 +12,7 @@ use Rattle.meaning.specs.Tree.{node, Forest, none, more, Concept, under}
 use Rattle.meaning.specs.Reduce.{dropped, mostSize}
 use Rattle.meaning.specs.InPlace.{countIn, sizeIn, sizeInF, scaleIn, scaleInF}
 use Rattle.meaning.specs.Rows.{Holds, HoldsF, mark, Marked}
-use Rattle.meaning.proofs.Rows.{first, Walk, walk-start, Met, walk-meets, walk-next, walk-end, scaleInF-pos, scaleIn-bound}
+use Rattle.meaning.proofs.Rows.{drops, size-more, count-more, scale-more, rest-smaller, child-smaller, Walk, walk-start, walk-meets, walk-next, walk-end, scaleInF-pos, scaleIn-bound}
 use Rattle.reduction.specs.Held.{Held, HeldF}
 use Rattle.reduction.specs.Sizes.{HeldBy, Counts, CountsKept, Sized, SizedKept, Small, SmallKept}
 use Rattle.reduction.proofs.Subsumed.{Front, front}
@@ -22,21 +22,6 @@ use Rattle.reduction.proofs.Subsumed.{Front, front}
 -- the size of t is v with what the children f add, before which the children b are written
 abbrev pub SizeSoFar : ℕ → Concept → Forest ℕ → Forest ℕ → Type 0
 SizeSoFar v t f b = sizeIn t ≡ v + (countIn f b + sizeInF f b)
-
-size-more : (r : ℕ) (u : Concept) (f b : Forest ℕ) (x : ℕ) → x ≡ cond (dropped (under r b) u (under r f)) 0 (1 + sizeIn u)
-    → countIn (more r u f) b + sizeInF (more r u f) b ≡ x + (countIn f (more r u b) + sizeInF f (more r u b))
-unfolding sizeIn
-size-more r u f b x e = go (dropped (under r b) u (under r f)) e
-  where
-    c : ℕ
-    c = countIn f (more r u b)
-
-    s : ℕ
-    s = sizeInF f (more r u b)
-
-    go : (d : Bool) → x ≡ cond d 0 (1 + sizeIn u) → cond d c (1 + c) + cond d s (sizeIn u + s) ≡ x + (c + s)
-    go true e = omega arith
-    go false e = omega arith
 
 module _ (names ends : List ℕ) (left : ℕ) (marks : List ℕ) (n : ℕ) where
   abbrev pub Sizing : ℕ → ℕ → Type 0
@@ -55,7 +40,7 @@ module _ (names ends : List ℕ) (left : ℕ) (marks : List ℕ) (n : ℕ) where
   pub size-next : (v c : ℕ) → Sizing v c → c < getD ends n 0 → (x : ℕ) → SizedKept names ends (left - 1) marks c x → {m : ℕ} → m ≡ getD ends c 0 → Sizing (v + x) m
   size-next v c w lt x s on roles =
       walk-next names roles ends marks left n (SizeSoFar v) c (w roles) (SizeSoFar (v + x)) lt on (λ t u f b m.
-        let q = size-more (getD roles c 0) u f b x (s .right roles u (m .holds) (dropped (under (getD roles c 0) b) u (under (getD roles c 0) f)) (m .marked) (m .below)) in
+        let q = size-more (getD roles c 0) u f b x (s .right roles u (m .holds) (drops (getD roles c 0) u f b) (m .marked) (m .below)) in
         let p = m .so-far in
         omega arith)
 
@@ -83,6 +68,10 @@ module _ (names ends : List ℕ) (left : ℕ) (marks : List ℕ) (c : ℕ) where
       let q = is-kept d e z in
       rw q (s roles t h (below (e ∙ ap mark q)))
 
+  -- a mark that is not 0 is 1
+  pub one-mark : SmallKept names ends left marks c → (getD marks c 0 ≡ 0 → ⊥) → getD marks c 0 ≡ 1
+  one-mark s z = s .kind ∙ ap mark (is-kept (s .dropped) (s .kind) z)
+
   pub none-sized : getD marks c 0 ≡ 0 → SizedKept names ends left marks c 0
   none-sized z = record { right = none-counted (λ t. 1 + sizeIn t) 0 z; small = omega arith }
 
@@ -98,55 +87,6 @@ pub record ScaleSoFar (v p : ℕ) (t : Concept) (f b : Forest ℕ) : Type 0 wher
   pub total : scaleIn t ≡ max 1 (v + countIn f b) * (p * scaleInF f b)
   pub small : sizeInF f b ≤ sizeIn t
   pub few : v + countIn f b ≤ sizeIn t
-
-module _ (r : ℕ) (u : Concept) (f b : Forest ℕ) where
-  abbrev drops : Bool
-  drops = dropped (under r b) u (under r f)
-
-  count-more : (y : ℕ) → y ≡ mark drops → countIn (more r u f) b ≡ y + countIn f (more r u b)
-  unfolding sizeIn
-  count-more y e = go drops e
-    where
-      c : ℕ
-      c = countIn f (more r u b)
-
-      go : (d : Bool) → y ≡ mark d → cond d c (1 + c) ≡ y + c
-      go true e = omega arith
-      go false e = omega arith
-
-  scale-more : (x : ℕ) → x ≡ cond drops 1 (scaleIn u) → scaleInF (more r u f) b ≡ x * scaleInF f (more r u b)
-  unfolding scaleIn
-  scale-more x e = go drops e
-    where
-      s : ℕ
-      s = scaleInF f (more r u b)
-
-      go : (d : Bool) → x ≡ cond d 1 (scaleIn u) → cond d s (scaleIn u * s) ≡ x * s
-      go true e = rw e (omega arith)
-      go false e = rw e
-
-  -- what is left is smaller, and so is the child if it is kept
-  rest-smaller : sizeInF f (more r u b) ≤ sizeInF (more r u f) b
-  unfolding sizeIn
-  rest-smaller = go drops
-    where
-      s : ℕ
-      s = sizeInF f (more r u b)
-
-      go : (d : Bool) → s ≤ cond d s (sizeIn u + s)
-      go true = omega arith
-      go false = omega arith
-
-  child-smaller : drops ≡ false → sizeIn u ≤ sizeInF (more r u f) b
-  unfolding sizeIn
-  child-smaller e = go drops e
-    where
-      s : ℕ
-      s = sizeInF f (more r u b)
-
-      go : (d : Bool) → d ≡ false → sizeIn u ≤ cond d s (sizeIn u + s)
-      go true e = absurd (let z : _≡_ {A = ℕ} 0 1 = cc in omega arith)
-      go false e = omega arith
 
 -- a part of a product whose other parts are positive
 part-le : (k a s : ℕ) → 0 < k → 0 < s → a ≤ k * (a * s)
@@ -193,7 +133,7 @@ module _ (names ends : List ℕ) (left : ℕ) (marks : List ℕ) (n : ℕ) where
         walk-next names roles ends marks left n (ScaleSoFar v p) c (w roles) (ScaleSoFar (v + y) (p * x)) lt on (λ t u f b m.
           let r = getD roles c 0 in
           let d = count-more r u f b y (q ∙ m .marked) in
-          let e = scale-more r u f b x (k roles u (m .holds) _ (m .marked) (m .below)) in
+          let e = scale-more r u f b x (k roles u (m .holds) (drops r u f b) (m .marked) (m .below)) in
           let a = m .so-far .small in
           let g = m .so-far .few in
           let l = rest-smaller r u f b in
@@ -225,12 +165,12 @@ module _ (names ends : List ℕ) (left : ℕ) (marks : List ℕ) (n : ℕ) where
             record {
               roles = s .roles;
               held = record { tree = q .0; holds = m .holds; fits = f };
-              dropped = dropped (under r (q .2)) (q .0) (under r (q .1));
+              dropped = drops r (q .0) (q .1) (q .2);
               kind = m .marked;
               marked = m .below;
               small = λ z.
                 let a = child-smaller r (q .0) (q .1) (q .2)
-                    (is-kept names ends left marks c _ (m .marked) (λ y. let o : _≡_ {A = ℕ} 0 1 = sym y ∙ z in omega arith)) in
+                    (is-kept names ends left marks c (drops r (q .0) (q .1) (q .2)) (m .marked) (λ y. let o : _≡_ {A = ℕ} 0 1 = sym y ∙ z in omega arith)) in
                 let b = m .so-far .small in
                 let l : sizeIn (s .held .tree) ≤ 60 = s .small in
                 omega arith
@@ -241,7 +181,7 @@ module _ (names ends : List ℕ) (left : ℕ) (marks : List ℕ) (n : ℕ) where
             let q = walk-meets names (s .roles) ends marks left n (ScaleSoFar v p) c (w (s .roles)) lt (s .held .tree) (s .held .holds) (s .marked) in
             let m = q .3 in
             let r = getD (s .roles) c 0 in
-            let e = scale-more r (q .0) (q .1) (q .2) x (k (s .roles) (q .0) (m .holds) _ (m .marked) (m .below)) in
+            let e = scale-more r (q .0) (q .1) (q .2) x (k (s .roles) (q .0) (m .holds) (drops r (q .0) (q .1) (q .2)) (m .marked) (m .below)) in
             let j : p * scaleInF (more r (q .0) (q .1)) (q .2) ≡ p * x * scaleInF (q .1) (more r (q .0) (q .2)) = rw e (sym (mul-assoc _ _ _)) in
             let l = scaleIn-bound (s .held .tree) (s .small) in
             let a = part-le (max 1 (v + countIn (more r (q .0) (q .1)) (q .2))) (p * x) (scaleInF (q .1) (more r (q .0) (q .2))) (omega arith) (scaleInF-pos _ _) in
