@@ -58,8 +58,8 @@ module _ (names roles ends : List ℕ) where
         inside = o .inside;
         within = h .1;
         here = h .2;
-        after = h .3
-        }
+        after = h .3;
+      }
 
   pub holdsF-le : (f : Forest ℕ) (left i e : ℕ) → HoldsF names roles ends f left i e → i ≤ e
   unfolding Holds
@@ -118,8 +118,8 @@ module _ (names roles ends names′ roles′ ends′ : List ℕ) where
   part j m s l h = record {
     names-at = λ k a b. s .names-at k (omega arith) (omega arith);
     roles-at = λ k a b. s .roles-at k (omega arith) (omega arith);
-    ends-at = λ k a b. s .ends-at k (omega arith) (omega arith)
-    }
+    ends-at = λ k a b. s .ends-at k (omega arith) (omega arith);
+  }
 
   mutual
     unfolding Holds
@@ -138,8 +138,7 @@ module _ (names roles ends names′ roles′ ends′ : List ℕ) where
         let z : i ≤ i = omega arith in
         let l : i < e = omega arith in
         let m : getD ends′ i 0 ≡ getD ends i 0 = s .ends-at i z l in
-        rw m
-        (
+        rw m (
           s .roles-at i z l ∙ h .0,
           q,
           holds-kept t left i (getD ends i 0) (part i (getD ends i 0) s (omega arith) q) (h .2),
@@ -164,8 +163,7 @@ module _ (names roles ends old new : List ℕ) where
     markedF-kept (more r t f) b left i e s h m =
         let o = opened names roles ends t left i (getD ends i 0) (h .2) in
         let q : getD ends i 0 ≤ e = h .1 in
-        let z : getD new i 0 ≡ getD old i 0 = s i (omega arith) (omega arith) in
-        (
+        let z : getD new i 0 ≡ getD old i 0 = s i (omega arith) (omega arith) in (
           z ∙ m .0,
           (λ g. marked-kept t left i (getD ends i 0) (λ k x y. s k (omega arith) (omega arith)) (h .2) (m .1 (sym z ∙ g))),
           markedF-kept f (more r t b) left (getD ends i 0) e (λ k x y. s k (omega arith) y) (h .3) (m .2),
@@ -255,8 +253,8 @@ module _ (names roles ends marks : List ℕ) (left n : ℕ) where
     rest = f;
     back = h .4;
     marked = λ m. m;
-    so-far = λ m. subst (λ z. P (node z f) f none) (h .2) (start f)
-    }
+    so-far = λ m. subst (λ z. P (node z f) f none) (h .2) (start f);
+  }
 
   module _ (P : Concept → Forest ℕ → Forest ℕ → Type 0) (c : ℕ) (w : Walk P c) where
     -- the child at c: whether it is dropped, what is marked below it, and what was worked out before it
@@ -275,8 +273,7 @@ module _ (names roles ends marks : List ℕ) (left n : ℕ) where
             → (v : Concept) × (f : Forest ℕ) × (b : Forest ℕ) × Met t v f b
         go none b h x p = absurd (let z : c ≡ getD ends n 0 = h in omega arith)
         go (more r v f) b h x p =
-            let e = sym (h .0) in
-            (
+            let e = sym (h .0) in (
               v,
               f,
               b,
@@ -284,8 +281,8 @@ module _ (names roles ends marks : List ℕ) (left n : ℕ) where
                 holds = h .2;
                 marked = x .0 ∙ ap (λ (z : ℕ). mark (dropped (under z b) v (under z f))) e;
                 below = x .1;
-                so-far = subst (λ z. P t (more z v f) b) e p
-                },
+                so-far = subst (λ z. P t (more z v f) b) e p;
+              },
             )
 
     pub walk-next : (Q : Concept → Forest ℕ → Forest ℕ → Type 0) → c < getD ends n 0 → {m : ℕ} → m ≡ getD ends c 0
@@ -302,17 +299,17 @@ module _ (names roles ends marks : List ℕ) (left n : ℕ) where
           back = rw on (h .3);
           marked = λ k. rw on (x k .2);
           so-far = λ k.
-            let e = sym (h .0) in
-            let y = x k in
-            subst (λ z. Q t f (more z v b)) (h .0)
-            (step t v f b
-            record {
-              holds = h .2;
-              marked = y .0 ∙ ap (λ (z : ℕ). mark (dropped (under z b) v (under z f))) e;
-              below = y .1;
-              so-far = subst (λ z. P t (more z v f) b) e (p k)
-              })
-          }
+              let e = sym (h .0) in
+              let y = x k in
+              subst (λ z. Q t f (more z v b)) (h .0)
+              (step t v f b
+              record {
+                holds = h .2;
+                marked = y .0 ∙ ap (λ (z : ℕ). mark (dropped (under z b) v (under z f))) e;
+                below = y .1;
+                so-far = subst (λ z. P t (more z v f) b) e (p k);
+              });
+        }
 
     pub walk-end : getD ends n 0 ≤ c → (t : Concept) → Holds names roles ends t left n (getD ends n 0) → Marked ends marks t n → (b : Forest ℕ) × P t none b
     walk-end le t h m =

@@ -27,16 +27,16 @@ module _ (names roles ends : List ℕ) (left : ℕ) where
       marked = λ b hb t h f hf. p .here ∙ sym (ap mark (sym (test b hb t h f hf) ∙ q));
       below = λ t h z. absurd (let n : _≡_ {A = ℕ} 0 1 = sym (p .here) ∙ z in omega arith);
       earlier = λ k l. p .others k (λ z. let n : k ≡ c = z in omega arith);
-      later = λ k l. p .others k (λ z. let n : k ≡ c = z in omega arith)
-      }
+      later = λ k l. p .others k (λ z. let n : k ≡ c = z in omega arith);
+    }
 
     pub child-kept : (mid new : List ℕ) → d ≡ false → Put old mid c 1 → MarkedBelow names roles ends left mid new c → MarkedChild names roles ends left old new i c e
     child-kept mid new q p w = record {
       marked = λ b hb t h f hf. w .earlier c (omega arith) ∙ p .here ∙ sym (ap mark (sym (test b hb t h f hf) ∙ q));
       below = λ t h z. w .marked t h;
       earlier = λ k l. w .earlier k (omega arith) ∙ p .others k (λ z. let n : k ≡ c = z in omega arith);
-      later = λ k l. w .later k l ∙ p .others k (λ z. let n : k ≡ c = z in omega arith)
-      }
+      later = λ k l. w .later k l ∙ p .others k (λ z. let n : k ≡ c = z in omega arith);
+    }
 
   -- ---- the children of a node, one after the other
 
@@ -68,11 +68,11 @@ module _ (names roles ends : List ℕ) (left : ℕ) where
       unfolding Marked
       mark-all le = record {
         marked = λ t h.
-          let u = w .unmarked t h in
-          u .done new (λ k a b. refl) (rw (ran-out names roles ends (u .rest) (left - 1) c (getD ends n 0) (u .back) le) tt);
+            let u = w .unmarked t h in
+            u .done new (λ k a b. refl) (rw (ran-out names roles ends (u .rest) (left - 1) c (getD ends n 0) (u .back) le) tt);
         earlier = w .earlier;
-        later = w .later
-        }
+        later = w .later;
+      }
 
       pub next-child : Held names roles ends left n → c < getD ends n 0 → Sibling names roles ends (left - 1) (n + 1) c (getD ends n 0)
       next-child h lt =
@@ -83,8 +83,8 @@ module _ (names roles ends : List ℕ) (left : ℕ) where
           record {
             before = record { trees = onto (u .before) none; holds = u .front; fits = omega arith };
             here = record { tree = o .tree; holds = o .here; fits = omega arith };
-            after = record { trees = o .rest; holds = o .after; fits = l }
-            }
+            after = record { trees = o .rest; holds = o .after; fits = l };
+          }
 
       module _ (lt : c < getD ends n 0) (new′ : List ℕ) {e : ℕ} (to : e ≡ getD ends n 0) (s : MarkedChild names roles ends (left - 1) new new′ (n + 1) c e) where
         pub mark-next : {m : ℕ} → m ≡ getD ends c 0 → Held names roles ends left n → Marking old new′ m
@@ -99,8 +99,8 @@ module _ (names roles ends : List ℕ) (left : ℕ) where
               after = omega arith;
               unmarked = λ t h. let u = w .unmarked t h in go t p i (u .before) (u .rest) (u .front) (u .back) (u .done);
               earlier = λ k l. s .earlier k (omega arith) ∙ w .earlier k l;
-              later = λ k l. s .later k (omega arith) ∙ w .later k l
-              }
+              later = λ k l. s .later k (omega arith) ∙ w .later k l;
+            }
           where
             go : (t : Concept) → n < c → c < getD ends c 0 → (b f : Forest ℕ) → HoldsF names roles ends (onto b none) (left - 1) (n + 1) c
                 → HoldsF names roles ends f (left - 1) c (getD ends n 0)
@@ -113,14 +113,13 @@ module _ (names roles ends : List ℕ) (left : ℕ) where
               front = rw on (holds-onto names roles ends b (more r v none) (left - 1) (n + 1) c (getD ends c 0) front (back .0, omega arith, back .2, refl));
               back = rw on (back .3);
               done = λ marks same x.
-                let here : getD marks c 0 ≡ getD new′ c 0 = same c p (omega arith) in
-                let d : getD new′ c 0 ≡ mark (dropped (under r b) v (under r f)) =
-                    rw (back .0, dropped-onto r b v (under r f)) at (s .marked (onto b none) front v (back .2) f (rw to (back .3))) in
-                done marks (λ k x y. same k x (omega arith) ∙ s .earlier k y)
-                (
-                  here ∙ d,
-                  (λ g. marked-kept names roles ends new′ marks v (left - 1) c (getD ends c 0) (λ k x y. same k (omega arith) (omega arith)) (back .2)
-                    (s .below v (back .2) (sym here ∙ g))),
-                  rw on at x,
-                )
-              }
+                  let here : getD marks c 0 ≡ getD new′ c 0 = same c p (omega arith) in
+                  let d : getD new′ c 0 ≡ mark (dropped (under r b) v (under r f)) =
+                  rw (back .0, dropped-onto r b v (under r f)) at (s .marked (onto b none) front v (back .2) f (rw to (back .3))) in
+                  done marks (λ k x y. same k x (omega arith) ∙ s .earlier k y) (
+                    here ∙ d,
+                    (λ g. marked-kept names roles ends new′ marks v (left - 1) c (getD ends c 0) (λ k x y. same k (omega arith) (omega arith)) (back .2)
+                        (s .below v (back .2) (sym here ∙ g))),
+                    rw on at x,
+                  );
+            }

@@ -40,9 +40,9 @@ module _ (names ends : List ℕ) (left : ℕ) (marks : List ℕ) (n : ℕ) where
   pub size-next : (v c : ℕ) → Sizing v c → c < getD ends n 0 → (x : ℕ) → SizedKept names ends (left - 1) marks c x → {m : ℕ} → m ≡ getD ends c 0 → Sizing (v + x) m
   size-next v c w lt x s on roles =
       walk-next names roles ends marks left n (SizeSoFar v) c (w roles) (SizeSoFar (v + x)) lt on (λ t u f b m.
-        let q = size-more (getD roles c 0) u f b x (s .right roles u (m .holds) (drops (getD roles c 0) u f b) (m .marked) (m .below)) in
-        let p = m .so-far in
-        omega arith)
+      let q = size-more (getD roles c 0) u f b x (s .right roles u (m .holds) (drops (getD roles c 0) u f b) (m .marked) (m .below)) in
+      let p = m .so-far in
+      omega arith)
 
   pub size-all : (v c : ℕ) → Sizing v c → getD ends n 0 ≤ c → Counts names ends left marks sizeIn n v
   unfolding sizeIn
@@ -101,8 +101,8 @@ module _ (names ends : List ℕ) (left : ℕ) (marks : List ℕ) (n : ℕ) where
   scale-start v e roles = walk-start names roles ends marks left n (ScaleSoFar v 1) (λ f. record {
     total = ap₂ (λ (x y : ℕ). max 1 (x + countIn f none) * y) (sym e) (omega arith);
     small = omega arith;
-    few = omega arith
-    })
+    few = omega arith;
+  })
 
   -- of a tree that is small enough
   pub scale-small : Small names ends left marks n → (w : ℕ) → Counts names ends left marks scaleIn n w → w ≤ 3486784401
@@ -131,17 +131,17 @@ module _ (names ends : List ℕ) (left : ℕ) (marks : List ℕ) (n : ℕ) where
         → Scaling (v + y) (p * x) m
     scale-next lt y q x k on roles =
         walk-next names roles ends marks left n (ScaleSoFar v p) c (w roles) (ScaleSoFar (v + y) (p * x)) lt on (λ t u f b m.
-          let r = getD roles c 0 in
-          let d = count-more r u f b y (q ∙ m .marked) in
-          let e = scale-more r u f b x (k roles u (m .holds) (drops r u f b) (m .marked) (m .below)) in
-          let a = m .so-far .small in
-          let g = m .so-far .few in
-          let l = rest-smaller r u f b in
-          record {
-            total = m .so-far .total ∙ ap₂ (λ (i j : ℕ). max 1 i * j) (omega arith) (rw e (sym (mul-assoc _ _ _)));
-            small = omega arith;
-            few = omega arith
-            })
+        let r = getD roles c 0 in
+        let d = count-more r u f b y (q ∙ m .marked) in
+        let e = scale-more r u f b x (k roles u (m .holds) (drops r u f b) (m .marked) (m .below)) in
+        let a = m .so-far .small in
+        let g = m .so-far .few in
+        let l = rest-smaller r u f b in
+        record {
+          total = m .so-far .total ∙ ap₂ (λ (i j : ℕ). max 1 i * j) (omega arith) (rw e (sym (mul-assoc _ _ _)));
+          small = omega arith;
+          few = omega arith;
+        })
 
     module _ (s : Small names ends left marks n) where
       pub few-names : v ≤ 60
@@ -169,12 +169,12 @@ module _ (names ends : List ℕ) (left : ℕ) (marks : List ℕ) (n : ℕ) where
               kind = m .marked;
               marked = m .below;
               small = λ z.
-                let a = child-smaller r (q .0) (q .1) (q .2)
-                    (is-kept names ends left marks c (drops r (q .0) (q .1) (q .2)) (m .marked) (λ y. let o : _≡_ {A = ℕ} 0 1 = sym y ∙ z in omega arith)) in
-                let b = m .so-far .small in
-                let l : sizeIn (s .held .tree) ≤ 60 = s .small in
-                omega arith
-              }
+                  let a = child-smaller r (q .0) (q .1) (q .2)
+                  (is-kept names ends left marks c (drops r (q .0) (q .1) (q .2)) (m .marked) (λ y. let o : _≡_ {A = ℕ} 0 1 = sym y ∙ z in omega arith)) in
+                  let b = m .so-far .small in
+                  let l : sizeIn (s .held .tree) ≤ 60 = s .small in
+                  omega arith;
+            }
 
         pub product-fits : (x : ℕ) → CountsKept names ends (left - 1) marks scaleIn 1 c x → p * x ≤ 3486784401
         product-fits x k =

@@ -45,8 +45,8 @@ module _ (names roles ends : List ℕ) (left : ℕ) where
         inside = o .inside;
         within = o .within;
         here = record { tree = o .tree; holds = o .here; fits = omega arith };
-        after = record { trees = o .rest; holds = o .after; fits = l }
-        }
+        after = record { trees = o .rest; holds = o .after; fits = l };
+      }
 
 module _ (names roles ends : List ℕ) (left : ℕ) where
   abbrev H : Concept → ℕ → Type 0

@@ -1,13 +1,13 @@
 // Which nodes of a concept tree are dropped, its reduced size and its scale, over rows in reading order.
 // For each written node: its names, the role of the edge to it, and the index just past its subtree; marks: 1 kept, 0 dropped.
 ghost use mathlib.Core.Path.{_≡_};
-ghost use Prim.Native.Nat.{ℕ, _+_, _*_, _≤_, _<_};
+ghost use Prim.Native.Nat.{_≤_, _<_};
 ghost use lib.ListN.{length};
-ghost use Rattle.meaning.specs.Names.{names as count, within as contained};
-ghost use Rattle.meaning.specs.Reduce.{subsumes as above, size as sizeOf, reduce as reducedOf};
+ghost use Rattle.meaning.specs.Names.{names, within};
+ghost use Rattle.meaning.specs.Reduce.{subsumes, size, reduce};
 ghost use Rattle.meaning.specs.InPlace.{scaleIn};
 ghost use Rattle.reduction.specs.Held.{Held, ForTree};
-ghost use Rattle.reduction.specs.Subsumed.{exceeds as over, Two, Tests, TestsLike, Among, TestsOne, Sibling, TestsDropped};
+ghost use Rattle.reduction.specs.Subsumed.{exceeds, Two, Tests, TestsLike, Among, TestsOne, Sibling, TestsDropped};
 ghost use Rattle.reduction.specs.Marks.{Put, MarkedBelow, MarkedChild, MarkedWhole};
 ghost use Rattle.reduction.specs.Sizes.{HeldBy, Counts, CountsKept, Sized, SizedKept, Small, SmallKept};
 
@@ -21,23 +21,30 @@ fn wide(x: u8) -> usize
 
 // Each name of a is one of b.
 fn within(a: u64, b: u64) -> bool
-    ensures { λ r. ⌜ r ≡ contained a b ⌝ }
+    ensures { λ r. ⌜ r ≡ within a b ⌝ }
 {
     a & b == a
 }
 
 // How many names a set has.
 fn named(a: u64) -> usize
-    ensures { λ r. ⌜ r ≡ count a ⌝ }
+    ensures { λ r. ⌜ r ≡ names a ⌝ }
     ensures { λ r. ⌜ r ≤ 64 ⌝ }
 {
     u64::count_ones(a) as usize
 }
 
 // Whether the tree at c subsumes the one at d: a whole map of c's tree into d's exists, root to root.
-fn subsumes(names: &[u64; 64], roles: &[u8; 64], ends: &[u8; 64], c: usize, d: usize, left: usize) -> bool
+fn subsumes(
+    names: &[u64; 64],
+    roles: &[u8; 64],
+    ends: &[u8; 64],
+    c: usize,
+    d: usize,
+    left: usize,
+) -> bool
     requires { ⌜ Two (now names) (now roles) (now ends) left c d ⌝ }
-    ensures { λ r. ⌜ Tests (now (names .entry)) (now (roles .entry)) (now (ends .entry)) left above c d r ⌝ }
+    ensures { λ r. ⌜ Tests (now (names .entry)) (now (roles .entry)) (now (ends .entry)) left subsumes c d r ⌝ }
 {
     if !within(names[c], names[d]) {
         return false;
@@ -55,9 +62,17 @@ fn subsumes(names: &[u64; 64], roles: &[u8; 64], ends: &[u8; 64], c: usize, d: u
 }
 
 // Whether the tree at c subsumes one of those from `first` up to `end` under c's role.
-fn subsumes_one(names: &[u64; 64], roles: &[u8; 64], ends: &[u8; 64], c: usize, first: usize, end: usize, left: usize) -> bool
+fn subsumes_one(
+    names: &[u64; 64],
+    roles: &[u8; 64],
+    ends: &[u8; 64],
+    c: usize,
+    first: usize,
+    end: usize,
+    left: usize,
+) -> bool
     requires { ⌜ Among (now names) (now roles) (now ends) left c first end ⌝ }
-    ensures { λ r. ⌜ TestsOne (now (names .entry)) (now (roles .entry)) (now (ends .entry)) left above c first end r ⌝ }
+    ensures { λ r. ⌜ TestsOne (now (names .entry)) (now (roles .entry)) (now (ends .entry)) left subsumes c first end r ⌝ }
 {
     let mut d = first;
     while d < end {
@@ -70,9 +85,16 @@ fn subsumes_one(names: &[u64; 64], roles: &[u8; 64], ends: &[u8; 64], c: usize, 
 }
 
 // Whether the trees at c and d stand under the same role, and the first subsumes the second.
-fn subsumes_like(names: &[u64; 64], roles: &[u8; 64], ends: &[u8; 64], c: usize, d: usize, left: usize) -> bool
+fn subsumes_like(
+    names: &[u64; 64],
+    roles: &[u8; 64],
+    ends: &[u8; 64],
+    c: usize,
+    d: usize,
+    left: usize,
+) -> bool
     requires { ⌜ Two (now names) (now roles) (now ends) left c d ⌝ }
-    ensures { λ r. ⌜ TestsLike (now (names .entry)) (now (roles .entry)) (now (ends .entry)) left above c d r ⌝ }
+    ensures { λ r. ⌜ TestsLike (now (names .entry)) (now (roles .entry)) (now (ends .entry)) left subsumes c d r ⌝ }
 {
     if roles[c] != roles[d] {
         return false;
@@ -81,9 +103,17 @@ fn subsumes_like(names: &[u64; 64], roles: &[u8; 64], ends: &[u8; 64], c: usize,
 }
 
 // Whether the tree at c subsumes one of those from `first` up to `end` under c's role, which does not subsume it.
-fn exceeds_one(names: &[u64; 64], roles: &[u8; 64], ends: &[u8; 64], c: usize, first: usize, end: usize, left: usize) -> bool
+fn exceeds_one(
+    names: &[u64; 64],
+    roles: &[u8; 64],
+    ends: &[u8; 64],
+    c: usize,
+    first: usize,
+    end: usize,
+    left: usize,
+) -> bool
     requires { ⌜ Among (now names) (now roles) (now ends) left c first end ⌝ }
-    ensures { λ r. ⌜ TestsOne (now (names .entry)) (now (roles .entry)) (now (ends .entry)) left over c first end r ⌝ }
+    ensures { λ r. ⌜ TestsOne (now (names .entry)) (now (roles .entry)) (now (ends .entry)) left exceeds c first end r ⌝ }
 {
     let mut d = first;
     while d < end {
@@ -96,9 +126,16 @@ fn exceeds_one(names: &[u64; 64], roles: &[u8; 64], ends: &[u8; 64], c: usize, f
 }
 
 // Whether the trees at c and d stand under the same role, the first subsumes the second, and the converse fails.
-fn exceeds(names: &[u64; 64], roles: &[u8; 64], ends: &[u8; 64], c: usize, d: usize, left: usize) -> bool
+fn exceeds(
+    names: &[u64; 64],
+    roles: &[u8; 64],
+    ends: &[u8; 64],
+    c: usize,
+    d: usize,
+    left: usize,
+) -> bool
     requires { ⌜ Two (now names) (now roles) (now ends) left c d ⌝ }
-    ensures { λ r. ⌜ TestsLike (now (names .entry)) (now (roles .entry)) (now (ends .entry)) left over c d r ⌝ }
+    ensures { λ r. ⌜ TestsLike (now (names .entry)) (now (roles .entry)) (now (ends .entry)) left exceeds c d r ⌝ }
 {
     if subsumes_like(names, roles, ends, c, d, left) {
         return !subsumes(names, roles, ends, d, c, left);
@@ -107,7 +144,15 @@ fn exceeds(names: &[u64; 64], roles: &[u8; 64], ends: &[u8; 64], c: usize, d: us
 }
 
 // Whether the child at c, of the children from `first` up to `end`, is dropped.
-fn dropped(names: &[u64; 64], roles: &[u8; 64], ends: &[u8; 64], first: usize, c: usize, end: usize, left: usize) -> bool
+fn dropped(
+    names: &[u64; 64],
+    roles: &[u8; 64],
+    ends: &[u8; 64],
+    first: usize,
+    c: usize,
+    end: usize,
+    left: usize,
+) -> bool
     requires { ⌜ Sibling (now names) (now roles) (now ends) left first c end ⌝ }
     ensures { λ r. ⌜ TestsDropped (now (names .entry)) (now (roles .entry)) (now (ends .entry)) left first c end r ⌝ }
 {
@@ -127,7 +172,14 @@ fn put(marks: &mut [u8], c: usize, v: u8)
 }
 
 // Marks what is below the node.
-fn mark(names: &[u64; 64], roles: &[u8; 64], ends: &[u8; 64], marks: &mut [u8; 64], node: usize, left: usize)
+fn mark(
+    names: &[u64; 64],
+    roles: &[u8; 64],
+    ends: &[u8; 64],
+    marks: &mut [u8; 64],
+    node: usize,
+    left: usize,
+)
     requires { ⌜ Held (now names) (now roles) (now ends) left node ⌝ }
     ensures { λ _. ⌜ MarkedBelow (now (names .entry)) (now (roles .entry)) (now (ends .entry)) left (now (marks .entry)) (now (marks .exit)) node ⌝ }
 {
@@ -140,7 +192,16 @@ fn mark(names: &[u64; 64], roles: &[u8; 64], ends: &[u8; 64], marks: &mut [u8; 6
 }
 
 // Marks the child at c, of the children from `first` up to `end`, and what is below it if it is kept.
-fn mark_child(names: &[u64; 64], roles: &[u8; 64], ends: &[u8; 64], marks: &mut [u8; 64], first: usize, c: usize, end: usize, left: usize)
+fn mark_child(
+    names: &[u64; 64],
+    roles: &[u8; 64],
+    ends: &[u8; 64],
+    marks: &mut [u8; 64],
+    first: usize,
+    c: usize,
+    end: usize,
+    left: usize,
+)
     requires { ⌜ Sibling (now names) (now roles) (now ends) left first c end ⌝ }
     ensures { λ _. ⌜ MarkedChild (now (names .entry)) (now (roles .entry)) (now (ends .entry)) left (now (marks .entry)) (now (marks .exit)) first c end ⌝ }
 {
@@ -190,7 +251,7 @@ fn child_size(names: &[u64; 64], ends: &[u8; 64], marks: &[u8; 64], c: usize, le
 // The size of the reduced form of the whole tree at row 0.
 pub fn reduced_size(names: &[u64; 64], roles: &[u8; 64], ends: &[u8; 64]) -> usize
     requires { ⌜ Held (now names) (now roles) (now ends) 17 0 ⌝ }
-    ensures { λ r. ⌜ ForTree (now (names .entry)) (now (roles .entry)) (now (ends .entry)) 17 0 (λ t. r ≡ sizeOf (reducedOf t)) ⌝ }
+    ensures { λ r. ⌜ ForTree (now (names .entry)) (now (roles .entry)) (now (ends .entry)) 17 0 (λ t. r ≡ size (reduce t)) ⌝ }
     ensures { λ r. ⌜ r < 4160 ⌝ }
 {
     let mut marks = [0u8; 64];
