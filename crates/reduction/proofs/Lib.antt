@@ -1,0 +1,3 @@
+pub mod Subsumed
+pub mod Marks
+pub mod Sizes

@@ -1,0 +1,4 @@
+pub mod Held
+pub mod Subsumed
+pub mod Marks
+pub mod Sizes

@@ -1,0 +1,292 @@
+// Which nodes of a concept tree are dropped, its reduced size and its scale, over rows in reading order.
+// For each written node: its names, the role of the edge to it, and the index just past its subtree; marks: 1 kept, 0 dropped.
+ghost use mathlib.Core.Path.{_≡_};
+ghost use Prim.Native.Nat.{_≤_, _<_};
+ghost use lib.ListN.{length};
+ghost use Rattle.meaning.specs.Names.{names, within};
+ghost use Rattle.meaning.specs.Reduce.{subsumes, size, reduce};
+ghost use Rattle.meaning.specs.InPlace.{scaleIn};
+ghost use Rattle.reduction.specs.Held.{Held, ForTree};
+ghost use Rattle.reduction.specs.Subsumed.{exceeds, Two, Tests, TestsLike, Among, TestsOne, Sibling, TestsDropped};
+ghost use Rattle.reduction.specs.Marks.{Put, MarkedBelow, MarkedChild, MarkedWhole};
+ghost use Rattle.reduction.specs.Sizes.{HeldBy, Counts, CountsKept, Sized, SizedKept, Small, SmallKept};
+
+// A byte as a number.
+fn wide(x: u8) -> usize
+    ensures { λ r. ⌜ r ≡ x ⌝ }
+    ensures { λ r. ⌜ r < 256 ⌝ }
+{
+    x as usize
+}
+
+// Each name of a is one of b.
+fn within(a: u64, b: u64) -> bool
+    ensures { λ r. ⌜ r ≡ within a b ⌝ }
+{
+    a & b == a
+}
+
+// How many names a set has.
+fn named(a: u64) -> usize
+    ensures { λ r. ⌜ r ≡ names a ⌝ }
+    ensures { λ r. ⌜ r ≤ 64 ⌝ }
+{
+    u64::count_ones(a) as usize
+}
+
+// Whether the tree at c subsumes the one at d: a whole map of c's tree into d's exists, root to root.
+fn subsumes(
+    names: &[u64; 64],
+    roles: &[u8; 64],
+    ends: &[u8; 64],
+    c: usize,
+    d: usize,
+    left: usize,
+) -> bool
+    requires { ⌜ Two (now names) (now roles) (now ends) left c d ⌝ }
+    ensures { λ r. ⌜ Tests (now (names .entry)) (now (roles .entry)) (now (ends .entry)) left subsumes c d r ⌝ }
+{
+    if !within(names[c], names[d]) {
+        return false;
+    }
+    let e = wide(ends[c]);
+    let m = wide(ends[d]);
+    let mut k = c + 1;
+    while k < e {
+        if !subsumes_one(names, roles, ends, k, d + 1, m, left - 1) {
+            return false;
+        }
+        k = wide(ends[k]);
+    }
+    true
+}
+
+// Whether the tree at c subsumes one of those from `first` up to `end` under c's role.
+fn subsumes_one(
+    names: &[u64; 64],
+    roles: &[u8; 64],
+    ends: &[u8; 64],
+    c: usize,
+    first: usize,
+    end: usize,
+    left: usize,
+) -> bool
+    requires { ⌜ Among (now names) (now roles) (now ends) left c first end ⌝ }
+    ensures { λ r. ⌜ TestsOne (now (names .entry)) (now (roles .entry)) (now (ends .entry)) left subsumes c first end r ⌝ }
+{
+    let mut d = first;
+    while d < end {
+        if subsumes_like(names, roles, ends, c, d, left) {
+            return true;
+        }
+        d = wide(ends[d]);
+    }
+    false
+}
+
+// Whether the trees at c and d stand under the same role, and the first subsumes the second.
+fn subsumes_like(
+    names: &[u64; 64],
+    roles: &[u8; 64],
+    ends: &[u8; 64],
+    c: usize,
+    d: usize,
+    left: usize,
+) -> bool
+    requires { ⌜ Two (now names) (now roles) (now ends) left c d ⌝ }
+    ensures { λ r. ⌜ TestsLike (now (names .entry)) (now (roles .entry)) (now (ends .entry)) left subsumes c d r ⌝ }
+{
+    if roles[c] != roles[d] {
+        return false;
+    }
+    subsumes(names, roles, ends, c, d, left)
+}
+
+// Whether the tree at c subsumes one of those from `first` up to `end` under c's role, which does not subsume it.
+fn exceeds_one(
+    names: &[u64; 64],
+    roles: &[u8; 64],
+    ends: &[u8; 64],
+    c: usize,
+    first: usize,
+    end: usize,
+    left: usize,
+) -> bool
+    requires { ⌜ Among (now names) (now roles) (now ends) left c first end ⌝ }
+    ensures { λ r. ⌜ TestsOne (now (names .entry)) (now (roles .entry)) (now (ends .entry)) left exceeds c first end r ⌝ }
+{
+    let mut d = first;
+    while d < end {
+        if exceeds(names, roles, ends, c, d, left) {
+            return true;
+        }
+        d = wide(ends[d]);
+    }
+    false
+}
+
+// Whether the trees at c and d stand under the same role, the first subsumes the second, and the converse fails.
+fn exceeds(
+    names: &[u64; 64],
+    roles: &[u8; 64],
+    ends: &[u8; 64],
+    c: usize,
+    d: usize,
+    left: usize,
+) -> bool
+    requires { ⌜ Two (now names) (now roles) (now ends) left c d ⌝ }
+    ensures { λ r. ⌜ TestsLike (now (names .entry)) (now (roles .entry)) (now (ends .entry)) left exceeds c d r ⌝ }
+{
+    if subsumes_like(names, roles, ends, c, d, left) {
+        return !subsumes(names, roles, ends, d, c, left);
+    }
+    false
+}
+
+// Whether the child at c, of the children from `first` up to `end`, is dropped.
+fn dropped(
+    names: &[u64; 64],
+    roles: &[u8; 64],
+    ends: &[u8; 64],
+    first: usize,
+    c: usize,
+    end: usize,
+    left: usize,
+) -> bool
+    requires { ⌜ Sibling (now names) (now roles) (now ends) left first c end ⌝ }
+    ensures { λ r. ⌜ TestsDropped (now (names .entry)) (now (roles .entry)) (now (ends .entry)) left first c end r ⌝ }
+{
+    if subsumes_one(names, roles, ends, c, first, c, left) {
+        return true;
+    }
+    let next = wide(ends[c]);
+    exceeds_one(names, roles, ends, c, next, end, left)
+}
+
+// Sets one mark.
+fn put(marks: &mut [u8], c: usize, v: u8)
+    requires { ⌜ c < length (now marks) ⌝ }
+    ensures { λ _. ⌜ Put (now (marks .entry)) (now (marks .exit)) c v ⌝ }
+{
+    marks[c] = v;
+}
+
+// Marks what is below the node.
+fn mark(
+    names: &[u64; 64],
+    roles: &[u8; 64],
+    ends: &[u8; 64],
+    marks: &mut [u8; 64],
+    node: usize,
+    left: usize,
+)
+    requires { ⌜ Held (now names) (now roles) (now ends) left node ⌝ }
+    ensures { λ _. ⌜ MarkedBelow (now (names .entry)) (now (roles .entry)) (now (ends .entry)) left (now (marks .entry)) (now (marks .exit)) node ⌝ }
+{
+    let end = wide(ends[node]);
+    let mut c = node + 1;
+    while c < end {
+        mark_child(names, roles, ends, marks, node + 1, c, end, left - 1);
+        c = wide(ends[c]);
+    }
+}
+
+// Marks the child at c, of the children from `first` up to `end`, and what is below it if it is kept.
+fn mark_child(
+    names: &[u64; 64],
+    roles: &[u8; 64],
+    ends: &[u8; 64],
+    marks: &mut [u8; 64],
+    first: usize,
+    c: usize,
+    end: usize,
+    left: usize,
+)
+    requires { ⌜ Sibling (now names) (now roles) (now ends) left first c end ⌝ }
+    ensures { λ _. ⌜ MarkedChild (now (names .entry)) (now (roles .entry)) (now (ends .entry)) left (now (marks .entry)) (now (marks .exit)) first c end ⌝ }
+{
+    if dropped(names, roles, ends, first, c, end, left) {
+        put(marks, c, 0);
+        return;
+    }
+    put(marks, c, 1);
+    mark(names, roles, ends, marks, c, left);
+}
+
+// Marks the whole tree at row 0.
+pub fn reduce(names: &[u64; 64], roles: &[u8; 64], ends: &[u8; 64], marks: &mut [u8; 64])
+    requires { ⌜ Held (now names) (now roles) (now ends) 17 0 ⌝ }
+    ensures { λ _. ⌜ MarkedWhole (now (names .entry)) (now (roles .entry)) (now (ends .entry)) (now (marks .exit)) ⌝ }
+{
+    put(marks, 0, 1);
+    mark(names, roles, ends, marks, 0, 17);
+}
+
+// The size of the tree at the node: names plus child edges, over all kept nodes.
+pub fn size(names: &[u64; 64], ends: &[u8; 64], marks: &[u8; 64], node: usize, left: usize) -> usize
+    requires { ⌜ HeldBy (now names) (now ends) left node ⌝ }
+    ensures { λ r. ⌜ Sized (now (names .entry)) (now (ends .entry)) left (now (marks .entry)) node r ⌝ }
+{
+    let end = wide(ends[node]);
+    let mut n = named(names[node]);
+    let mut c = node + 1;
+    while c < end {
+        n += child_size(names, ends, marks, c, left - 1);
+        c = wide(ends[c]);
+    }
+    n
+}
+
+// What the child at c adds: its edge and its size if it is kept.
+fn child_size(names: &[u64; 64], ends: &[u8; 64], marks: &[u8; 64], c: usize, left: usize) -> usize
+    requires { ⌜ HeldBy (now names) (now ends) left c ⌝ }
+    ensures { λ r. ⌜ SizedKept (now (names .entry)) (now (ends .entry)) left (now (marks .entry)) c r ⌝ }
+{
+    if marks[c] == 0 {
+        return 0;
+    }
+    1 + size(names, ends, marks, c, left)
+}
+
+// The size of the reduced form of the whole tree at row 0.
+pub fn reduced_size(names: &[u64; 64], roles: &[u8; 64], ends: &[u8; 64]) -> usize
+    requires { ⌜ Held (now names) (now roles) (now ends) 17 0 ⌝ }
+    ensures { λ r. ⌜ ForTree (now (names .entry)) (now (roles .entry)) (now (ends .entry)) 17 0 (λ t. r ≡ size (reduce t)) ⌝ }
+    ensures { λ r. ⌜ r < 4160 ⌝ }
+{
+    let mut marks = [0u8; 64];
+    reduce(names, roles, ends, &mut marks);
+    size(names, ends, &marks, 0, 17)
+}
+
+// The scale of the tree at the node: the product, over all kept nodes, of the names plus the kept children, with 1 for 0.
+pub fn scale(names: &[u64; 64], ends: &[u8; 64], marks: &[u8; 64], node: usize, left: usize) -> u64
+    requires { ⌜ Small (now names) (now ends) left (now marks) node ⌝ }
+    ensures { λ r. ⌜ Counts (now (names .entry)) (now (ends .entry)) left (now (marks .entry)) scaleIn node r ⌝ }
+    ensures { λ r. ⌜ r ≤ 3486784401 ⌝ }
+{
+    let end = wide(ends[node]);
+    let mut n = named(names[node]);
+    let mut product: u64 = 1;
+    let mut c = node + 1;
+    while c < end {
+        n += wide(marks[c]);
+        product *= child_scale(names, ends, marks, c, left - 1);
+        c = wide(ends[c]);
+    }
+    if n == 0 {
+        return product;
+    }
+    n as u64 * product
+}
+
+// What the child at c gives to the product.
+fn child_scale(names: &[u64; 64], ends: &[u8; 64], marks: &[u8; 64], c: usize, left: usize) -> u64
+    requires { ⌜ SmallKept (now names) (now ends) left (now marks) c ⌝ }
+    ensures { λ r. ⌜ CountsKept (now (names .entry)) (now (ends .entry)) left (now (marks .entry)) scaleIn 1 c r ⌝ }
+{
+    if marks[c] == 0 {
+        return 1;
+    }
+    scale(names, ends, marks, c, left)
+}
