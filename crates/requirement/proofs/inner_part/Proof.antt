@@ -1,0 +1,43 @@
+use borrow.Author.Needs.{needs}
+use Rattle.requirement.proofs.inner_part.Statement.{statement}
+use Rattle.requirement.proofs.inner_part.Tie as tie
+use Rattle.requirement.proofs.inner_part.Reads as reads
+use Rattle.requirement.proofs.inner_part.Lts as lts
+use Rattle.requirement.proofs.find_inner.Reads as find-inner-reads
+use mathlib.Core.Path.{_≡_, refl, sym, _∙_, ap, subst}
+use Prim.Native.Nat.{ℕ, _+_, _-_, _≤_}
+use native.Mathlib.Nat.{add-sub-cancel-left}
+use lib.ListN.{take, drop}
+use Rattle.requirement.specs.declared.Place.{Place}
+use Rattle.requirement.proofs.Inner.{inner-bytes}
+
+-- src/lib.rt:86:9
+find-inner-requires : tie.Need-find-inner-requires
+find-inner-requires c κs = search needs
+
+-- src/lib.rt:88:15
+add-end : tie.Need-add-end
+add-end c = search needs
+
+-- src/lib.rt:89:5
+sub-result : tie.Need-sub-result
+sub-result c = search needs
+
+-- src/lib.rt:89:5
+part-result-start : tie.Need-part-result-start
+part-result-start c = search needs
+
+-- src/lib.rt:89:5
+part-result-end : tie.Need-part-result-end
+part-result-end c = search needs
+
+-- src/lib.rt:83:1
+returns : tie.Need-returns
+returns c =
+    ap (λ (n : ℕ). take n (drop (c .before .before .find-inner .result .start) (c .before .before .before .before .args .s .now))) (add-sub-cancel-left (c .before .before .find-inner .result .start) (c .before .before .find-inner .result .len))
+    ∙ ap (λ (p : Place). take (p .len) (drop (p .start) (c .before .before .before .before .args .s .now))) (c .before .before .find-inner .ensures .0) ∙ inner-bytes (c .before .before .before .before .args .s .now) (c .before .before .before .before .args .k)
+
+pub inner-part-spec : {M : Type 1} → statement M
+inner-part-spec =
+    tie.close
+    (tie.spec find-inner-requires add-end sub-result part-result-start part-result-end returns)
