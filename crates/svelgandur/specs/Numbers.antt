@@ -1,6 +1,6 @@
 -- The four numbers in which a call answers: the kind, then three numbers that go with the kind. A refusal is of kind 0, and no other answer is.
 -- Assumes nothing.
-use mathlib.Core.Bool.{Bool, not}
+use mathlib.Core.Bool.{Bool, not, cond}
 use mathlib.Core.List.{List, [], _∷_}
 use Prim.Native.Nat.{ℕ}
 use lib.Dec.{eqb}
@@ -8,7 +8,12 @@ use Rattle.meaning.specs.declared.Side.{Side}
 use Rattle.meaning.specs.declared.Side.the-variants.{Register, Requirement, Call}
 use Rattle.meaning.specs.declared.Refusal.{Refusal}
 use Rattle.meaning.specs.Refusal.{Answer, good, refused}
+use lib.ListN.{length}
+use Rattle.meaning.specs.Tree.{nodes}
+use Rattle.meaning.specs.Requirement.{Requirement as RequirementTree}
+use Rattle.meaning.specs.Message.{Part}
 use Rattle.register.specs.Reading.{Counts}
+use Rattle.requirement.specs.declared.Place.{Place}
 
 abbrev pub four : ℕ → ℕ → ℕ → ℕ → List ℕ
 four kind a b c = kind ∷ a ∷ b ∷ c ∷ []
@@ -36,3 +41,11 @@ isSession n = not (eqb n 0)
 -- a register that was read: 1, items, links, 0
 abbrev pub counts : Counts → List ℕ
 counts n = four 1 (n .items) (n .links) 0
+
+-- a requirement that was read: 1, written nodes, thresholds, 0
+abbrev pub written : RequirementTree × List Part → List ℕ
+written x = four 1 (nodes (x .0)) (length (x .1)) 0
+
+-- where an inner concept stands: 1, place, length, 0; without bytes it is refused: 0, 0, 0, 0
+abbrev pub placeNumbers : Place → List ℕ
+placeNumbers p = cond (eqb (p .len) 0) (four 0 0 0 0) (four 1 (p .start) (p .len) 0)
