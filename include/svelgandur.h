@@ -62,6 +62,29 @@ extern "C" {
 void svelgandur_read_register(const uint8_t *image, size_t image_length,
                               uint64_t session, uint64_t answer[4]);
 
+/*
+ * Reads a requirement message.
+ *   message   the bytes, all of them.
+ *   answer    good: 1, how many nodes are written, how many thresholds, 0.
+ *             refused, on the requirement's side: 1 to 3, 7 to 14.
+ * The message is only read.
+ */
+void svelgandur_read_requirement(const uint8_t *message, size_t message_length,
+                                 uint64_t answer[4]);
+
+/*
+ * Says where the bytes of the k-th inner concept stand in a message, k from 0
+ * in reading order: they are that part of the message itself.
+ *   answer    good: 1, the place of its first byte, its length, 0; the place
+ *             and the length lie within the message, and the length is at
+ *             least 10.
+ *             refused, where the message is bad or has no k-th: 0, 0, 0, 0.
+ *             This call alone gives no number.
+ * The message is only read.
+ */
+void svelgandur_inner_part(const uint8_t *message, size_t message_length,
+                           uint64_t k, uint64_t answer[4]);
+
 #ifdef __cplusplus
 }
 #endif

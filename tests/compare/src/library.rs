@@ -5,11 +5,19 @@
 pub type Answer = [u64; 4];
 
 /// The declarations of the header, to hold it to what is called here.
-pub const DECLARATIONS: [&str; 1] = ["void svelgandur_read_register(\
-    const uint8_t *image, size_t image_length, uint64_t session, uint64_t answer[4])"];
+pub const DECLARATIONS: [&str; 3] = [
+    "void svelgandur_read_register(\
+    const uint8_t *image, size_t image_length, uint64_t session, uint64_t answer[4])",
+    "void svelgandur_read_requirement(\
+    const uint8_t *message, size_t message_length, uint64_t answer[4])",
+    "void svelgandur_inner_part(\
+    const uint8_t *message, size_t message_length, uint64_t k, uint64_t answer[4])",
+];
 
 extern "C" {
     fn svelgandur_read_register(image: *const u8, length: usize, session: u64, answer: *mut u64);
+    fn svelgandur_read_requirement(message: *const u8, length: usize, answer: *mut u64);
+    fn svelgandur_inner_part(message: *const u8, length: usize, k: u64, answer: *mut u64);
 }
 
 /// What the four numbers, and one on either side of them, hold before a call.
@@ -28,5 +36,19 @@ pub fn read_register(image: &[u8], session: u64) -> Answer {
     // SAFETY: the pointers are to the lengths that are passed with them.
     answered(|answer| unsafe {
         svelgandur_read_register(image.as_ptr(), image.len(), session, answer)
+    })
+}
+
+pub fn read_requirement(message: &[u8]) -> Answer {
+    // SAFETY: the pointers are to the lengths that are passed with them.
+    answered(|answer| unsafe {
+        svelgandur_read_requirement(message.as_ptr(), message.len(), answer)
+    })
+}
+
+pub fn inner_part(message: &[u8], k: u64) -> Answer {
+    // SAFETY: the pointers are to the lengths that are passed with them.
+    answered(|answer| unsafe {
+        svelgandur_inner_part(message.as_ptr(), message.len(), k, answer)
     })
 }
