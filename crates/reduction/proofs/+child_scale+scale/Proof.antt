@@ -16,8 +16,8 @@ use Prim.Native.Nat.{_+_, _*_, _-_, _≤_}
 use mathlib.Core.Path.{_≡_, refl, sym, _∙_}
 use lib.ListN.{getD}
 use Rattle.meaning.specs.InPlace.{scaleIn}
-use Rattle.reduction.proofs.Subsumed.{inside}
-use Rattle.reduction.proofs.Sizes.{none-counted, kept-counted, one-mark, Scaling, scale-start, scale-small, scale-none, scale-some, scale-next, few-names, scale-child, child-small, product-fits}
+use Rattle.reduction.proofs.Held.{inside}
+use Rattle.reduction.proofs.Sizes.{none-counted, kept-counted, Scaling, scale-start, scale-small, scale-none, scale-some, scale-next, few-names, scale-child, child-small, product-fits}
 use borrow.Author.Needs.{needs}
 
 abbrev μ-child-scale : Measures 3 child-scale-kinds.ps ℕ
@@ -42,7 +42,6 @@ scale-at t = and 3 scale-kinds.ps (is 3 scale-kinds.ps μ-scale t) scale.Pre
 abbrev scale-below : ℕ → In 3 scale-kinds.ps
 scale-below t = and 3 scale-kinds.ps (falls 3 scale-kinds.ps _<_ μ-scale t) scale.Pre
 
--- src/lib.rt:227:8
 child-scale-element-copy-out-if1 : (t : ℕ) → child-scale-lts.Need-element-copy-out-if1 (
   scale-below t,
   scale.Post,
@@ -50,28 +49,25 @@ child-scale-element-copy-out-if1 : (t : ℕ) → child-scale-lts.Need-element-co
 child-scale-element-copy-out-if1 t c =
     let o = inside _ _ _ _ _ (c .pre .1 .held) in let f = c .pre .1 .held .fits in omega arith
 
--- src/lib.rt:228:9
-child-scale-returns :
-    (t : ℕ) →
-    child-scale-lts.Need-returns (scale-below t, scale.Post) (child-scale-at t) child-scale.Post
-child-scale-returns t c =
-    none-counted _ _ _ _ _ scaleIn 1 (c .if1 .taken)
-
--- src/lib.rt:230:5
 child-scale-scale-requires : (t : ℕ) → child-scale-lts.Need-scale-requires (
   scale-below t,
   scale.Post,
 ) (child-scale-at t) child-scale.Post
 child-scale-scale-requires t c κs =
-    let m = one-mark _ _ _ _ _ (c .before .before .pre .1) (c .if1 .left) in
+    let m = c .if1 .taken in
     (omega (arith, c .before .before .pre .0), record { roles = c .before .before .pre .1 .roles; held = c .before .before .pre .1 .held; marked = c .before .before .pre .1 .marked m; small = c .before .before .pre .1 .small m })
 
--- src/lib.rt:223:1
+child-scale-returns :
+    (t : ℕ) →
+    child-scale-lts.Need-returns (scale-below t, scale.Post) (child-scale-at t) child-scale.Post
+child-scale-returns t c =
+    kept-counted _ _ _ _ _ scaleIn 1 _ (c .before .if1 .taken) (c .scale .ensures .0)
+
 child-scale-returns-2 :
     (t : ℕ) →
     child-scale-lts.Need-returns-2 (scale-below t, scale.Post) (child-scale-at t) child-scale.Post
 child-scale-returns-2 t c =
-    kept-counted _ _ _ _ _ scaleIn 1 _ (c .before .if1 .left) (c .scale .ensures .0)
+    none-counted _ _ _ _ _ scaleIn 1 (c .if1 .left)
 
 abbrev scale-Inv-loop : scale-lts.InvT-loop
 scale-Inv-loop names ends marks node left end n₀ product₀ c₀ n product c =
@@ -81,7 +77,6 @@ abbrev scale-μ-loop : scale-lts.MeasureT-loop
 scale-μ-loop names ends marks node left end n₀ product₀ c₀ n product c =
     end - c
 
--- src/lib.rt:207:20
 scale-element-copy-out-wide : (t : ℕ) → scale-lts.Need-element-copy-out-wide (
   wide-reads.Asked,
   wide-reads.Learnt,
@@ -93,7 +88,6 @@ scale-element-copy-out-wide : (t : ℕ) → scale-lts.Need-element-copy-out-wide
 scale-element-copy-out-wide t c =
     let o = inside _ _ _ _ _ (c .pre .1 .held) in let f = c .pre .1 .held .fits in omega arith
 
--- src/lib.rt:207:9
 scale-wide-requires : (t : ℕ) → scale-lts.Need-wide-requires (
   wide-reads.Asked,
   wide-reads.Learnt,
@@ -104,7 +98,6 @@ scale-wide-requires : (t : ℕ) → scale-lts.Need-wide-requires (
 ) (scale-at t) scale.Post scale-Inv-loop scale-μ-loop
 scale-wide-requires t c κs = search needs
 
--- src/lib.rt:208:23
 scale-mul-named : (t : ℕ) → scale-lts.Need-mul-named (
   wide-reads.Asked,
   wide-reads.Learnt,
@@ -116,7 +109,6 @@ scale-mul-named : (t : ℕ) → scale-lts.Need-mul-named (
 scale-mul-named t c =
     let o = inside _ _ _ _ _ (c .before .before .pre .1 .held) in let f = c .before .before .pre .1 .held .fits in omega arith
 
--- src/lib.rt:208:23
 scale-element-copy-out-named : (t : ℕ) → scale-lts.Need-element-copy-out-named (
   wide-reads.Asked,
   wide-reads.Learnt,
@@ -128,7 +120,6 @@ scale-element-copy-out-named : (t : ℕ) → scale-lts.Need-element-copy-out-nam
 scale-element-copy-out-named t c =
     let o = inside _ _ _ _ _ (c .before .before .pre .1 .held) in let f = c .before .before .pre .1 .held .fits in omega arith
 
--- src/lib.rt:208:9
 scale-named-requires : (t : ℕ) → scale-lts.Need-named-requires (
   wide-reads.Asked,
   wide-reads.Learnt,
@@ -139,7 +130,6 @@ scale-named-requires : (t : ℕ) → scale-lts.Need-named-requires (
 ) (scale-at t) scale.Post scale-Inv-loop scale-μ-loop
 scale-named-requires t c κs = search needs
 
--- src/lib.rt:210:17
 scale-add-c : (t : ℕ) → scale-lts.Need-add-c (
   wide-reads.Asked,
   wide-reads.Learnt,
@@ -151,7 +141,6 @@ scale-add-c : (t : ℕ) → scale-lts.Need-add-c (
 scale-add-c t c =
     let o = inside _ _ _ _ _ (c .before .before .before .before .pre .1 .held) in let f = c .before .before .before .before .pre .1 .held .fits in omega arith
 
--- src/lib.rt:211:5
 scale-loop-holds : (t : ℕ) → scale-lts.Need-loop-holds (
   wide-reads.Asked,
   wide-reads.Learnt,
@@ -163,7 +152,6 @@ scale-loop-holds : (t : ℕ) → scale-lts.Need-loop-holds (
 scale-loop-holds t c =
     (c .before .before .wide .ensures .0, omega arith, scale-start _ _ _ _ _ _ (c .named .ensures .0))
 
--- src/lib.rt:212:19
 scale-element-copy-out-wide-2 : (t : ℕ) → scale-lts.Need-element-copy-out-wide-2 (
   wide-reads.Asked,
   wide-reads.Learnt,
@@ -175,7 +163,6 @@ scale-element-copy-out-wide-2 : (t : ℕ) → scale-lts.Need-element-copy-out-wi
 scale-element-copy-out-wide-2 t c =
     let f = c .before .before .before .before .before .before .pre .1 .held .fits in omega (arith, c .before .loop .inv .0)
 
--- src/lib.rt:212:14
 scale-wide-requires-2 : (t : ℕ) → scale-lts.Need-wide-requires-2 (
   wide-reads.Asked,
   wide-reads.Learnt,
@@ -186,7 +173,6 @@ scale-wide-requires-2 : (t : ℕ) → scale-lts.Need-wide-requires-2 (
 ) (scale-at t) scale.Post scale-Inv-loop scale-μ-loop
 scale-wide-requires-2 t c κs = search needs
 
--- src/lib.rt:212:9
 scale-add-n : (t : ℕ) → scale-lts.Need-add-n (
   wide-reads.Asked,
   wide-reads.Learnt,
@@ -198,7 +184,6 @@ scale-add-n : (t : ℕ) → scale-lts.Need-add-n (
 scale-add-n t c =
     let l = few-names _ _ _ _ _ _ _ _ (c .before .before .before .loop .inv .2) (c .before .before .before .before .before .before .before .before .pre .1) in omega (arith, c .wide2 .ensures .1)
 
--- src/lib.rt:213:55
 scale-sub-child-scale : (t : ℕ) → scale-lts.Need-sub-child-scale (
   wide-reads.Asked,
   wide-reads.Learnt,
@@ -210,7 +195,6 @@ scale-sub-child-scale : (t : ℕ) → scale-lts.Need-sub-child-scale (
 scale-sub-child-scale t c =
     let o = inside _ _ _ _ _ (c .before .before .before .before .before .before .before .before .pre .1 .held) in omega arith
 
--- src/lib.rt:213:20
 scale-child-scale-requires : (t : ℕ) → scale-lts.Need-child-scale-requires (
   wide-reads.Asked,
   wide-reads.Learnt,
@@ -223,7 +207,6 @@ scale-child-scale-requires t c κs =
     let o = inside _ _ _ _ _ (c .before .before .before .before .before .before .before .before .pre .1 .held) in
     (omega (arith, c .before .before .before .before .before .before .before .before .pre .0), child-small _ _ _ _ _ _ _ _ (c .before .before .before .loop .inv .2) (c .before .before .before .before .before .before .before .before .pre .1) (omega (arith, c .before .before .before .loop .inv .0)))
 
--- src/lib.rt:213:9
 scale-mul-product : (t : ℕ) → scale-lts.Need-mul-product (
   wide-reads.Asked,
   wide-reads.Learnt,
@@ -235,7 +218,6 @@ scale-mul-product : (t : ℕ) → scale-lts.Need-mul-product (
 scale-mul-product t c =
     let l = product-fits _ _ _ _ _ _ _ _ (c .before .before .before .before .loop .inv .2) (c .before .before .before .before .before .before .before .before .before .pre .1) (omega (arith, c .before .before .before .before .loop .inv .0)) _ (c .child-scale .ensures) in omega arith
 
--- src/lib.rt:214:18
 scale-element-copy-out-wide-3 : (t : ℕ) → scale-lts.Need-element-copy-out-wide-3 (
   wide-reads.Asked,
   wide-reads.Learnt,
@@ -247,7 +229,6 @@ scale-element-copy-out-wide-3 : (t : ℕ) → scale-lts.Need-element-copy-out-wi
 scale-element-copy-out-wide-3 t c =
     let f = c .before .before .before .before .before .before .before .before .before .pre .1 .held .fits in omega (arith, c .before .before .before .before .loop .inv .0)
 
--- src/lib.rt:214:9
 scale-wide-requires-3 : (t : ℕ) → scale-lts.Need-wide-requires-3 (
   wide-reads.Asked,
   wide-reads.Learnt,
@@ -258,7 +239,6 @@ scale-wide-requires-3 : (t : ℕ) → scale-lts.Need-wide-requires-3 (
 ) (scale-at t) scale.Post scale-Inv-loop scale-μ-loop
 scale-wide-requires-3 t c κs = search needs
 
--- src/lib.rt:211:5
 scale-loop-less : (t : ℕ) → scale-lts.Need-loop-less (
   wide-reads.Asked,
   wide-reads.Learnt,
@@ -271,7 +251,6 @@ scale-loop-less t c =
     let f = scale-child _ _ _ _ _ _ _ _ (c .before .before .before .before .before .before .loop .inv .2) (c .before .before .before .before .before .before .before .before .before .before .before .pre .1) (omega (arith, c .before .before .before .before .before .before .loop .inv .0)) in
     omega (arith, c .wide3 .ensures .0)
 
--- src/lib.rt:211:5
 scale-loop-again : (t : ℕ) → scale-lts.Need-loop-again (
   wide-reads.Asked,
   wide-reads.Learnt,
@@ -288,7 +267,6 @@ scale-loop-again t c =
       scale-next _ _ _ _ _ _ _ _ (c .before .before .before .before .before .before .loop .inv .2) (omega (arith, c .before .before .before .before .before .before .loop .inv .0)) _ (c .before .before .before .wide2 .ensures .0) _ (c .before .before .child-scale .ensures) e,
     )
 
--- src/lib.rt:217:9
 scale-returns : (t : ℕ) → scale-lts.Need-returns (
   wide-reads.Asked,
   wide-reads.Learnt,
@@ -301,7 +279,6 @@ scale-returns t c =
     let k = scale-none _ _ _ _ _ _ _ _ (c .before .before .loop .inv .2) (omega (arith, c .before .before .loop .inv .0)) (c .if1 .taken) in
     (k, scale-small _ _ _ _ _ (c .before .before .before .before .before .before .before .pre .1) _ k)
 
--- src/lib.rt:219:5
 scale-mul-result : (t : ℕ) → scale-lts.Need-mul-result (
   wide-reads.Asked,
   wide-reads.Learnt,
@@ -315,7 +292,6 @@ scale-mul-result t c =
     let l = scale-small _ _ _ _ _ (c .before .before .before .before .before .before .before .pre .1) _ k in
     omega arith
 
--- src/lib.rt:202:1
 scale-returns-2 : (t : ℕ) → scale-lts.Need-returns-2 (
   wide-reads.Asked,
   wide-reads.Learnt,
@@ -336,8 +312,8 @@ pub +child-scale+scale-spec : {M : Type 1} → statement M
     (child-scale-at t)
     child-scale.Post
     (child-scale-element-copy-out-if1 t)
-    (child-scale-returns t)
     (child-scale-scale-requires t)
+    (child-scale-returns t)
     (child-scale-returns-2 t))
     λ t. scale-lts.spec (
       wide-reads.Asked,

@@ -15,7 +15,7 @@ use native.Mathlib.Omega.{arith}
 use Prim.Native.Nat.{_+_, _*_, _-_, _≤_}
 use mathlib.Core.Path.{_≡_, refl, sym, _∙_}
 use lib.ListN.{getD}
-use Rattle.reduction.proofs.Subsumed.{inside}
+use Rattle.reduction.proofs.Held.{inside}
 use Rattle.reduction.proofs.Sizes.{Sizing, size-start, size-child, size-next, size-all, none-sized, kept-sized}
 use borrow.Author.Needs.{needs}
 
@@ -41,7 +41,6 @@ size-at t = and 3 size-kinds.ps (is 3 size-kinds.ps μ-size t) size.Pre
 abbrev size-below : ℕ → In 3 size-kinds.ps
 size-below t = and 3 size-kinds.ps (falls 3 size-kinds.ps _<_ μ-size t) size.Pre
 
--- src/lib.rt:184:8
 child-size-element-copy-out-if1 : (t : ℕ) → child-size-lts.Need-element-copy-out-if1 (
   size-below t,
   size.Post,
@@ -49,28 +48,24 @@ child-size-element-copy-out-if1 : (t : ℕ) → child-size-lts.Need-element-copy
 child-size-element-copy-out-if1 t c =
     let o = inside _ _ _ _ _ (c .pre .1 .held) in let f = c .pre .1 .held .fits in omega arith
 
--- src/lib.rt:185:9
 child-size-returns :
     (t : ℕ) →
     child-size-lts.Need-returns (size-below t, size.Post) (child-size-at t) child-size.Post
 child-size-returns t c =
     none-sized _ _ _ _ _ (c .if1 .taken)
 
--- src/lib.rt:187:9
 child-size-size-requires :
     (t : ℕ) →
     child-size-lts.Need-size-requires (size-below t, size.Post) (child-size-at t) child-size.Post
 child-size-size-requires t c κs =
     (omega (arith, c .before .before .pre .0), c .before .before .pre .1)
 
--- src/lib.rt:187:5
 child-size-add-result :
     (t : ℕ) →
     child-size-lts.Need-add-result (size-below t, size.Post) (child-size-at t) child-size.Post
 child-size-add-result t c =
     let s = c .size .ensures .small in let f = c .before .before .before .pre .1 .held .fits in omega arith
 
--- src/lib.rt:180:1
 child-size-returns-2 :
     (t : ℕ) →
     child-size-lts.Need-returns-2 (size-below t, size.Post) (child-size-at t) child-size.Post
@@ -85,7 +80,6 @@ abbrev size-μ-loop : size-lts.MeasureT-loop
 size-μ-loop names ends marks node left end n₀ c₀ n c =
     end - c
 
--- src/lib.rt:169:20
 size-element-copy-out-wide : (t : ℕ) → size-lts.Need-element-copy-out-wide (
   wide-reads.Asked,
   wide-reads.Learnt,
@@ -97,7 +91,6 @@ size-element-copy-out-wide : (t : ℕ) → size-lts.Need-element-copy-out-wide (
 size-element-copy-out-wide t c =
     let o = inside _ _ _ _ _ (c .pre .1 .held) in let f = c .pre .1 .held .fits in omega arith
 
--- src/lib.rt:169:9
 size-wide-requires : (t : ℕ) → size-lts.Need-wide-requires (
   wide-reads.Asked,
   wide-reads.Learnt,
@@ -108,7 +101,6 @@ size-wide-requires : (t : ℕ) → size-lts.Need-wide-requires (
 ) (size-at t) size.Post size-Inv-loop size-μ-loop
 size-wide-requires t c κs = search needs
 
--- src/lib.rt:170:23
 size-mul-named : (t : ℕ) → size-lts.Need-mul-named (
   wide-reads.Asked,
   wide-reads.Learnt,
@@ -120,7 +112,6 @@ size-mul-named : (t : ℕ) → size-lts.Need-mul-named (
 size-mul-named t c =
     let o = inside _ _ _ _ _ (c .before .before .pre .1 .held) in let f = c .before .before .pre .1 .held .fits in omega arith
 
--- src/lib.rt:170:23
 size-element-copy-out-named : (t : ℕ) → size-lts.Need-element-copy-out-named (
   wide-reads.Asked,
   wide-reads.Learnt,
@@ -132,7 +123,6 @@ size-element-copy-out-named : (t : ℕ) → size-lts.Need-element-copy-out-named
 size-element-copy-out-named t c =
     let o = inside _ _ _ _ _ (c .before .before .pre .1 .held) in let f = c .before .before .pre .1 .held .fits in omega arith
 
--- src/lib.rt:170:9
 size-named-requires : (t : ℕ) → size-lts.Need-named-requires (
   wide-reads.Asked,
   wide-reads.Learnt,
@@ -143,7 +133,6 @@ size-named-requires : (t : ℕ) → size-lts.Need-named-requires (
 ) (size-at t) size.Post size-Inv-loop size-μ-loop
 size-named-requires t c κs = search needs
 
--- src/lib.rt:171:17
 size-add-c : (t : ℕ) → size-lts.Need-add-c (
   wide-reads.Asked,
   wide-reads.Learnt,
@@ -155,7 +144,6 @@ size-add-c : (t : ℕ) → size-lts.Need-add-c (
 size-add-c t c =
     let o = inside _ _ _ _ _ (c .before .before .before .before .pre .1 .held) in let f = c .before .before .before .before .pre .1 .held .fits in omega arith
 
--- src/lib.rt:172:5
 size-loop-holds : (t : ℕ) → size-lts.Need-loop-holds (
   wide-reads.Asked,
   wide-reads.Learnt,
@@ -170,7 +158,6 @@ size-loop-holds t c =
     let l = c .named .ensures .1 in
     (e, omega arith, omega arith, size-start _ _ _ _ _ (c .named .ensures .0))
 
--- src/lib.rt:173:48
 size-sub-child-size : (t : ℕ) → size-lts.Need-sub-child-size (
   wide-reads.Asked,
   wide-reads.Learnt,
@@ -182,7 +169,6 @@ size-sub-child-size : (t : ℕ) → size-lts.Need-sub-child-size (
 size-sub-child-size t c =
     let o = inside _ _ _ _ _ (c .before .before .before .before .before .before .pre .1 .held) in omega arith
 
--- src/lib.rt:173:14
 size-child-size-requires : (t : ℕ) → size-lts.Need-child-size-requires (
   wide-reads.Asked,
   wide-reads.Learnt,
@@ -196,7 +182,6 @@ size-child-size-requires t c κs =
     let f = size-child _ _ _ _ _ _ _ (c .before .loop .inv .3) (c .before .before .before .before .before .before .pre .1) (omega (arith, c .before .loop .inv .0)) in
     (omega (arith, c .before .before .before .before .before .before .pre .0), record { roles = _; held = f .here })
 
--- src/lib.rt:173:9
 size-add-n : (t : ℕ) → size-lts.Need-add-n (
   wide-reads.Asked,
   wide-reads.Learnt,
@@ -210,7 +195,6 @@ size-add-n t c =
     let l = c .before .before .before .before .before .before .before .pre .1 .held .fits in
     omega (arith, c .child-size .ensures .small, c .before .before .loop .inv .0, c .before .before .loop .inv .2)
 
--- src/lib.rt:174:18
 size-element-copy-out-wide-2 : (t : ℕ) → size-lts.Need-element-copy-out-wide-2 (
   wide-reads.Asked,
   wide-reads.Learnt,
@@ -222,7 +206,6 @@ size-element-copy-out-wide-2 : (t : ℕ) → size-lts.Need-element-copy-out-wide
 size-element-copy-out-wide-2 t c =
     let f = c .before .before .before .before .before .before .before .pre .1 .held .fits in omega (arith, c .before .before .loop .inv .0)
 
--- src/lib.rt:174:9
 size-wide-requires-2 : (t : ℕ) → size-lts.Need-wide-requires-2 (
   wide-reads.Asked,
   wide-reads.Learnt,
@@ -233,7 +216,6 @@ size-wide-requires-2 : (t : ℕ) → size-lts.Need-wide-requires-2 (
 ) (size-at t) size.Post size-Inv-loop size-μ-loop
 size-wide-requires-2 t c κs = search needs
 
--- src/lib.rt:172:5
 size-loop-less : (t : ℕ) → size-lts.Need-loop-less (
   wide-reads.Asked,
   wide-reads.Learnt,
@@ -246,7 +228,6 @@ size-loop-less t c =
     let f = size-child _ _ _ _ _ _ _ (c .before .before .before .before .loop .inv .3) (c .before .before .before .before .before .before .before .before .before .pre .1) (omega (arith, c .before .before .before .before .loop .inv .0)) in
     omega (arith, c .wide2 .ensures .0)
 
--- src/lib.rt:172:5
 size-loop-again : (t : ℕ) → size-lts.Need-loop-again (
   wide-reads.Asked,
   wide-reads.Learnt,
@@ -264,7 +245,6 @@ size-loop-again t c =
       size-next _ _ _ _ _ _ _ (c .before .before .before .before .loop .inv .3) (omega (arith, c .before .before .before .before .loop .inv .0)) _ (c .before .before .child-size .ensures) e,
     )
 
--- src/lib.rt:165:1
 size-returns : (t : ℕ) → size-lts.Need-returns (
   wide-reads.Asked,
   wide-reads.Learnt,

@@ -16,7 +16,7 @@ use native.Mathlib.Omega.{arith}
 use Prim.Native.Nat.{_+_, _*_, _-_, _≤_}
 use mathlib.Core.Path.{_≡_, refl, sym, _∙_}
 use lib.ListN.{getD}
-use Rattle.reduction.proofs.Subsumed.{inside}
+use Rattle.reduction.proofs.Held.{inside}
 use Rattle.reduction.proofs.Marks.{child-dropped, child-kept, Marking, mark-start, mark-all, next-child, mark-next}
 use borrow.Author.Needs.{needs}
 
@@ -50,7 +50,6 @@ abbrev mark-μ-loop : mark-lts.MeasureT-loop
 mark-μ-loop names roles ends marks₀ node left end c₀ marks c =
     end - c
 
--- src/lib.rt:134:20
 mark-element-copy-out-wide : (t : ℕ) → mark-lts.Need-element-copy-out-wide (
   wide-reads.Asked,
   wide-reads.Learnt,
@@ -60,7 +59,6 @@ mark-element-copy-out-wide : (t : ℕ) → mark-lts.Need-element-copy-out-wide (
 mark-element-copy-out-wide t c =
     let o = inside _ _ _ _ _ (c .pre .1) in let f = c .pre .1 .fits in omega arith
 
--- src/lib.rt:134:9
 mark-wide-requires : (t : ℕ) → mark-lts.Need-wide-requires (
   wide-reads.Asked,
   wide-reads.Learnt,
@@ -69,7 +67,6 @@ mark-wide-requires : (t : ℕ) → mark-lts.Need-wide-requires (
 ) (mark-at t) mark.Post mark-Inv-loop mark-μ-loop
 mark-wide-requires t c κs = search needs
 
--- src/lib.rt:135:17
 mark-add-c : (t : ℕ) → mark-lts.Need-add-c (
   wide-reads.Asked,
   wide-reads.Learnt,
@@ -79,7 +76,6 @@ mark-add-c : (t : ℕ) → mark-lts.Need-add-c (
 mark-add-c t c =
     let o = inside _ _ _ _ _ (c .before .before .pre .1) in let f = c .before .before .pre .1 .fits in omega arith
 
--- src/lib.rt:136:5
 mark-loop-holds : (t : ℕ) → mark-lts.Need-loop-holds (
   wide-reads.Asked,
   wide-reads.Learnt,
@@ -89,7 +85,6 @@ mark-loop-holds : (t : ℕ) → mark-lts.Need-loop-holds (
 mark-loop-holds t c =
     (c .wide .ensures .0, mark-start _ _ _ _ _ _)
 
--- src/lib.rt:137:47
 mark-add-mark-child : (t : ℕ) → mark-lts.Need-add-mark-child (
   wide-reads.Asked,
   wide-reads.Learnt,
@@ -99,7 +94,6 @@ mark-add-mark-child : (t : ℕ) → mark-lts.Need-add-mark-child (
 mark-add-mark-child t c =
     let o = inside _ _ _ _ _ (c .before .before .before .before .before .pre .1) in let f = c .before .before .before .before .before .pre .1 .fits in omega arith
 
--- src/lib.rt:137:65
 mark-sub-mark-child : (t : ℕ) → mark-lts.Need-sub-mark-child (
   wide-reads.Asked,
   wide-reads.Learnt,
@@ -109,7 +103,6 @@ mark-sub-mark-child : (t : ℕ) → mark-lts.Need-sub-mark-child (
 mark-sub-mark-child t c =
     let o = inside _ _ _ _ _ (c .before .before .before .before .before .pre .1) in omega arith
 
--- src/lib.rt:137:9
 mark-mark-child-requires : (t : ℕ) → mark-lts.Need-mark-child-requires (
   wide-reads.Asked,
   wide-reads.Learnt,
@@ -121,7 +114,6 @@ mark-mark-child-requires t c κs =
     let e = c .before .before .loop .inv .0 in
     (omega (arith, c .before .before .before .before .before .pre .0), rw e (next-child _ _ _ _ _ _ _ _ (c .before .before .loop .inv .1) (c .before .before .before .before .before .pre .1) (omega arith)))
 
--- src/lib.rt:138:18
 mark-element-copy-out-wide-2 : (t : ℕ) → mark-lts.Need-element-copy-out-wide-2 (
   wide-reads.Asked,
   wide-reads.Learnt,
@@ -131,7 +123,6 @@ mark-element-copy-out-wide-2 : (t : ℕ) → mark-lts.Need-element-copy-out-wide
 mark-element-copy-out-wide-2 t c =
     let f = c .before .before .before .before .before .before .pre .1 .fits in omega (arith, c .before .before .before .loop .inv .0)
 
--- src/lib.rt:138:9
 mark-wide-requires-2 : (t : ℕ) → mark-lts.Need-wide-requires-2 (
   wide-reads.Asked,
   wide-reads.Learnt,
@@ -140,7 +131,6 @@ mark-wide-requires-2 : (t : ℕ) → mark-lts.Need-wide-requires-2 (
 ) (mark-at t) mark.Post mark-Inv-loop mark-μ-loop
 mark-wide-requires-2 t c κs = search needs
 
--- src/lib.rt:136:5
 mark-loop-less : (t : ℕ) → mark-lts.Need-loop-less (
   wide-reads.Asked,
   wide-reads.Learnt,
@@ -152,7 +142,6 @@ mark-loop-less t c =
     let o = inside _ _ _ _ _ (s .here) in
     omega (arith, c .wide2 .ensures .0)
 
--- src/lib.rt:136:5
 mark-loop-again : (t : ℕ) → mark-lts.Need-loop-again (
   wide-reads.Asked,
   wide-reads.Learnt,
@@ -162,7 +151,6 @@ mark-loop-again : (t : ℕ) → mark-lts.Need-loop-again (
 mark-loop-again t c =
     (c .before .before .before .before .before .loop .inv .0, mark-next _ _ _ _ _ _ _ _ (c .before .before .before .before .before .loop .inv .1) (omega (arith, c .before .before .before .before .before .loop .inv .0)) _ (c .before .before .before .before .before .loop .inv .0) (c .before .before .mark-child .ensures) (c .wide2 .ensures .0) (c .before .before .before .before .before .before .before .before .pre .1))
 
--- src/lib.rt:130:1
 mark-returns : (t : ℕ) → mark-lts.Need-returns (
   wide-reads.Asked,
   wide-reads.Learnt,
@@ -172,7 +160,6 @@ mark-returns : (t : ℕ) → mark-lts.Need-returns (
 mark-returns t c =
     mark-all _ _ _ _ _ _ _ _ (c .before .loop .inv .1) (omega (arith, c .before .loop .inv .0))
 
--- src/lib.rt:147:8
 mark-child-dropped-requires : (t : ℕ) → mark-child-lts.Need-dropped-requires (
   dropped-reads.Asked,
   dropped-reads.Learnt,
@@ -183,7 +170,6 @@ mark-child-dropped-requires : (t : ℕ) → mark-child-lts.Need-dropped-requires
 ) (mark-child-at t) mark-child.Post
 mark-child-dropped-requires t c κs = search needs
 
--- src/lib.rt:148:9
 mark-child-put-requires : (t : ℕ) → mark-child-lts.Need-put-requires (
   dropped-reads.Asked,
   dropped-reads.Learnt,
@@ -195,7 +181,6 @@ mark-child-put-requires : (t : ℕ) → mark-child-lts.Need-put-requires (
 mark-child-put-requires t c κs =
     let o = inside _ _ _ _ _ (c .before .before .before .pre .1 .here) in let f = c .before .before .before .pre .1 .here .fits in omega arith
 
--- src/lib.rt:149:9
 mark-child-returns : (t : ℕ) → mark-child-lts.Need-returns (
   dropped-reads.Asked,
   dropped-reads.Learnt,
@@ -207,7 +192,6 @@ mark-child-returns : (t : ℕ) → mark-child-lts.Need-returns (
 mark-child-returns t c =
     child-dropped _ _ _ _ _ _ _ _ (inside _ _ _ _ _ (c .before .before .before .before .pre .1 .here) .inside) (c .before .before .before .dropped .ensures) _ (c .before .before .if1 .taken) (c .put .ensures)
 
--- src/lib.rt:151:5
 mark-child-put-requires-2 : (t : ℕ) → mark-child-lts.Need-put-requires-2 (
   dropped-reads.Asked,
   dropped-reads.Learnt,
@@ -219,7 +203,6 @@ mark-child-put-requires-2 : (t : ℕ) → mark-child-lts.Need-put-requires-2 (
 mark-child-put-requires-2 t c κs =
     let o = inside _ _ _ _ _ (c .before .before .before .pre .1 .here) in let f = c .before .before .before .pre .1 .here .fits in omega arith
 
--- src/lib.rt:152:5
 mark-child-mark-requires : (t : ℕ) → mark-child-lts.Need-mark-requires (
   dropped-reads.Asked,
   dropped-reads.Learnt,
@@ -231,7 +214,6 @@ mark-child-mark-requires : (t : ℕ) → mark-child-lts.Need-mark-requires (
 mark-child-mark-requires t c κs =
     (omega (arith, c .before .before .before .before .before .pre .0), c .before .before .before .before .before .pre .1 .here)
 
--- src/lib.rt:143:1
 mark-child-returns-2 : (t : ℕ) → mark-child-lts.Need-returns-2 (
   dropped-reads.Asked,
   dropped-reads.Learnt,

@@ -22,7 +22,8 @@ use mathlib.Core.List.{List}
 use lib.ListN.{getD}
 use borrow.Author.Tests.{not-true, not-false}
 use Rattle.meaning.specs.Reduce.{subsumes as above}
-use Rattle.reduction.proofs.Subsumed.{inside, front, Serving, names-differ, serve-start, left-over, serve-all, serve-next, serve-not, role-differs, role-same, Seeking, seek-start, unseen, seek-none, seek-next, seek-found}
+use Rattle.reduction.proofs.Held.{inside, front}
+use Rattle.reduction.proofs.Subsumed.{Serving, names-differ, serve-start, left-over, serve-all, serve-next, serve-not, role-differs, role-same, Seeking, seek-start, unseen, seek-none, seek-next, seek-found}
 
 abbrev μ-subsumes : Measures 3 subsumes-kinds.ps ℕ
 μ-subsumes κs a =
@@ -75,7 +76,6 @@ abbrev subsumes-μ-loop : subsumes-lts.MeasureT-loop
 subsumes-μ-loop names roles ends c d left e m k₀ k =
     e - k
 
--- src/lib.rt:41:16
 subsumes-mul-within : (t : ℕ) → subsumes-lts.Need-mul-within (
   within-reads.Asked,
   within-reads.Learnt,
@@ -87,7 +87,6 @@ subsumes-mul-within : (t : ℕ) → subsumes-lts.Need-mul-within (
 subsumes-mul-within t c =
     let o = inside _ _ _ _ _ (c .pre .1 .one) in let f = c .pre .1 .one .fits in omega arith
 
--- src/lib.rt:41:16
 subsumes-element-copy-out-within : (t : ℕ) → subsumes-lts.Need-element-copy-out-within (
   within-reads.Asked,
   within-reads.Learnt,
@@ -99,7 +98,6 @@ subsumes-element-copy-out-within : (t : ℕ) → subsumes-lts.Need-element-copy-
 subsumes-element-copy-out-within t c =
     let o = inside _ _ _ _ _ (c .pre .1 .one) in let f = c .pre .1 .one .fits in omega arith
 
--- src/lib.rt:41:26
 subsumes-mul-within-2 : (t : ℕ) → subsumes-lts.Need-mul-within-2 (
   within-reads.Asked,
   within-reads.Learnt,
@@ -111,7 +109,6 @@ subsumes-mul-within-2 : (t : ℕ) → subsumes-lts.Need-mul-within-2 (
 subsumes-mul-within-2 t c =
     let o = inside _ _ _ _ _ (c .before .pre .1 .other) in let f = c .before .pre .1 .other .fits in omega arith
 
--- src/lib.rt:41:26
 subsumes-element-copy-out-within-2 : (t : ℕ) → subsumes-lts.Need-element-copy-out-within-2 (
   within-reads.Asked,
   within-reads.Learnt,
@@ -123,7 +120,6 @@ subsumes-element-copy-out-within-2 : (t : ℕ) → subsumes-lts.Need-element-cop
 subsumes-element-copy-out-within-2 t c =
     let o = inside _ _ _ _ _ (c .before .pre .1 .other) in let f = c .before .pre .1 .other .fits in omega arith
 
--- src/lib.rt:41:9
 subsumes-within-requires : (t : ℕ) → subsumes-lts.Need-within-requires (
   within-reads.Asked,
   within-reads.Learnt,
@@ -134,7 +130,6 @@ subsumes-within-requires : (t : ℕ) → subsumes-lts.Need-within-requires (
 ) (subsumes-at t) subsumes.Post subsumes-Inv-loop subsumes-μ-loop
 subsumes-within-requires t c κs = search needs
 
--- src/lib.rt:42:9
 subsumes-returns : (t : ℕ) → subsumes-lts.Need-returns (
   within-reads.Asked,
   within-reads.Learnt,
@@ -146,7 +141,6 @@ subsumes-returns : (t : ℕ) → subsumes-lts.Need-returns (
 subsumes-returns t c =
     names-differ _ _ _ _ _ _ (c .before .within .ensures) (not-true _ (c .if1 .taken))
 
--- src/lib.rt:44:18
 subsumes-element-copy-out-wide : (t : ℕ) → subsumes-lts.Need-element-copy-out-wide (
   within-reads.Asked,
   within-reads.Learnt,
@@ -158,7 +152,6 @@ subsumes-element-copy-out-wide : (t : ℕ) → subsumes-lts.Need-element-copy-ou
 subsumes-element-copy-out-wide t c =
     let o = inside _ _ _ _ _ (c .before .before .before .before .pre .1 .one) in let f = c .before .before .before .before .pre .1 .one .fits in omega arith
 
--- src/lib.rt:44:9
 subsumes-wide-requires : (t : ℕ) → subsumes-lts.Need-wide-requires (
   within-reads.Asked,
   within-reads.Learnt,
@@ -169,7 +162,6 @@ subsumes-wide-requires : (t : ℕ) → subsumes-lts.Need-wide-requires (
 ) (subsumes-at t) subsumes.Post subsumes-Inv-loop subsumes-μ-loop
 subsumes-wide-requires t c κs = search needs
 
--- src/lib.rt:45:18
 subsumes-element-copy-out-wide-2 : (t : ℕ) → subsumes-lts.Need-element-copy-out-wide-2 (
   within-reads.Asked,
   within-reads.Learnt,
@@ -181,7 +173,6 @@ subsumes-element-copy-out-wide-2 : (t : ℕ) → subsumes-lts.Need-element-copy-
 subsumes-element-copy-out-wide-2 t c =
     let o = inside _ _ _ _ _ (c .before .before .before .before .before .before .pre .1 .other) in let f = c .before .before .before .before .before .before .pre .1 .other .fits in omega arith
 
--- src/lib.rt:45:9
 subsumes-wide-requires-2 : (t : ℕ) → subsumes-lts.Need-wide-requires-2 (
   within-reads.Asked,
   within-reads.Learnt,
@@ -192,7 +183,6 @@ subsumes-wide-requires-2 : (t : ℕ) → subsumes-lts.Need-wide-requires-2 (
 ) (subsumes-at t) subsumes.Post subsumes-Inv-loop subsumes-μ-loop
 subsumes-wide-requires-2 t c κs = search needs
 
--- src/lib.rt:46:17
 subsumes-add-k : (t : ℕ) → subsumes-lts.Need-add-k (
   within-reads.Asked,
   within-reads.Learnt,
@@ -204,7 +194,6 @@ subsumes-add-k : (t : ℕ) → subsumes-lts.Need-add-k (
 subsumes-add-k t c =
     let o = inside _ _ _ _ _ (c .before .before .before .before .before .before .before .before .pre .1 .one) in let f = c .before .before .before .before .before .before .before .before .pre .1 .one .fits in omega arith
 
--- src/lib.rt:47:5
 subsumes-loop-holds : (t : ℕ) → subsumes-lts.Need-loop-holds (
   within-reads.Asked,
   within-reads.Learnt,
@@ -216,7 +205,6 @@ subsumes-loop-holds : (t : ℕ) → subsumes-lts.Need-loop-holds (
 subsumes-loop-holds t c =
     (c .before .before .wide .ensures .0, c .wide2 .ensures .0, serve-start _ _ _ _ _ _ (c .before .before .before .before .before .within .ensures) (not-false _ (c .before .before .before .before .if1 .left)))
 
--- src/lib.rt:48:49
 subsumes-add-subsumes-one : (t : ℕ) → subsumes-lts.Need-add-subsumes-one (
   within-reads.Asked,
   within-reads.Learnt,
@@ -228,7 +216,6 @@ subsumes-add-subsumes-one : (t : ℕ) → subsumes-lts.Need-add-subsumes-one (
 subsumes-add-subsumes-one t c =
     let o = inside _ _ _ _ _ (c .before .before .before .before .before .before .before .before .before .before .pre .1 .other) in let f = c .before .before .before .before .before .before .before .before .before .before .pre .1 .other .fits in omega arith
 
--- src/lib.rt:48:59
 subsumes-sub-subsumes-one : (t : ℕ) → subsumes-lts.Need-sub-subsumes-one (
   within-reads.Asked,
   within-reads.Learnt,
@@ -240,7 +227,6 @@ subsumes-sub-subsumes-one : (t : ℕ) → subsumes-lts.Need-sub-subsumes-one (
 subsumes-sub-subsumes-one t c =
     let o = inside _ _ _ _ _ (c .before .before .before .before .before .before .before .before .before .before .pre .1 .other) in omega arith
 
--- src/lib.rt:48:13
 subsumes-subsumes-one-requires : (t : ℕ) → subsumes-lts.Need-subsumes-one-requires (
   within-reads.Asked,
   within-reads.Learnt,
@@ -256,7 +242,6 @@ subsumes-subsumes-one-requires t c κs =
     let f = front _ _ _ _ _ _ (left-over _ _ _ _ _ _ _ (c .before .loop .inv .2) (c .before .before .before .before .before .before .before .before .before .before .pre .1)) (omega (arith, c .before .loop .inv .0)) in
     (omega (arith, c .before .before .before .before .before .before .before .before .before .before .pre .0), record { one = f .here; others = rw e (r .children) })
 
--- src/lib.rt:49:13
 subsumes-returns-2 : (t : ℕ) → subsumes-lts.Need-returns-2 (
   within-reads.Asked,
   within-reads.Learnt,
@@ -268,7 +253,6 @@ subsumes-returns-2 : (t : ℕ) → subsumes-lts.Need-returns-2 (
 subsumes-returns-2 t c =
     serve-not _ _ _ _ _ _ _ (c .before .before .before .loop .inv .2) (omega (arith, c .before .before .before .loop .inv .0)) (c .before .before .before .loop .inv .1) (c .before .subsumes-one .ensures) (not-true _ (c .if2 .taken))
 
--- src/lib.rt:51:18
 subsumes-element-copy-out-wide-3 : (t : ℕ) → subsumes-lts.Need-element-copy-out-wide-3 (
   within-reads.Asked,
   within-reads.Learnt,
@@ -280,7 +264,6 @@ subsumes-element-copy-out-wide-3 : (t : ℕ) → subsumes-lts.Need-element-copy-
 subsumes-element-copy-out-wide-3 t c =
     let f = c .before .before .before .before .before .before .before .before .before .before .before .before .pre .1 .one .fits in omega (arith, c .before .before .before .loop .inv .0)
 
--- src/lib.rt:51:9
 subsumes-wide-requires-3 : (t : ℕ) → subsumes-lts.Need-wide-requires-3 (
   within-reads.Asked,
   within-reads.Learnt,
@@ -291,7 +274,6 @@ subsumes-wide-requires-3 : (t : ℕ) → subsumes-lts.Need-wide-requires-3 (
 ) (subsumes-at t) subsumes.Post subsumes-Inv-loop subsumes-μ-loop
 subsumes-wide-requires-3 t c κs = search needs
 
--- src/lib.rt:47:5
 subsumes-loop-less : (t : ℕ) → subsumes-lts.Need-loop-less (
   within-reads.Asked,
   within-reads.Learnt,
@@ -304,7 +286,6 @@ subsumes-loop-less t c =
     let f = front _ _ _ _ _ _ (left-over _ _ _ _ _ _ _ (c .before .before .before .before .before .loop .inv .2) (c .before .before .before .before .before .before .before .before .before .before .before .before .before .before .pre .1)) (omega (arith, c .before .before .before .before .before .loop .inv .0)) in
     omega (arith, c .wide3 .ensures .0)
 
--- src/lib.rt:47:5
 subsumes-loop-again : (t : ℕ) → subsumes-lts.Need-loop-again (
   within-reads.Asked,
   within-reads.Learnt,
@@ -319,7 +300,6 @@ subsumes-loop-again t c = (
   serve-next _ _ _ _ _ _ _ (c .before .before .before .before .before .loop .inv .2) (omega (arith, c .before .before .before .before .before .loop .inv .0)) (c .before .before .before .before .before .loop .inv .1) (c .before .before .before .subsumes-one .ensures) (not-false _ (c .before .before .if2 .left)) (c .wide3 .ensures .0),
 )
 
--- src/lib.rt:37:1
 subsumes-returns-3 : (t : ℕ) → subsumes-lts.Need-returns-3 (
   within-reads.Asked,
   within-reads.Learnt,
@@ -331,7 +311,6 @@ subsumes-returns-3 : (t : ℕ) → subsumes-lts.Need-returns-3 (
 subsumes-returns-3 t c =
     serve-all _ _ _ _ _ _ _ (c .before .loop .inv .2) (omega (arith, c .before .loop .inv .0))
 
--- src/lib.rt:76:8
 subsumes-like-element-copy-out-if1 : (t : ℕ) → subsumes-like-lts.Need-element-copy-out-if1 (
   subsumes-below t,
   subsumes.Post,
@@ -339,7 +318,6 @@ subsumes-like-element-copy-out-if1 : (t : ℕ) → subsumes-like-lts.Need-elemen
 subsumes-like-element-copy-out-if1 t c =
     let o = inside _ _ _ _ _ (c .pre .1 .one) in let f = c .pre .1 .one .fits in omega arith
 
--- src/lib.rt:76:20
 subsumes-like-element-copy-out-if1-2 : (t : ℕ) → subsumes-like-lts.Need-element-copy-out-if1-2 (
   subsumes-below t,
   subsumes.Post,
@@ -347,7 +325,6 @@ subsumes-like-element-copy-out-if1-2 : (t : ℕ) → subsumes-like-lts.Need-elem
 subsumes-like-element-copy-out-if1-2 t c =
     let o = inside _ _ _ _ _ (c .before .pre .1 .other) in let f = c .before .pre .1 .other .fits in omega arith
 
--- src/lib.rt:77:9
 subsumes-like-returns :
     (t : ℕ) →
     subsumes-like-lts.Need-returns
@@ -357,14 +334,12 @@ subsumes-like-returns :
 subsumes-like-returns t c =
     role-differs _ _ _ _ _ _ _ (c .if1 .taken)
 
--- src/lib.rt:79:5
 subsumes-like-subsumes-requires : (t : ℕ) → subsumes-like-lts.Need-subsumes-requires (
   subsumes-below t,
   subsumes.Post,
 ) (subsumes-like-at t) subsumes-like.Post
 subsumes-like-subsumes-requires t c κs = search needs
 
--- src/lib.rt:72:1
 subsumes-like-returns-2 : (t : ℕ) → subsumes-like-lts.Need-returns-2 (
   subsumes-below t,
   subsumes.Post,
@@ -380,7 +355,6 @@ abbrev subsumes-one-μ-loop : subsumes-one-lts.MeasureT-loop
 subsumes-one-μ-loop names roles ends c first end left d₀ d =
     end - d
 
--- src/lib.rt:62:5
 subsumes-one-loop-holds : (t : ℕ) → subsumes-one-lts.Need-loop-holds (
   subsumes-like-below t,
   subsumes-like.Post,
@@ -390,7 +364,6 @@ subsumes-one-loop-holds : (t : ℕ) → subsumes-one-lts.Need-loop-holds (
 subsumes-one-loop-holds t c =
     seek-start _ _ _ _ _ _ _ _
 
--- src/lib.rt:63:12
 subsumes-one-subsumes-like-requires : (t : ℕ) → subsumes-one-lts.Need-subsumes-like-requires (
   subsumes-like-below t,
   subsumes-like.Post,
@@ -401,7 +374,6 @@ subsumes-one-subsumes-like-requires t c κs =
     let f = front _ _ _ _ _ _ (unseen _ _ _ _ _ _ _ _ _ (c .before .loop .inv) (c .before .before .pre .1)) (c .loop-test .taken) in
     (omega (arith, c .before .before .pre .0), record { one = c .before .before .pre .1 .one; other = f .here })
 
--- src/lib.rt:64:13
 subsumes-one-returns : (t : ℕ) → subsumes-one-lts.Need-returns (
   subsumes-like-below t,
   subsumes-like.Post,
@@ -411,7 +383,6 @@ subsumes-one-returns : (t : ℕ) → subsumes-one-lts.Need-returns (
 subsumes-one-returns t c =
     seek-found _ _ _ _ _ _ _ _ _ (c .before .before .before .loop .inv) (c .before .before .loop-test .taken) (c .before .subsumes-like .ensures) (c .if1 .taken)
 
--- src/lib.rt:66:18
 subsumes-one-element-copy-out-wide : (t : ℕ) → subsumes-one-lts.Need-element-copy-out-wide (
   subsumes-like-below t,
   subsumes-like.Post,
@@ -421,7 +392,6 @@ subsumes-one-element-copy-out-wide : (t : ℕ) → subsumes-one-lts.Need-element
 subsumes-one-element-copy-out-wide t c =
     let f = c .before .before .before .before .pre .1 .others .fits in omega arith
 
--- src/lib.rt:66:9
 subsumes-one-wide-requires : (t : ℕ) → subsumes-one-lts.Need-wide-requires (
   subsumes-like-below t,
   subsumes-like.Post,
@@ -430,7 +400,6 @@ subsumes-one-wide-requires : (t : ℕ) → subsumes-one-lts.Need-wide-requires (
 ) (subsumes-one-at t) subsumes-one.Post subsumes-one-Inv-loop subsumes-one-μ-loop
 subsumes-one-wide-requires t c κs = search needs
 
--- src/lib.rt:62:5
 subsumes-one-loop-less : (t : ℕ) → subsumes-one-lts.Need-loop-less (
   subsumes-like-below t,
   subsumes-like.Post,
@@ -441,7 +410,6 @@ subsumes-one-loop-less t c =
     let f = front _ _ _ _ _ _ (unseen _ _ _ _ _ _ _ _ _ (c .before .before .before .before .before .loop .inv) (c .before .before .before .before .before .before .pre .1)) (c .before .before .before .before .loop-test .taken) in
     omega (arith, c .wide .ensures .0)
 
--- src/lib.rt:62:5
 subsumes-one-loop-again : (t : ℕ) → subsumes-one-lts.Need-loop-again (
   subsumes-like-below t,
   subsumes-like.Post,
@@ -451,7 +419,6 @@ subsumes-one-loop-again : (t : ℕ) → subsumes-one-lts.Need-loop-again (
 subsumes-one-loop-again t c =
     seek-next _ _ _ _ _ _ _ _ _ (c .before .before .before .before .before .loop .inv) (c .before .before .before .before .loop-test .taken) (c .before .before .before .subsumes-like .ensures) (c .before .before .if1 .left) (c .wide .ensures .0)
 
--- src/lib.rt:57:1
 subsumes-one-returns-2 : (t : ℕ) → subsumes-one-lts.Need-returns-2 (
   subsumes-like-below t,
   subsumes-like.Post,
