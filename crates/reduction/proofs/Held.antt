@@ -21,6 +21,12 @@ module _ (names roles ends : List ℕ) (left : ℕ) where
       let o = opened names roles ends (h .tree) left i (getD ends i 0) (h .holds) in
       record { deep = o .deep; inside = o .inside; children = record { trees = o .kids; holds = o .below; fits = h .fits } }
 
+  pub in-range : {i : ℕ} → Held names roles ends left i → i < 64
+  in-range {i} h =
+      let o = opened names roles ends (h .tree) left i (getD ends i 0) (h .holds) in
+      let l : getD ends i 0 ≤ 64 = h .fits in
+      omega arith
+
   -- the first of some trees, and the others
   pub record Front (i e : ℕ) : Type 0 where
     pub inside : i < getD ends i 0

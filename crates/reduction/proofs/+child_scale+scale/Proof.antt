@@ -16,7 +16,7 @@ use Prim.Native.Nat.{_+_, _*_, _-_, _≤_}
 use mathlib.Core.Path.{_≡_, refl, sym, _∙_}
 use lib.ListN.{getD}
 use Rattle.meaning.specs.InPlace.{scaleIn}
-use Rattle.reduction.proofs.Held.{inside}
+use Rattle.reduction.proofs.Held.{in-range, inside}
 use Rattle.reduction.proofs.Sizes.{none-counted, kept-counted, Scaling, scale-start, scale-small, scale-none, scale-some, scale-next, few-names, scale-child, child-small, product-fits}
 use borrow.Author.Needs.{needs}
 
@@ -47,7 +47,7 @@ child-scale-element-copy-out-if1 : (t : ℕ) → child-scale-lts.Need-element-co
   scale.Post,
 ) (child-scale-at t) child-scale.Post
 child-scale-element-copy-out-if1 t c =
-    let o = inside _ _ _ _ _ (c .pre .1 .held) in let f = c .pre .1 .held .fits in omega arith
+    let a = in-range _ _ _ _ (c .pre .1 .held) in omega arith
 
 child-scale-scale-requires : (t : ℕ) → child-scale-lts.Need-scale-requires (
   scale-below t,
@@ -86,7 +86,7 @@ scale-element-copy-out-wide : (t : ℕ) → scale-lts.Need-element-copy-out-wide
   child-scale.Post,
 ) (scale-at t) scale.Post scale-Inv-loop scale-μ-loop
 scale-element-copy-out-wide t c =
-    let o = inside _ _ _ _ _ (c .pre .1 .held) in let f = c .pre .1 .held .fits in omega arith
+    let a = in-range _ _ _ _ (c .pre .1 .held) in omega arith
 
 scale-wide-requires : (t : ℕ) → scale-lts.Need-wide-requires (
   wide-reads.Asked,
@@ -107,7 +107,7 @@ scale-mul-named : (t : ℕ) → scale-lts.Need-mul-named (
   child-scale.Post,
 ) (scale-at t) scale.Post scale-Inv-loop scale-μ-loop
 scale-mul-named t c =
-    let o = inside _ _ _ _ _ (c .before .before .pre .1 .held) in let f = c .before .before .pre .1 .held .fits in omega arith
+    let a = in-range _ _ _ _ (c .before .before .pre .1 .held) in omega arith
 
 scale-element-copy-out-named : (t : ℕ) → scale-lts.Need-element-copy-out-named (
   wide-reads.Asked,
@@ -118,7 +118,7 @@ scale-element-copy-out-named : (t : ℕ) → scale-lts.Need-element-copy-out-nam
   child-scale.Post,
 ) (scale-at t) scale.Post scale-Inv-loop scale-μ-loop
 scale-element-copy-out-named t c =
-    let o = inside _ _ _ _ _ (c .before .before .pre .1 .held) in let f = c .before .before .pre .1 .held .fits in omega arith
+    let a = in-range _ _ _ _ (c .before .before .pre .1 .held) in omega arith
 
 scale-named-requires : (t : ℕ) → scale-lts.Need-named-requires (
   wide-reads.Asked,
@@ -139,7 +139,7 @@ scale-add-c : (t : ℕ) → scale-lts.Need-add-c (
   child-scale.Post,
 ) (scale-at t) scale.Post scale-Inv-loop scale-μ-loop
 scale-add-c t c =
-    let o = inside _ _ _ _ _ (c .before .before .before .before .pre .1 .held) in let f = c .before .before .before .before .pre .1 .held .fits in omega arith
+    let a = in-range _ _ _ _ (c .before .before .before .before .pre .1 .held) in omega arith
 
 scale-loop-holds : (t : ℕ) → scale-lts.Need-loop-holds (
   wide-reads.Asked,

@@ -15,7 +15,7 @@ use native.Mathlib.Omega.{arith}
 use Prim.Native.Nat.{_+_, _*_, _-_, _≤_}
 use mathlib.Core.Path.{_≡_, refl, sym, _∙_}
 use lib.ListN.{getD}
-use Rattle.reduction.proofs.Held.{inside}
+use Rattle.reduction.proofs.Held.{in-range, inside}
 use Rattle.reduction.proofs.Sizes.{Sizing, size-start, size-child, size-next, size-all, none-sized, kept-sized}
 use borrow.Author.Needs.{needs}
 
@@ -46,7 +46,7 @@ child-size-element-copy-out-if1 : (t : ℕ) → child-size-lts.Need-element-copy
   size.Post,
 ) (child-size-at t) child-size.Post
 child-size-element-copy-out-if1 t c =
-    let o = inside _ _ _ _ _ (c .pre .1 .held) in let f = c .pre .1 .held .fits in omega arith
+    let a = in-range _ _ _ _ (c .pre .1 .held) in omega arith
 
 child-size-returns :
     (t : ℕ) →
@@ -89,7 +89,7 @@ size-element-copy-out-wide : (t : ℕ) → size-lts.Need-element-copy-out-wide (
   child-size.Post,
 ) (size-at t) size.Post size-Inv-loop size-μ-loop
 size-element-copy-out-wide t c =
-    let o = inside _ _ _ _ _ (c .pre .1 .held) in let f = c .pre .1 .held .fits in omega arith
+    let a = in-range _ _ _ _ (c .pre .1 .held) in omega arith
 
 size-wide-requires : (t : ℕ) → size-lts.Need-wide-requires (
   wide-reads.Asked,
@@ -110,7 +110,7 @@ size-mul-named : (t : ℕ) → size-lts.Need-mul-named (
   child-size.Post,
 ) (size-at t) size.Post size-Inv-loop size-μ-loop
 size-mul-named t c =
-    let o = inside _ _ _ _ _ (c .before .before .pre .1 .held) in let f = c .before .before .pre .1 .held .fits in omega arith
+    let a = in-range _ _ _ _ (c .before .before .pre .1 .held) in omega arith
 
 size-element-copy-out-named : (t : ℕ) → size-lts.Need-element-copy-out-named (
   wide-reads.Asked,
@@ -121,7 +121,7 @@ size-element-copy-out-named : (t : ℕ) → size-lts.Need-element-copy-out-named
   child-size.Post,
 ) (size-at t) size.Post size-Inv-loop size-μ-loop
 size-element-copy-out-named t c =
-    let o = inside _ _ _ _ _ (c .before .before .pre .1 .held) in let f = c .before .before .pre .1 .held .fits in omega arith
+    let a = in-range _ _ _ _ (c .before .before .pre .1 .held) in omega arith
 
 size-named-requires : (t : ℕ) → size-lts.Need-named-requires (
   wide-reads.Asked,
@@ -142,7 +142,7 @@ size-add-c : (t : ℕ) → size-lts.Need-add-c (
   child-size.Post,
 ) (size-at t) size.Post size-Inv-loop size-μ-loop
 size-add-c t c =
-    let o = inside _ _ _ _ _ (c .before .before .before .before .pre .1 .held) in let f = c .before .before .before .before .pre .1 .held .fits in omega arith
+    let a = in-range _ _ _ _ (c .before .before .before .before .pre .1 .held) in omega arith
 
 size-loop-holds : (t : ℕ) → size-lts.Need-loop-holds (
   wide-reads.Asked,

@@ -16,7 +16,7 @@ use native.Mathlib.Omega.{arith}
 use Prim.Native.Nat.{_+_, _*_, _-_, _≤_}
 use mathlib.Core.Path.{_≡_, refl, sym, _∙_}
 use lib.ListN.{getD}
-use Rattle.reduction.proofs.Held.{inside}
+use Rattle.reduction.proofs.Held.{in-range, inside}
 use Rattle.reduction.proofs.Marks.{child-dropped, child-kept, Marking, mark-start, mark-all, next-child, mark-next}
 use borrow.Author.Needs.{needs}
 
@@ -57,7 +57,7 @@ mark-element-copy-out-wide : (t : ℕ) → mark-lts.Need-element-copy-out-wide (
   mark-child.Post,
 ) (mark-at t) mark.Post mark-Inv-loop mark-μ-loop
 mark-element-copy-out-wide t c =
-    let o = inside _ _ _ _ _ (c .pre .1) in let f = c .pre .1 .fits in omega arith
+    let a = in-range _ _ _ _ (c .pre .1) in omega arith
 
 mark-wide-requires : (t : ℕ) → mark-lts.Need-wide-requires (
   wide-reads.Asked,
@@ -74,7 +74,7 @@ mark-add-c : (t : ℕ) → mark-lts.Need-add-c (
   mark-child.Post,
 ) (mark-at t) mark.Post mark-Inv-loop mark-μ-loop
 mark-add-c t c =
-    let o = inside _ _ _ _ _ (c .before .before .pre .1) in let f = c .before .before .pre .1 .fits in omega arith
+    let a = in-range _ _ _ _ (c .before .before .pre .1) in omega arith
 
 mark-loop-holds : (t : ℕ) → mark-lts.Need-loop-holds (
   wide-reads.Asked,
@@ -92,7 +92,7 @@ mark-add-mark-child : (t : ℕ) → mark-lts.Need-add-mark-child (
   mark-child.Post,
 ) (mark-at t) mark.Post mark-Inv-loop mark-μ-loop
 mark-add-mark-child t c =
-    let o = inside _ _ _ _ _ (c .before .before .before .before .before .pre .1) in let f = c .before .before .before .before .before .pre .1 .fits in omega arith
+    let a = in-range _ _ _ _ (c .before .before .before .before .before .pre .1) in omega arith
 
 mark-sub-mark-child : (t : ℕ) → mark-lts.Need-sub-mark-child (
   wide-reads.Asked,
@@ -179,7 +179,7 @@ mark-child-put-requires : (t : ℕ) → mark-child-lts.Need-put-requires (
   mark.Post,
 ) (mark-child-at t) mark-child.Post
 mark-child-put-requires t c κs =
-    let o = inside _ _ _ _ _ (c .before .before .before .pre .1 .here) in let f = c .before .before .before .pre .1 .here .fits in omega arith
+    let a = in-range _ _ _ _ (c .before .before .before .pre .1 .here) in omega arith
 
 mark-child-returns : (t : ℕ) → mark-child-lts.Need-returns (
   dropped-reads.Asked,
@@ -201,7 +201,7 @@ mark-child-put-requires-2 : (t : ℕ) → mark-child-lts.Need-put-requires-2 (
   mark.Post,
 ) (mark-child-at t) mark-child.Post
 mark-child-put-requires-2 t c κs =
-    let o = inside _ _ _ _ _ (c .before .before .before .pre .1 .here) in let f = c .before .before .before .pre .1 .here .fits in omega arith
+    let a = in-range _ _ _ _ (c .before .before .before .pre .1 .here) in omega arith
 
 mark-child-mark-requires : (t : ℕ) → mark-child-lts.Need-mark-requires (
   dropped-reads.Asked,

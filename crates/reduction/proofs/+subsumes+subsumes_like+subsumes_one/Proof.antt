@@ -22,7 +22,7 @@ use mathlib.Core.List.{List}
 use lib.ListN.{getD}
 use borrow.Author.Tests.{not-true, not-false}
 use Rattle.meaning.specs.Reduce.{subsumes as above}
-use Rattle.reduction.proofs.Held.{inside, front}
+use Rattle.reduction.proofs.Held.{in-range, inside, front}
 use Rattle.reduction.proofs.Subsumed.{Serving, names-differ, serve-start, left-over, serve-all, serve-next, serve-not, role-differs, role-same, Seeking, seek-start, unseen, seek-none, seek-next, seek-found}
 
 abbrev μ-subsumes : Measures 3 subsumes-kinds.ps ℕ
@@ -85,7 +85,7 @@ subsumes-mul-within : (t : ℕ) → subsumes-lts.Need-mul-within (
   subsumes-one.Post,
 ) (subsumes-at t) subsumes.Post subsumes-Inv-loop subsumes-μ-loop
 subsumes-mul-within t c =
-    let o = inside _ _ _ _ _ (c .pre .1 .one) in let f = c .pre .1 .one .fits in omega arith
+    let a = in-range _ _ _ _ (c .pre .1 .one) in let b = in-range _ _ _ _ (c .pre .1 .other) in omega arith
 
 subsumes-element-copy-out-within : (t : ℕ) → subsumes-lts.Need-element-copy-out-within (
   within-reads.Asked,
@@ -96,7 +96,7 @@ subsumes-element-copy-out-within : (t : ℕ) → subsumes-lts.Need-element-copy-
   subsumes-one.Post,
 ) (subsumes-at t) subsumes.Post subsumes-Inv-loop subsumes-μ-loop
 subsumes-element-copy-out-within t c =
-    let o = inside _ _ _ _ _ (c .pre .1 .one) in let f = c .pre .1 .one .fits in omega arith
+    let a = in-range _ _ _ _ (c .pre .1 .one) in let b = in-range _ _ _ _ (c .pre .1 .other) in omega arith
 
 subsumes-mul-within-2 : (t : ℕ) → subsumes-lts.Need-mul-within-2 (
   within-reads.Asked,
@@ -107,7 +107,7 @@ subsumes-mul-within-2 : (t : ℕ) → subsumes-lts.Need-mul-within-2 (
   subsumes-one.Post,
 ) (subsumes-at t) subsumes.Post subsumes-Inv-loop subsumes-μ-loop
 subsumes-mul-within-2 t c =
-    let o = inside _ _ _ _ _ (c .before .pre .1 .other) in let f = c .before .pre .1 .other .fits in omega arith
+    let a = in-range _ _ _ _ (c .before .pre .1 .one) in let b = in-range _ _ _ _ (c .before .pre .1 .other) in omega arith
 
 subsumes-element-copy-out-within-2 : (t : ℕ) → subsumes-lts.Need-element-copy-out-within-2 (
   within-reads.Asked,
@@ -118,7 +118,7 @@ subsumes-element-copy-out-within-2 : (t : ℕ) → subsumes-lts.Need-element-cop
   subsumes-one.Post,
 ) (subsumes-at t) subsumes.Post subsumes-Inv-loop subsumes-μ-loop
 subsumes-element-copy-out-within-2 t c =
-    let o = inside _ _ _ _ _ (c .before .pre .1 .other) in let f = c .before .pre .1 .other .fits in omega arith
+    let a = in-range _ _ _ _ (c .before .pre .1 .one) in let b = in-range _ _ _ _ (c .before .pre .1 .other) in omega arith
 
 subsumes-within-requires : (t : ℕ) → subsumes-lts.Need-within-requires (
   within-reads.Asked,
@@ -150,7 +150,7 @@ subsumes-element-copy-out-wide : (t : ℕ) → subsumes-lts.Need-element-copy-ou
   subsumes-one.Post,
 ) (subsumes-at t) subsumes.Post subsumes-Inv-loop subsumes-μ-loop
 subsumes-element-copy-out-wide t c =
-    let o = inside _ _ _ _ _ (c .before .before .before .before .pre .1 .one) in let f = c .before .before .before .before .pre .1 .one .fits in omega arith
+    let a = in-range _ _ _ _ (c .before .before .before .before .pre .1 .one) in let b = in-range _ _ _ _ (c .before .before .before .before .pre .1 .other) in omega arith
 
 subsumes-wide-requires : (t : ℕ) → subsumes-lts.Need-wide-requires (
   within-reads.Asked,
@@ -171,7 +171,7 @@ subsumes-element-copy-out-wide-2 : (t : ℕ) → subsumes-lts.Need-element-copy-
   subsumes-one.Post,
 ) (subsumes-at t) subsumes.Post subsumes-Inv-loop subsumes-μ-loop
 subsumes-element-copy-out-wide-2 t c =
-    let o = inside _ _ _ _ _ (c .before .before .before .before .before .before .pre .1 .other) in let f = c .before .before .before .before .before .before .pre .1 .other .fits in omega arith
+    let a = in-range _ _ _ _ (c .before .before .before .before .before .before .pre .1 .one) in let b = in-range _ _ _ _ (c .before .before .before .before .before .before .pre .1 .other) in omega arith
 
 subsumes-wide-requires-2 : (t : ℕ) → subsumes-lts.Need-wide-requires-2 (
   within-reads.Asked,
@@ -192,7 +192,7 @@ subsumes-add-k : (t : ℕ) → subsumes-lts.Need-add-k (
   subsumes-one.Post,
 ) (subsumes-at t) subsumes.Post subsumes-Inv-loop subsumes-μ-loop
 subsumes-add-k t c =
-    let o = inside _ _ _ _ _ (c .before .before .before .before .before .before .before .before .pre .1 .one) in let f = c .before .before .before .before .before .before .before .before .pre .1 .one .fits in omega arith
+    let a = in-range _ _ _ _ (c .before .before .before .before .before .before .before .before .pre .1 .one) in let b = in-range _ _ _ _ (c .before .before .before .before .before .before .before .before .pre .1 .other) in omega arith
 
 subsumes-loop-holds : (t : ℕ) → subsumes-lts.Need-loop-holds (
   within-reads.Asked,
@@ -214,7 +214,7 @@ subsumes-add-subsumes-one : (t : ℕ) → subsumes-lts.Need-add-subsumes-one (
   subsumes-one.Post,
 ) (subsumes-at t) subsumes.Post subsumes-Inv-loop subsumes-μ-loop
 subsumes-add-subsumes-one t c =
-    let o = inside _ _ _ _ _ (c .before .before .before .before .before .before .before .before .before .before .pre .1 .other) in let f = c .before .before .before .before .before .before .before .before .before .before .pre .1 .other .fits in omega arith
+    let a = in-range _ _ _ _ (c .before .before .before .before .before .before .before .before .before .before .pre .1 .one) in let b = in-range _ _ _ _ (c .before .before .before .before .before .before .before .before .before .before .pre .1 .other) in omega arith
 
 subsumes-sub-subsumes-one : (t : ℕ) → subsumes-lts.Need-sub-subsumes-one (
   within-reads.Asked,
@@ -316,14 +316,14 @@ subsumes-like-element-copy-out-if1 : (t : ℕ) → subsumes-like-lts.Need-elemen
   subsumes.Post,
 ) (subsumes-like-at t) subsumes-like.Post
 subsumes-like-element-copy-out-if1 t c =
-    let o = inside _ _ _ _ _ (c .pre .1 .one) in let f = c .pre .1 .one .fits in omega arith
+    let a = in-range _ _ _ _ (c .pre .1 .one) in let b = in-range _ _ _ _ (c .pre .1 .other) in omega arith
 
 subsumes-like-element-copy-out-if1-2 : (t : ℕ) → subsumes-like-lts.Need-element-copy-out-if1-2 (
   subsumes-below t,
   subsumes.Post,
 ) (subsumes-like-at t) subsumes-like.Post
 subsumes-like-element-copy-out-if1-2 t c =
-    let o = inside _ _ _ _ _ (c .before .pre .1 .other) in let f = c .before .pre .1 .other .fits in omega arith
+    let a = in-range _ _ _ _ (c .before .pre .1 .one) in let b = in-range _ _ _ _ (c .before .pre .1 .other) in omega arith
 
 subsumes-like-returns :
     (t : ℕ) →

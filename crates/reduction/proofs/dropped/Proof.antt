@@ -2,7 +2,7 @@ use borrow.Author.Needs.{needs}
 use Rattle.reduction.proofs.dropped.Statement.{statement}
 use Rattle.reduction.proofs.dropped.Tie as tie
 use native.Mathlib.Omega.{arith}
-use Rattle.reduction.proofs.Held.{inside}
+use Rattle.reduction.proofs.Held.{in-range}
 use Rattle.reduction.proofs.Subsumed.{drop-before, drop-after}
 
 yields-one-requires : tie.Need-yields-one-requires
@@ -15,7 +15,7 @@ returns c =
 
 element-copy-out-wide : tie.Need-element-copy-out-wide
 element-copy-out-wide c =
-    let o = inside _ _ _ _ _ (c .before .before .pre .here) in let f = c .before .before .pre .here .fits in omega arith
+    let a = in-range _ _ _ _ (c .before .before .pre .here) in omega arith
 
 wide-requires : tie.Need-wide-requires
 wide-requires c κs = search needs
