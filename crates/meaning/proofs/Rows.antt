@@ -5,10 +5,11 @@ use mathlib.Core.Path.{_≡_, refl, sym, ap, ap₂, subst, _∙_}
 use mathlib.Core.Bool.{Bool, true, false, _||_, cond}
 use mathlib.Core.List.{List, [], _∷_}
 use Prim.Native.Nat.{ℕ, _+_, _*_, _-_, _≤_, _<_}
+use native.Mathlib.Nat.{max-le}
 use native.Mathlib.Omega.{arith}
 use lib.Dec.{eqb}
 use lib.ListN.{getD}
-use Rattle.meaning.specs.Tree.{Tree, node, Forest, none, more, Concept, under}
+use Rattle.meaning.specs.Tree.{node, Forest, none, more, Concept, under, nodes, nodesF, levels, levelsF}
 use Rattle.meaning.specs.Whole.{any}
 use Rattle.meaning.specs.Reduce.{subsumes, dropped, keep, reduce, reduceF, mostSize}
 use Rattle.meaning.specs.InPlace.{countIn, sizeIn, sizeInF, scaleIn, scaleInF}
@@ -89,6 +90,47 @@ module _ (names roles ends : List ℕ) where
   unfolding Holds
   holds-none left i = refl
 
+  pub holds-ended : (t : Concept) (left i e : ℕ) → Holds names roles ends t left i e → Holds names roles ends t left i (getD ends i 0)
+  holds-ended t left i e h = subst (λ z. Holds names roles ends t left i z) (sym (opened t left i e h .ended)) h
+
+  -- ---- levels and nodes
+
+  mutual
+    unfolding Holds
+
+    pub holds-deeper : (t : Concept) (left left′ i e : ℕ) → left ≤ left′ → Holds names roles ends t left i e → Holds names roles ends t left′ i e
+    holds-deeper (node a f) left left′ i e l h =
+        let d : 0 < left = h .0 in
+        (omega arith, h .1, h .2, h .3, holdsF-deeper f (left - 1) (left′ - 1) (i + 1) e (omega arith) (h .4))
+
+    pub holdsF-deeper : (f : Forest ℕ) (left left′ i e : ℕ) → left ≤ left′ → HoldsF names roles ends f left i e → HoldsF names roles ends f left′ i e
+    holdsF-deeper none left left′ i e l h = h
+    holdsF-deeper (more r t f) left left′ i e l h =
+        (h .0, h .1, holds-deeper t left left′ i (getD ends i 0) l (h .2), holdsF-deeper f left left′ (getD ends i 0) e l (h .3))
+
+  mutual
+    unfolding Holds levels
+
+    pub holds-levels : (t : Concept) (left i e : ℕ) → Holds names roles ends t left i e → levels t ≤ left
+    holds-levels (node a f) left i e h = let d : 0 < left = h .0 in omega (arith, holdsF-levels f (left - 1) (i + 1) e (h .4))
+
+    pub holdsF-levels : (f : Forest ℕ) (left i e : ℕ) → HoldsF names roles ends f left i e → levelsF f ≤ left
+    holdsF-levels none left i e h = omega arith
+    holdsF-levels (more r t f) left i e h =
+        max-le (holds-levels t left i (getD ends i 0) (h .2)) (holdsF-levels f left (getD ends i 0) e (h .3))
+
+  -- a row for each written node
+  mutual
+    unfolding Holds nodes
+
+    pub holds-nodes : (t : Concept) (left i e : ℕ) → Holds names roles ends t left i e → i + nodes t ≡ e
+    holds-nodes (node a f) left i e h = omega (arith, holdsF-nodes f (left - 1) (i + 1) e (h .4))
+
+    pub holdsF-nodes : (f : Forest ℕ) (left i e : ℕ) → HoldsF names roles ends f left i e → i + nodesF f ≡ e
+    holdsF-nodes none left i e h = let z : i ≡ e = h in omega arith
+    holdsF-nodes (more r t f) left i e h =
+        omega (arith, holds-nodes t left i (getD ends i 0) (h .2), holdsF-nodes f left (getD ends i 0) e (h .3))
+
   -- ---- one tree only
 
   mutual
@@ -146,6 +188,14 @@ module _ (names roles ends names′ roles′ ends′ : List ℕ) where
         )
 
 -- ---- and so do its marks
+
+pub mark-dropped : (d : Bool) {m : ℕ} → m ≡ mark d → (m ≡ 1 → ⊥) → d ≡ true
+mark-dropped true e z = refl
+mark-dropped false e z = absurd (z e)
+
+pub mark-kept : (d : Bool) {m : ℕ} → m ≡ mark d → m ≡ 1 → d ≡ false
+mark-kept true e z = absurd (let q : _≡_ {A = ℕ} 0 1 = sym e ∙ z in omega arith)
+mark-kept false e z = refl
 
 module _ (names roles ends old new : List ℕ) where
   -- the marks from i up to e are the same in both
@@ -264,26 +314,28 @@ module _ (names roles ends marks : List ℕ) (left n : ℕ) where
       pub below : getD marks c 0 ≡ 1 → Marked ends marks v c
       pub so-far : P t (more (getD roles c 0) v f) b
 
-    pub walk-meets : c < getD ends n 0 → (t : Concept) → Holds names roles ends t left n (getD ends n 0) → Marked ends marks t n
-        → (v : Concept) × (f : Forest ℕ) × (b : Forest ℕ) × Met t v f b
-    unfolding Holds Marked
-    walk-meets lt t h m = let u = w t h in go (u .rest) (u .before) (u .back) (u .marked m) (u .so-far m)
-      where
-        go : (f b : Forest ℕ) → HoldsF names roles ends f (left - 1) c (getD ends n 0) → MarkedF ends marks f b c → P t f b
-            → (v : Concept) × (f : Forest ℕ) × (b : Forest ℕ) × Met t v f b
-        go none b h x p = absurd (let z : c ≡ getD ends n 0 = h in omega arith)
-        go (more r v f) b h x p =
-            let e = sym (h .0) in (
-              v,
-              f,
-              b,
-              record {
-                holds = h .2;
-                marked = x .0 ∙ ap (λ (z : ℕ). mark (dropped (under z b) v (under z f))) e;
-                below = x .1;
-                so-far = subst (λ z. P t (more z v f) b) e p;
-              },
-            )
+    module _ (t : Concept) where
+      met : (r : ℕ) (v : Concept) (f b : Forest ℕ) → HoldsF names roles ends (more r v f) (left - 1) c (getD ends n 0) → MarkedF ends marks (more r v f) b c
+          → P t (more r v f) b → Met t v f b
+      unfolding Holds Marked
+      met r v f b h x p =
+          let e = sym (h .0) in
+          record {
+            holds = h .2;
+            marked = x .0 ∙ ap (λ (z : ℕ). mark (dropped (under z b) v (under z f))) e;
+            below = x .1;
+            so-far = subst (λ z. P t (more z v f) b) e p;
+          }
+
+      pub walk-meets : c < getD ends n 0 → Holds names roles ends t left n (getD ends n 0) → Marked ends marks t n
+          → (v : Concept) × (f : Forest ℕ) × (b : Forest ℕ) × Met t v f b
+      unfolding Holds Marked
+      walk-meets lt h m = let u = w t h in go (u .rest) (u .before) (u .back) (u .marked m) (u .so-far m)
+        where
+          go : (f b : Forest ℕ) → HoldsF names roles ends f (left - 1) c (getD ends n 0) → MarkedF ends marks f b c → P t f b
+              → (v : Concept) × (f : Forest ℕ) × (b : Forest ℕ) × Met t v f b
+          go none b h x p = absurd (let z : c ≡ getD ends n 0 = h in omega arith)
+          go (more r v f) b h x p = (v, f, b, met r v f b h x p)
 
     pub walk-next : (Q : Concept → Forest ℕ → Forest ℕ → Type 0) → c < getD ends n 0 → {m : ℕ} → m ≡ getD ends c 0
         → ((t v : Concept) (f b : Forest ℕ) → Met t v f b → Q t f (more (getD roles c 0) v b)) → Walk Q m
@@ -298,17 +350,7 @@ module _ (names roles ends marks : List ℕ) (left n : ℕ) where
           rest = f;
           back = rw on (h .3);
           marked = λ k. rw on (x k .2);
-          so-far = λ k.
-              let e = sym (h .0) in
-              let y = x k in
-              subst (λ z. Q t f (more z v b)) (h .0)
-              (step t v f b
-              record {
-                holds = h .2;
-                marked = y .0 ∙ ap (λ (z : ℕ). mark (dropped (under z b) v (under z f))) e;
-                below = y .1;
-                so-far = subst (λ z. P t (more z v f) b) e (p k);
-              });
+          so-far = λ k. subst (λ z. Q t f (more z v b)) (h .0) (step t v f b (met t r v f b h (x k) (p k)));
         }
 
     pub walk-end : getD ends n 0 ≤ c → (t : Concept) → Holds names roles ends t left n (getD ends n 0) → Marked ends marks t n → (b : Forest ℕ) × P t none b

@@ -1,3 +1,4 @@
+pub mod Held
 pub mod Subsumed
 pub mod Marks
 pub mod Sizes

@@ -12,10 +12,10 @@ use Rattle.meaning.specs.Tree.{node, Forest, none, more, Concept, under}
 use Rattle.meaning.specs.Reduce.{dropped, mostSize}
 use Rattle.meaning.specs.InPlace.{countIn, sizeIn, sizeInF, scaleIn, scaleInF}
 use Rattle.meaning.specs.Rows.{Holds, HoldsF, mark, Marked}
-use Rattle.meaning.proofs.Rows.{drops, size-more, count-more, scale-more, rest-smaller, child-smaller, Walk, walk-start, walk-meets, walk-next, walk-end, scaleInF-pos, scaleIn-bound}
+use Rattle.meaning.proofs.Rows.{mark-dropped, mark-kept, drops, size-more, count-more, scale-more, rest-smaller, child-smaller, Walk, walk-start, walk-meets, walk-next, walk-end, scaleInF-pos, scaleIn-bound}
 use Rattle.reduction.specs.Held.{Held, HeldF}
 use Rattle.reduction.specs.Sizes.{HeldBy, Counts, CountsKept, Sized, SizedKept, Small, SmallKept}
-use Rattle.reduction.proofs.Subsumed.{Front, front}
+use Rattle.reduction.proofs.Held.{Front, front}
 
 -- ---- the size so far
 
@@ -51,31 +51,16 @@ module _ (names ends : List ℕ) (left : ℕ) (marks : List ℕ) (n : ℕ) where
 -- ---- one child's size
 
 module _ (names ends : List ℕ) (left : ℕ) (marks : List ℕ) (c : ℕ) where
-  -- the mark says whether it is dropped
-  is-dropped : (d : Bool) → getD marks c 0 ≡ mark d → getD marks c 0 ≡ 0 → d ≡ true
-  is-dropped true e z = refl
-  is-dropped false e z = absurd (let q : _≡_ {A = ℕ} 0 1 = sym z ∙ e in omega arith)
+  pub none-counted : (f : Concept → ℕ) (k : ℕ) → (getD marks c 0 ≡ 1 → ⊥) → CountsKept names ends left marks f k c k
+  none-counted f k z roles t h d e below = rw (mark-dropped d e z)
 
-  is-kept : (d : Bool) → getD marks c 0 ≡ mark d → (getD marks c 0 ≡ 0 → ⊥) → d ≡ false
-  is-kept true e z = absurd (z e)
-  is-kept false e z = refl
+  pub kept-counted : (f : Concept → ℕ) (k v : ℕ) → getD marks c 0 ≡ 1 → Counts names ends left marks f c v → CountsKept names ends left marks f k c v
+  kept-counted f k v z s roles t h d e below = rw (mark-kept d e z) (s roles t h (below z))
 
-  pub none-counted : (f : Concept → ℕ) (k : ℕ) → getD marks c 0 ≡ 0 → CountsKept names ends left marks f k c k
-  none-counted f k z roles t h d e below = rw (is-dropped d e z)
-
-  pub kept-counted : (f : Concept → ℕ) (k v : ℕ) → (getD marks c 0 ≡ 0 → ⊥) → Counts names ends left marks f c v → CountsKept names ends left marks f k c v
-  kept-counted f k v z s roles t h d e below =
-      let q = is-kept d e z in
-      rw q (s roles t h (below (e ∙ ap mark q)))
-
-  -- a mark that is not 0 is 1
-  pub one-mark : SmallKept names ends left marks c → (getD marks c 0 ≡ 0 → ⊥) → getD marks c 0 ≡ 1
-  one-mark s z = s .kind ∙ ap mark (is-kept (s .dropped) (s .kind) z)
-
-  pub none-sized : getD marks c 0 ≡ 0 → SizedKept names ends left marks c 0
+  pub none-sized : (getD marks c 0 ≡ 1 → ⊥) → SizedKept names ends left marks c 0
   none-sized z = record { right = none-counted (λ t. 1 + sizeIn t) 0 z; small = omega arith }
 
-  pub kept-sized : (v : ℕ) → (getD marks c 0 ≡ 0 → ⊥) → Sized names ends left marks c v → SizedKept names ends left marks c (1 + v)
+  pub kept-sized : (v : ℕ) → getD marks c 0 ≡ 1 → Sized names ends left marks c v → SizedKept names ends left marks c (1 + v)
   kept-sized v z s =
       let l = s .small in
       record { right = kept-counted (λ t. 1 + sizeIn t) 0 (1 + v) z (λ roles t h m. ap (λ (x : ℕ). 1 + x) (s .right roles t h m)); small = omega arith }
@@ -158,19 +143,16 @@ module _ (names ends : List ℕ) (left : ℕ) (marks : List ℕ) (n : ℕ) where
 
         pub child-small : SmallKept names ends (left - 1) marks c
         child-small =
-            let q = walk-meets names (s .roles) ends marks left n (ScaleSoFar v p) c (w (s .roles)) lt (s .held .tree) (s .held .holds) (s .marked) in
+            let q = walk-meets names (s .roles) ends marks left n (ScaleSoFar v p) c (w (s .roles)) (s .held .tree) lt (s .held .holds) (s .marked) in
             let m = q .3 in
             let r = getD (s .roles) c 0 in
             let f : getD ends c 0 ≤ 64 = scale-child .here .fits in
             record {
               roles = s .roles;
               held = record { tree = q .0; holds = m .holds; fits = f };
-              dropped = drops r (q .0) (q .1) (q .2);
-              kind = m .marked;
               marked = m .below;
               small = λ z.
-                  let a = child-smaller r (q .0) (q .1) (q .2)
-                  (is-kept names ends left marks c (drops r (q .0) (q .1) (q .2)) (m .marked) (λ y. let o : _≡_ {A = ℕ} 0 1 = sym y ∙ z in omega arith)) in
+                  let a = child-smaller r (q .0) (q .1) (q .2) (mark-kept (drops r (q .0) (q .1) (q .2)) (m .marked) z) in
                   let b = m .so-far .small in
                   let l : sizeIn (s .held .tree) ≤ 60 = s .small in
                   omega arith;
@@ -178,7 +160,7 @@ module _ (names ends : List ℕ) (left : ℕ) (marks : List ℕ) (n : ℕ) where
 
         pub product-fits : (x : ℕ) → CountsKept names ends (left - 1) marks scaleIn 1 c x → p * x ≤ 3486784401
         product-fits x k =
-            let q = walk-meets names (s .roles) ends marks left n (ScaleSoFar v p) c (w (s .roles)) lt (s .held .tree) (s .held .holds) (s .marked) in
+            let q = walk-meets names (s .roles) ends marks left n (ScaleSoFar v p) c (w (s .roles)) (s .held .tree) lt (s .held .holds) (s .marked) in
             let m = q .3 in
             let r = getD (s .roles) c 0 in
             let e = scale-more r (q .0) (q .1) (q .2) x (k (s .roles) (q .0) (m .holds) (drops r (q .0) (q .1) (q .2)) (m .marked) (m .below)) in

@@ -1,6 +1,6 @@
 -- The tests of the drop rule as the code comes to them: one law for each way out of a function and each turn of a loop.
 -- Assumes nothing.
-use mathlib.Core.Path.{_≡_, refl, sym, ap, _∙_}
+use mathlib.Core.Path.{_≡_, refl, sym, ap, _∙_, fun-ext}
 use mathlib.Core.Bool.{Bool, true, false, _&&_, _||_, not, cond}
 use mathlib.Core.List.{List, _∷_}
 use Prim.Native.Nat.{ℕ, _+_, _-_, _≤_, _<_}
@@ -14,39 +14,9 @@ use Rattle.meaning.specs.Graph.{treeGraph}
 use Rattle.meaning.specs.Whole.{any, meetsBy, meetsF}
 use Rattle.meaning.specs.Reduce.{subsumes, dropped}
 use Rattle.meaning.specs.Rows.{Holds, HoldsF}
-use Rattle.meaning.proofs.Rows.{opened, first, ran-out}
+use Rattle.meaning.proofs.Rows.{opened, ran-out}
 use Rattle.reduction.specs.Held.{Held, HeldF, ForTree, ForTrees}
-use Rattle.reduction.specs.Subsumed.{exceeds, Two, Tests, TestsLike, Among, TestsOne, Sibling, TestsDropped}
-
-module _ (names roles ends : List ℕ) (left : ℕ) where
-  -- what stands at a row: the children of a tree, and the first of some trees
-  pub record Inside (i : ℕ) : Type 0 where
-    pub deep : 0 < left
-    pub inside : i < getD ends i 0
-    pub children : HeldF names roles ends (left - 1) (i + 1) (getD ends i 0)
-
-  pub inside : (i : ℕ) → Held names roles ends left i → Inside i
-  inside i h =
-      let o = opened names roles ends (h .tree) left i (getD ends i 0) (h .holds) in
-      record { deep = o .deep; inside = o .inside; children = record { trees = o .kids; holds = o .below; fits = h .fits } }
-
-  pub record Front (i e : ℕ) : Type 0 where
-    pub inside : i < getD ends i 0
-    pub within : getD ends i 0 ≤ e
-    pub here : Held names roles ends left i
-    pub after : HeldF names roles ends left (getD ends i 0) e
-
-  pub front : (i e : ℕ) → HeldF names roles ends left i e → i < e → Front i e
-  front i e h lt =
-      let o = first names roles ends (h .trees) left i e (h .holds) lt in
-      let l : e ≤ 64 = h .fits in
-      let m : getD ends i 0 ≤ e = o .within in
-      record {
-        inside = o .inside;
-        within = o .within;
-        here = record { tree = o .tree; holds = o .here; fits = omega arith };
-        after = record { trees = o .rest; holds = o .after; fits = l };
-      }
+use Rattle.reduction.specs.Subsumed.{yields, Two, Tests, TestsLike, Among, TestsOne, Sibling, TestsDropped}
 
 module _ (names roles ends : List ℕ) (left : ℕ) where
   abbrev H : Concept → ℕ → Type 0
@@ -184,26 +154,45 @@ module _ (names roles ends : List ℕ) (left : ℕ) where
 
   -- ---- the drop rule
 
-  module _ (c d : ℕ) {b : Bool} (test : TestsLike names roles ends left subsumes c d b) where
-    pub exceeds-not : b ≡ false → TestsLike names roles ends left exceeds c d false
-    exceeds-not q t h u h′ = go (eqb (getD roles c 0) (getD roles d 0)) (subsumes t u) (sym (test t h u h′) ∙ q)
+  module _ (c d : ℕ) (earlier : Bool) {b : Bool} (test : TestsLike names roles ends left subsumes c d b) where
+    pub yields-not : b ≡ false → TestsLike names roles ends left (yields earlier) c d false
+    yields-not q t h u h′ = go (eqb (getD roles c 0) (getD roles d 0)) (subsumes t u) (sym (test t h u h′) ∙ q)
       where
-        go : (x y : Bool) → (x && y) ≡ false → false ≡ (x && (y && not (subsumes u t)))
+        go : (x y : Bool) → (x && y) ≡ false → false ≡ (x && (y && (earlier || not (subsumes u t))))
         go true y z = rw z
         go false y z = refl
 
-    pub exceeds-if : (v : Bool) → b ≡ true → Tests names roles ends left subsumes d c v → TestsLike names roles ends left exceeds c d (not v)
-    exceeds-if v q back t h u h′ = rw (sym (back u h′ t h)) (go (eqb (getD roles c 0) (getD roles d 0)) (subsumes t u) (sym (test t h u h′) ∙ q))
+    yields-as : b ≡ true → (t : Concept) → Holds names roles ends t left c (getD ends c 0) → (u : Concept) → Holds names roles ends u left d (getD ends d 0)
+        → (w : Bool) → w ≡ (earlier || not (subsumes u t)) → w ≡ (eqb (getD roles c 0) (getD roles d 0) && yields earlier t u)
+    yields-as q t h u h′ w e = e ∙ go (eqb (getD roles c 0) (getD roles d 0)) (subsumes t u) (sym (test t h u h′) ∙ q)
       where
-        go : (x y : Bool) → (x && y) ≡ true → not v ≡ (x && (y && not v))
+        v : Bool
+        v = earlier || not (subsumes u t)
+
+        go : (x y : Bool) → (x && y) ≡ true → v ≡ (x && (y && v))
         go true y z = rw z
         go false y z = absurd (let n : _≡_ {A = ℕ} 0 1 = cc in omega arith)
 
-  module _ (i c e : ℕ) {b : Bool} (test : TestsOne names roles ends left subsumes c i c b) where
+    pub yields-earlier : b ≡ true → earlier ≡ true → TestsLike names roles ends left (yields earlier) c d true
+    yields-earlier q e t h u h′ = yields-as q t h u h′ true (rw e)
+
+    pub yields-later : (v : Bool) → b ≡ true → earlier ≡ false → Tests names roles ends left subsumes d c v → TestsLike names roles ends left (yields earlier) c d (not v)
+    yields-later v q e back t h u h′ = yields-as q t h u h′ (not v) (rw (e, back u h′ t h))
+
+  and-true : (x : Bool) → (x && true) ≡ x
+  and-true true = refl
+  and-true false = refl
+
+  module _ (i c e : ℕ) {b : Bool} (test : TestsOne names roles ends left (yields true) c i c b) where
+    before : (g : Forest ℕ) → HoldsF names roles ends g left i c → (t : Concept) → Holds names roles ends t left c (getD ends c 0)
+        → any (λ u. subsumes t u) (under (getD roles c 0) g) ≡ b
+    before g k t h =
+        ap (λ (p : Concept → Bool). any p (under (getD roles c 0) g)) (fun-ext (λ u. sym (and-true (subsumes t u)))) ∙ sym (test t h g k)
+
     pub drop-before : b ≡ true → TestsDropped names roles ends left i c e true
     unfolding dropped
-    drop-before q g k t h f m = rw (sym (test t h g k) ∙ q)
+    drop-before q g k t h f m = rw (before g k t h ∙ q)
 
-    pub drop-after : (v : Bool) → b ≡ false → TestsOne names roles ends left exceeds c (getD ends c 0) e v → TestsDropped names roles ends left i c e v
+    pub drop-after : (v : Bool) → b ≡ false → TestsOne names roles ends left (yields false) c (getD ends c 0) e v → TestsDropped names roles ends left i c e v
     unfolding dropped
-    drop-after v q later g k t h f m = rw (sym (test t h g k) ∙ q) (later t h f m)
+    drop-after v q later g k t h f m = rw (before g k t h ∙ q) (later t h f m)

@@ -46,7 +46,5 @@ module _ (names ends : List ℕ) (left : ℕ) where
     pub record SmallKept (c : ℕ) : Type 0 where
       pub roles : List ℕ
       pub held : Held names roles ends left c
-      pub dropped : Bool
-      pub kind : getD marks c 0 ≡ mark dropped
       pub marked : getD marks c 0 ≡ 1 → Marked ends marks (held .tree) c
       pub small : getD marks c 0 ≡ 1 → sizeIn (held .tree) ≤ mostSize

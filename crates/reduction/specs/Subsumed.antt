@@ -1,7 +1,7 @@
 -- The tests of the drop rule, over rows.
 -- Assumes nothing.
 use mathlib.Core.Path.{_≡_}
-use mathlib.Core.Bool.{Bool, _&&_, not}
+use mathlib.Core.Bool.{Bool, _&&_, _||_, not}
 use mathlib.Core.List.{List}
 use Prim.Native.Nat.{ℕ}
 use lib.Dec.{eqb}
@@ -11,9 +11,9 @@ use Rattle.meaning.specs.Whole.{any}
 use Rattle.meaning.specs.Reduce.{subsumes, dropped}
 use Rattle.reduction.specs.Held.{Held, HeldF, ForTree, ForTrees}
 
--- c subsumes d, which does not subsume c
-abbrev pub exceeds : Concept → Concept → Bool
-exceeds c d = subsumes c d && not (subsumes d c)
+-- "drop child i when another child j is subsumed by child i and either the converse fails or j stands earlier": child i for child j
+abbrev pub yields : Bool → Concept → Concept → Bool
+yields earlier i j = subsumes i j && (earlier || not (subsumes j i))
 
 module _ (names roles ends : List ℕ) (left : ℕ) where
   -- two trees, at c and at d

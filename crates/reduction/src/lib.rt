@@ -7,7 +7,7 @@ ghost use Rattle.meaning.specs.Names.{names, within};
 ghost use Rattle.meaning.specs.Reduce.{subsumes, size, reduce};
 ghost use Rattle.meaning.specs.InPlace.{scaleIn};
 ghost use Rattle.reduction.specs.Held.{Held, ForTree};
-ghost use Rattle.reduction.specs.Subsumed.{exceeds, Two, Tests, TestsLike, Among, TestsOne, Sibling, TestsDropped};
+ghost use Rattle.reduction.specs.Subsumed.{yields, Two, Tests, TestsLike, Among, TestsOne, Sibling, TestsDropped};
 ghost use Rattle.reduction.specs.Marks.{Put, MarkedBelow, MarkedChild, MarkedWhole};
 ghost use Rattle.reduction.specs.Sizes.{HeldBy, Counts, CountsKept, Sized, SizedKept, Small, SmallKept};
 
@@ -102,8 +102,8 @@ fn subsumes_like(
     subsumes(names, roles, ends, c, d, left)
 }
 
-// Whether the tree at c subsumes one of those from `first` up to `end` under c's role, which does not subsume it.
-fn exceeds_one(
+// Whether the child at c is dropped for one of its siblings from `first` up to `end`, which all stand earlier, or all later.
+fn yields_one(
     names: &[u64; 64],
     roles: &[u8; 64],
     ends: &[u8; 64],
@@ -111,13 +111,14 @@ fn exceeds_one(
     first: usize,
     end: usize,
     left: usize,
+    earlier: bool,
 ) -> bool
     requires { ⌜ Among (now names) (now roles) (now ends) left c first end ⌝ }
-    ensures { λ r. ⌜ TestsOne (now (names .entry)) (now (roles .entry)) (now (ends .entry)) left exceeds c first end r ⌝ }
+    ensures { λ r. ⌜ TestsOne (now (names .entry)) (now (roles .entry)) (now (ends .entry)) left (yields earlier) c first end r ⌝ }
 {
     let mut d = first;
     while d < end {
-        if exceeds(names, roles, ends, c, d, left) {
+        if yields(names, roles, ends, c, d, left, earlier) {
             return true;
         }
         d = wide(ends[d]);
@@ -125,22 +126,26 @@ fn exceeds_one(
     false
 }
 
-// Whether the trees at c and d stand under the same role, the first subsumes the second, and the converse fails.
-fn exceeds(
+// Whether the child at c is dropped for its sibling at d, which stands earlier or not.
+fn yields(
     names: &[u64; 64],
     roles: &[u8; 64],
     ends: &[u8; 64],
     c: usize,
     d: usize,
     left: usize,
+    earlier: bool,
 ) -> bool
     requires { ⌜ Two (now names) (now roles) (now ends) left c d ⌝ }
-    ensures { λ r. ⌜ TestsLike (now (names .entry)) (now (roles .entry)) (now (ends .entry)) left exceeds c d r ⌝ }
+    ensures { λ r. ⌜ TestsLike (now (names .entry)) (now (roles .entry)) (now (ends .entry)) left (yields earlier) c d r ⌝ }
 {
-    if subsumes_like(names, roles, ends, c, d, left) {
-        return !subsumes(names, roles, ends, d, c, left);
+    if !subsumes_like(names, roles, ends, c, d, left) {
+        return false;
     }
-    false
+    if earlier {
+        return true;
+    }
+    !subsumes(names, roles, ends, d, c, left)
 }
 
 // Whether the child at c, of the children from `first` up to `end`, is dropped.
@@ -156,11 +161,11 @@ fn dropped(
     requires { ⌜ Sibling (now names) (now roles) (now ends) left first c end ⌝ }
     ensures { λ r. ⌜ TestsDropped (now (names .entry)) (now (roles .entry)) (now (ends .entry)) left first c end r ⌝ }
 {
-    if subsumes_one(names, roles, ends, c, first, c, left) {
+    if yields_one(names, roles, ends, c, first, c, left, true) {
         return true;
     }
     let next = wide(ends[c]);
-    exceeds_one(names, roles, ends, c, next, end, left)
+    yields_one(names, roles, ends, c, next, end, left, false)
 }
 
 // Sets one mark.
@@ -242,7 +247,7 @@ fn child_size(names: &[u64; 64], ends: &[u8; 64], marks: &[u8; 64], c: usize, le
     requires { ⌜ HeldBy (now names) (now ends) left c ⌝ }
     ensures { λ r. ⌜ SizedKept (now (names .entry)) (now (ends .entry)) left (now (marks .entry)) c r ⌝ }
 {
-    if marks[c] == 0 {
+    if marks[c] != 1 {
         return 0;
     }
     1 + size(names, ends, marks, c, left)
@@ -285,8 +290,8 @@ fn child_scale(names: &[u64; 64], ends: &[u8; 64], marks: &[u8; 64], c: usize, l
     requires { ⌜ SmallKept (now names) (now ends) left (now marks) c ⌝ }
     ensures { λ r. ⌜ CountsKept (now (names .entry)) (now (ends .entry)) left (now (marks .entry)) scaleIn 1 c r ⌝ }
 {
-    if marks[c] == 0 {
-        return 1;
+    if marks[c] == 1 {
+        return scale(names, ends, marks, c, left);
     }
-    scale(names, ends, marks, c, left)
+    1
 }

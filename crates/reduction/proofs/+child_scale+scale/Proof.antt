@@ -16,8 +16,8 @@ use Prim.Native.Nat.{_+_, _*_, _-_, _≤_}
 use mathlib.Core.Path.{_≡_, refl, sym, _∙_}
 use lib.ListN.{getD}
 use Rattle.meaning.specs.InPlace.{scaleIn}
-use Rattle.reduction.proofs.Subsumed.{inside}
-use Rattle.reduction.proofs.Sizes.{none-counted, kept-counted, one-mark, Scaling, scale-start, scale-small, scale-none, scale-some, scale-next, few-names, scale-child, child-small, product-fits}
+use Rattle.reduction.proofs.Held.{in-range, inside}
+use Rattle.reduction.proofs.Sizes.{none-counted, kept-counted, Scaling, scale-start, scale-small, scale-none, scale-some, scale-next, few-names, scale-child, child-small, product-fits}
 use borrow.Author.Needs.{needs}
 
 abbrev μ-child-scale : Measures 3 child-scale-kinds.ps ℕ
@@ -42,37 +42,6 @@ scale-at t = and 3 scale-kinds.ps (is 3 scale-kinds.ps μ-scale t) scale.Pre
 abbrev scale-below : ℕ → In 3 scale-kinds.ps
 scale-below t = and 3 scale-kinds.ps (falls 3 scale-kinds.ps _<_ μ-scale t) scale.Pre
 
--- src/lib.rt:227:8
-child-scale-element-copy-out-if1 : (t : ℕ) → child-scale-lts.Need-element-copy-out-if1 (
-  scale-below t,
-  scale.Post,
-) (child-scale-at t) child-scale.Post
-child-scale-element-copy-out-if1 t c =
-    let o = inside _ _ _ _ _ (c .pre .1 .held) in let f = c .pre .1 .held .fits in omega arith
-
--- src/lib.rt:228:9
-child-scale-returns :
-    (t : ℕ) →
-    child-scale-lts.Need-returns (scale-below t, scale.Post) (child-scale-at t) child-scale.Post
-child-scale-returns t c =
-    none-counted _ _ _ _ _ scaleIn 1 (c .if1 .taken)
-
--- src/lib.rt:230:5
-child-scale-scale-requires : (t : ℕ) → child-scale-lts.Need-scale-requires (
-  scale-below t,
-  scale.Post,
-) (child-scale-at t) child-scale.Post
-child-scale-scale-requires t c κs =
-    let m = one-mark _ _ _ _ _ (c .before .before .pre .1) (c .if1 .left) in
-    (omega (arith, c .before .before .pre .0), record { roles = c .before .before .pre .1 .roles; held = c .before .before .pre .1 .held; marked = c .before .before .pre .1 .marked m; small = c .before .before .pre .1 .small m })
-
--- src/lib.rt:223:1
-child-scale-returns-2 :
-    (t : ℕ) →
-    child-scale-lts.Need-returns-2 (scale-below t, scale.Post) (child-scale-at t) child-scale.Post
-child-scale-returns-2 t c =
-    kept-counted _ _ _ _ _ scaleIn 1 _ (c .before .if1 .left) (c .scale .ensures .0)
-
 abbrev scale-Inv-loop : scale-lts.InvT-loop
 scale-Inv-loop names ends marks node left end n₀ product₀ c₀ n product c =
     (end ≡ getD ends node 0) × (node < c) × Scaling names ends left marks node n product c
@@ -81,253 +50,6 @@ abbrev scale-μ-loop : scale-lts.MeasureT-loop
 scale-μ-loop names ends marks node left end n₀ product₀ c₀ n product c =
     end - c
 
--- src/lib.rt:207:20
-scale-element-copy-out-wide : (t : ℕ) → scale-lts.Need-element-copy-out-wide (
-  wide-reads.Asked,
-  wide-reads.Learnt,
-  named-reads.Asked,
-  named-reads.Learnt,
-  child-scale-below t,
-  child-scale.Post,
-) (scale-at t) scale.Post scale-Inv-loop scale-μ-loop
-scale-element-copy-out-wide t c =
-    let o = inside _ _ _ _ _ (c .pre .1 .held) in let f = c .pre .1 .held .fits in omega arith
-
--- src/lib.rt:207:9
-scale-wide-requires : (t : ℕ) → scale-lts.Need-wide-requires (
-  wide-reads.Asked,
-  wide-reads.Learnt,
-  named-reads.Asked,
-  named-reads.Learnt,
-  child-scale-below t,
-  child-scale.Post,
-) (scale-at t) scale.Post scale-Inv-loop scale-μ-loop
-scale-wide-requires t c κs = search needs
-
--- src/lib.rt:208:23
-scale-mul-named : (t : ℕ) → scale-lts.Need-mul-named (
-  wide-reads.Asked,
-  wide-reads.Learnt,
-  named-reads.Asked,
-  named-reads.Learnt,
-  child-scale-below t,
-  child-scale.Post,
-) (scale-at t) scale.Post scale-Inv-loop scale-μ-loop
-scale-mul-named t c =
-    let o = inside _ _ _ _ _ (c .before .before .pre .1 .held) in let f = c .before .before .pre .1 .held .fits in omega arith
-
--- src/lib.rt:208:23
-scale-element-copy-out-named : (t : ℕ) → scale-lts.Need-element-copy-out-named (
-  wide-reads.Asked,
-  wide-reads.Learnt,
-  named-reads.Asked,
-  named-reads.Learnt,
-  child-scale-below t,
-  child-scale.Post,
-) (scale-at t) scale.Post scale-Inv-loop scale-μ-loop
-scale-element-copy-out-named t c =
-    let o = inside _ _ _ _ _ (c .before .before .pre .1 .held) in let f = c .before .before .pre .1 .held .fits in omega arith
-
--- src/lib.rt:208:9
-scale-named-requires : (t : ℕ) → scale-lts.Need-named-requires (
-  wide-reads.Asked,
-  wide-reads.Learnt,
-  named-reads.Asked,
-  named-reads.Learnt,
-  child-scale-below t,
-  child-scale.Post,
-) (scale-at t) scale.Post scale-Inv-loop scale-μ-loop
-scale-named-requires t c κs = search needs
-
--- src/lib.rt:210:17
-scale-add-c : (t : ℕ) → scale-lts.Need-add-c (
-  wide-reads.Asked,
-  wide-reads.Learnt,
-  named-reads.Asked,
-  named-reads.Learnt,
-  child-scale-below t,
-  child-scale.Post,
-) (scale-at t) scale.Post scale-Inv-loop scale-μ-loop
-scale-add-c t c =
-    let o = inside _ _ _ _ _ (c .before .before .before .before .pre .1 .held) in let f = c .before .before .before .before .pre .1 .held .fits in omega arith
-
--- src/lib.rt:211:5
-scale-loop-holds : (t : ℕ) → scale-lts.Need-loop-holds (
-  wide-reads.Asked,
-  wide-reads.Learnt,
-  named-reads.Asked,
-  named-reads.Learnt,
-  child-scale-below t,
-  child-scale.Post,
-) (scale-at t) scale.Post scale-Inv-loop scale-μ-loop
-scale-loop-holds t c =
-    (c .before .before .wide .ensures .0, omega arith, scale-start _ _ _ _ _ _ (c .named .ensures .0))
-
--- src/lib.rt:212:19
-scale-element-copy-out-wide-2 : (t : ℕ) → scale-lts.Need-element-copy-out-wide-2 (
-  wide-reads.Asked,
-  wide-reads.Learnt,
-  named-reads.Asked,
-  named-reads.Learnt,
-  child-scale-below t,
-  child-scale.Post,
-) (scale-at t) scale.Post scale-Inv-loop scale-μ-loop
-scale-element-copy-out-wide-2 t c =
-    let f = c .before .before .before .before .before .before .pre .1 .held .fits in omega (arith, c .before .loop .inv .0)
-
--- src/lib.rt:212:14
-scale-wide-requires-2 : (t : ℕ) → scale-lts.Need-wide-requires-2 (
-  wide-reads.Asked,
-  wide-reads.Learnt,
-  named-reads.Asked,
-  named-reads.Learnt,
-  child-scale-below t,
-  child-scale.Post,
-) (scale-at t) scale.Post scale-Inv-loop scale-μ-loop
-scale-wide-requires-2 t c κs = search needs
-
--- src/lib.rt:212:9
-scale-add-n : (t : ℕ) → scale-lts.Need-add-n (
-  wide-reads.Asked,
-  wide-reads.Learnt,
-  named-reads.Asked,
-  named-reads.Learnt,
-  child-scale-below t,
-  child-scale.Post,
-) (scale-at t) scale.Post scale-Inv-loop scale-μ-loop
-scale-add-n t c =
-    let l = few-names _ _ _ _ _ _ _ _ (c .before .before .before .loop .inv .2) (c .before .before .before .before .before .before .before .before .pre .1) in omega (arith, c .wide2 .ensures .1)
-
--- src/lib.rt:213:55
-scale-sub-child-scale : (t : ℕ) → scale-lts.Need-sub-child-scale (
-  wide-reads.Asked,
-  wide-reads.Learnt,
-  named-reads.Asked,
-  named-reads.Learnt,
-  child-scale-below t,
-  child-scale.Post,
-) (scale-at t) scale.Post scale-Inv-loop scale-μ-loop
-scale-sub-child-scale t c =
-    let o = inside _ _ _ _ _ (c .before .before .before .before .before .before .before .before .pre .1 .held) in omega arith
-
--- src/lib.rt:213:20
-scale-child-scale-requires : (t : ℕ) → scale-lts.Need-child-scale-requires (
-  wide-reads.Asked,
-  wide-reads.Learnt,
-  named-reads.Asked,
-  named-reads.Learnt,
-  child-scale-below t,
-  child-scale.Post,
-) (scale-at t) scale.Post scale-Inv-loop scale-μ-loop
-scale-child-scale-requires t c κs =
-    let o = inside _ _ _ _ _ (c .before .before .before .before .before .before .before .before .pre .1 .held) in
-    (omega (arith, c .before .before .before .before .before .before .before .before .pre .0), child-small _ _ _ _ _ _ _ _ (c .before .before .before .loop .inv .2) (c .before .before .before .before .before .before .before .before .pre .1) (omega (arith, c .before .before .before .loop .inv .0)))
-
--- src/lib.rt:213:9
-scale-mul-product : (t : ℕ) → scale-lts.Need-mul-product (
-  wide-reads.Asked,
-  wide-reads.Learnt,
-  named-reads.Asked,
-  named-reads.Learnt,
-  child-scale-below t,
-  child-scale.Post,
-) (scale-at t) scale.Post scale-Inv-loop scale-μ-loop
-scale-mul-product t c =
-    let l = product-fits _ _ _ _ _ _ _ _ (c .before .before .before .before .loop .inv .2) (c .before .before .before .before .before .before .before .before .before .pre .1) (omega (arith, c .before .before .before .before .loop .inv .0)) _ (c .child-scale .ensures) in omega arith
-
--- src/lib.rt:214:18
-scale-element-copy-out-wide-3 : (t : ℕ) → scale-lts.Need-element-copy-out-wide-3 (
-  wide-reads.Asked,
-  wide-reads.Learnt,
-  named-reads.Asked,
-  named-reads.Learnt,
-  child-scale-below t,
-  child-scale.Post,
-) (scale-at t) scale.Post scale-Inv-loop scale-μ-loop
-scale-element-copy-out-wide-3 t c =
-    let f = c .before .before .before .before .before .before .before .before .before .pre .1 .held .fits in omega (arith, c .before .before .before .before .loop .inv .0)
-
--- src/lib.rt:214:9
-scale-wide-requires-3 : (t : ℕ) → scale-lts.Need-wide-requires-3 (
-  wide-reads.Asked,
-  wide-reads.Learnt,
-  named-reads.Asked,
-  named-reads.Learnt,
-  child-scale-below t,
-  child-scale.Post,
-) (scale-at t) scale.Post scale-Inv-loop scale-μ-loop
-scale-wide-requires-3 t c κs = search needs
-
--- src/lib.rt:211:5
-scale-loop-less : (t : ℕ) → scale-lts.Need-loop-less (
-  wide-reads.Asked,
-  wide-reads.Learnt,
-  named-reads.Asked,
-  named-reads.Learnt,
-  child-scale-below t,
-  child-scale.Post,
-) (scale-at t) scale.Post scale-Inv-loop scale-μ-loop
-scale-loop-less t c =
-    let f = scale-child _ _ _ _ _ _ _ _ (c .before .before .before .before .before .before .loop .inv .2) (c .before .before .before .before .before .before .before .before .before .before .before .pre .1) (omega (arith, c .before .before .before .before .before .before .loop .inv .0)) in
-    omega (arith, c .wide3 .ensures .0)
-
--- src/lib.rt:211:5
-scale-loop-again : (t : ℕ) → scale-lts.Need-loop-again (
-  wide-reads.Asked,
-  wide-reads.Learnt,
-  named-reads.Asked,
-  named-reads.Learnt,
-  child-scale-below t,
-  child-scale.Post,
-) (scale-at t) scale.Post scale-Inv-loop scale-μ-loop
-scale-loop-again t c =
-    let f = scale-child _ _ _ _ _ _ _ _ (c .before .before .before .before .before .before .loop .inv .2) (c .before .before .before .before .before .before .before .before .before .before .before .pre .1) (omega (arith, c .before .before .before .before .before .before .loop .inv .0)) in
-    let e = c .wide3 .ensures .0 in (
-      c .before .before .before .before .before .before .loop .inv .0,
-      omega (arith, c .before .before .before .before .before .before .loop .inv .1),
-      scale-next _ _ _ _ _ _ _ _ (c .before .before .before .before .before .before .loop .inv .2) (omega (arith, c .before .before .before .before .before .before .loop .inv .0)) _ (c .before .before .before .wide2 .ensures .0) _ (c .before .before .child-scale .ensures) e,
-    )
-
--- src/lib.rt:217:9
-scale-returns : (t : ℕ) → scale-lts.Need-returns (
-  wide-reads.Asked,
-  wide-reads.Learnt,
-  named-reads.Asked,
-  named-reads.Learnt,
-  child-scale-below t,
-  child-scale.Post,
-) (scale-at t) scale.Post scale-Inv-loop scale-μ-loop
-scale-returns t c =
-    let k = scale-none _ _ _ _ _ _ _ _ (c .before .before .loop .inv .2) (omega (arith, c .before .before .loop .inv .0)) (c .if1 .taken) in
-    (k, scale-small _ _ _ _ _ (c .before .before .before .before .before .before .before .pre .1) _ k)
-
--- src/lib.rt:219:5
-scale-mul-result : (t : ℕ) → scale-lts.Need-mul-result (
-  wide-reads.Asked,
-  wide-reads.Learnt,
-  named-reads.Asked,
-  named-reads.Learnt,
-  child-scale-below t,
-  child-scale.Post,
-) (scale-at t) scale.Post scale-Inv-loop scale-μ-loop
-scale-mul-result t c =
-    let k = scale-some _ _ _ _ _ _ _ _ (c .before .before .loop .inv .2) (omega (arith, c .before .before .loop .inv .0)) (c .if1 .left) in
-    let l = scale-small _ _ _ _ _ (c .before .before .before .before .before .before .before .pre .1) _ k in
-    omega arith
-
--- src/lib.rt:202:1
-scale-returns-2 : (t : ℕ) → scale-lts.Need-returns-2 (
-  wide-reads.Asked,
-  wide-reads.Learnt,
-  named-reads.Asked,
-  named-reads.Learnt,
-  child-scale-below t,
-  child-scale.Post,
-) (scale-at t) scale.Post scale-Inv-loop scale-μ-loop
-scale-returns-2 t c =
-    let k = scale-some _ _ _ _ _ _ _ _ (c .before .before .loop .inv .2) (omega (arith, c .before .before .loop .inv .0)) (c .if1 .left) in
-    (k, scale-small _ _ _ _ _ (c .before .before .before .before .before .before .before .pre .1) _ k)
-
 pub +child-scale+scale-spec : {M : Type 1} → statement M
 +child-scale+scale-spec = close μ-child-scale μ-scale (λ t. child-scale-lts.spec (
   scale-below t,
@@ -335,10 +57,11 @@ pub +child-scale+scale-spec : {M : Type 1} → statement M
 )
     (child-scale-at t)
     child-scale.Post
-    (child-scale-element-copy-out-if1 t)
-    (child-scale-returns t)
-    (child-scale-scale-requires t)
-    (child-scale-returns-2 t))
+    (λ c. let a = in-range _ _ _ _ (c .pre .1 .held) in omega arith)
+    (λ c κs. let m = c .if1 .taken in
+    (omega (arith, c .before .before .pre .0), record { roles = c .before .before .pre .1 .roles; held = c .before .before .pre .1 .held; marked = c .before .before .pre .1 .marked m; small = c .before .before .pre .1 .small m }))
+    (λ c. kept-counted _ _ _ _ _ scaleIn 1 _ (c .before .if1 .taken) (c .scale .ensures .0))
+    (λ c. none-counted _ _ _ _ _ scaleIn 1 (c .if1 .left)))
     λ t. scale-lts.spec (
       wide-reads.Asked,
       wide-reads.Learnt,
@@ -351,23 +74,34 @@ pub +child-scale+scale-spec : {M : Type 1} → statement M
     scale.Post
     scale-Inv-loop
     scale-μ-loop
-    (scale-element-copy-out-wide t)
-    (scale-wide-requires t)
-    (scale-mul-named t)
-    (scale-element-copy-out-named t)
-    (scale-named-requires t)
-    (scale-add-c t)
-    (scale-loop-holds t)
-    (scale-element-copy-out-wide-2 t)
-    (scale-wide-requires-2 t)
-    (scale-add-n t)
-    (scale-sub-child-scale t)
-    (scale-child-scale-requires t)
-    (scale-mul-product t)
-    (scale-element-copy-out-wide-3 t)
-    (scale-wide-requires-3 t)
-    (scale-loop-less t)
-    (scale-loop-again t)
-    (scale-returns t)
-    (scale-mul-result t)
-    (scale-returns-2 t)
+    (λ c. let a = in-range _ _ _ _ (c .pre .1 .held) in omega arith)
+    (λ c κs. search needs)
+    (λ c. let a = in-range _ _ _ _ (c .before .before .pre .1 .held) in omega arith)
+    (λ c. let a = in-range _ _ _ _ (c .before .before .pre .1 .held) in omega arith)
+    (λ c κs. search needs)
+    (λ c. let a = in-range _ _ _ _ (c .before .before .before .before .pre .1 .held) in omega arith)
+    (λ c. (c .before .before .wide .ensures .0, omega arith, scale-start _ _ _ _ _ _ (c .named .ensures .0)))
+    (λ c. let f = c .before .before .before .before .before .before .pre .1 .held .fits in omega (arith, c .before .loop .inv .0))
+    (λ c κs. search needs)
+    (λ c. let l = few-names _ _ _ _ _ _ _ _ (c .before .before .before .loop .inv .2) (c .before .before .before .before .before .before .before .before .pre .1) in omega (arith, c .wide2 .ensures .1))
+    (λ c. let o = inside _ _ _ _ _ (c .before .before .before .before .before .before .before .before .pre .1 .held) in omega arith)
+    (λ c κs. let o = inside _ _ _ _ _ (c .before .before .before .before .before .before .before .before .pre .1 .held) in
+    (omega (arith, c .before .before .before .before .before .before .before .before .pre .0), child-small _ _ _ _ _ _ _ _ (c .before .before .before .loop .inv .2) (c .before .before .before .before .before .before .before .before .pre .1) (omega (arith, c .before .before .before .loop .inv .0))))
+    (λ c. let l = product-fits _ _ _ _ _ _ _ _ (c .before .before .before .before .loop .inv .2) (c .before .before .before .before .before .before .before .before .before .pre .1) (omega (arith, c .before .before .before .before .loop .inv .0)) _ (c .child-scale .ensures) in omega arith)
+    (λ c. let f = c .before .before .before .before .before .before .before .before .before .pre .1 .held .fits in omega (arith, c .before .before .before .before .loop .inv .0))
+    (λ c κs. search needs)
+    (λ c. let f = scale-child _ _ _ _ _ _ _ _ (c .before .before .before .before .before .before .loop .inv .2) (c .before .before .before .before .before .before .before .before .before .before .before .pre .1) (omega (arith, c .before .before .before .before .before .before .loop .inv .0)) in
+    omega (arith, c .wide3 .ensures .0))
+    (λ c. let f = scale-child _ _ _ _ _ _ _ _ (c .before .before .before .before .before .before .loop .inv .2) (c .before .before .before .before .before .before .before .before .before .before .before .pre .1) (omega (arith, c .before .before .before .before .before .before .loop .inv .0)) in
+    let e = c .wide3 .ensures .0 in (
+      c .before .before .before .before .before .before .loop .inv .0,
+      omega (arith, c .before .before .before .before .before .before .loop .inv .1),
+      scale-next _ _ _ _ _ _ _ _ (c .before .before .before .before .before .before .loop .inv .2) (omega (arith, c .before .before .before .before .before .before .loop .inv .0)) _ (c .before .before .before .wide2 .ensures .0) _ (c .before .before .child-scale .ensures) e,
+    ))
+    (λ c. let k = scale-none _ _ _ _ _ _ _ _ (c .before .before .loop .inv .2) (omega (arith, c .before .before .loop .inv .0)) (c .if1 .taken) in
+    (k, scale-small _ _ _ _ _ (c .before .before .before .before .before .before .before .pre .1) _ k))
+    (λ c. let k = scale-some _ _ _ _ _ _ _ _ (c .before .before .loop .inv .2) (omega (arith, c .before .before .loop .inv .0)) (c .if1 .left) in
+    let l = scale-small _ _ _ _ _ (c .before .before .before .before .before .before .before .pre .1) _ k in
+    omega arith)
+    (λ c. let k = scale-some _ _ _ _ _ _ _ _ (c .before .before .loop .inv .2) (omega (arith, c .before .before .loop .inv .0)) (c .if1 .left) in
+    (k, scale-small _ _ _ _ _ (c .before .before .before .before .before .before .before .pre .1) _ k))

@@ -15,7 +15,7 @@ use native.Mathlib.Omega.{arith}
 use Prim.Native.Nat.{_+_, _*_, _-_, _≤_}
 use mathlib.Core.Path.{_≡_, refl, sym, _∙_}
 use lib.ListN.{getD}
-use Rattle.reduction.proofs.Subsumed.{inside}
+use Rattle.reduction.proofs.Held.{in-range, inside}
 use Rattle.reduction.proofs.Sizes.{Sizing, size-start, size-child, size-next, size-all, none-sized, kept-sized}
 use borrow.Author.Needs.{needs}
 
@@ -41,42 +41,6 @@ size-at t = and 3 size-kinds.ps (is 3 size-kinds.ps μ-size t) size.Pre
 abbrev size-below : ℕ → In 3 size-kinds.ps
 size-below t = and 3 size-kinds.ps (falls 3 size-kinds.ps _<_ μ-size t) size.Pre
 
--- src/lib.rt:184:8
-child-size-element-copy-out-if1 : (t : ℕ) → child-size-lts.Need-element-copy-out-if1 (
-  size-below t,
-  size.Post,
-) (child-size-at t) child-size.Post
-child-size-element-copy-out-if1 t c =
-    let o = inside _ _ _ _ _ (c .pre .1 .held) in let f = c .pre .1 .held .fits in omega arith
-
--- src/lib.rt:185:9
-child-size-returns :
-    (t : ℕ) →
-    child-size-lts.Need-returns (size-below t, size.Post) (child-size-at t) child-size.Post
-child-size-returns t c =
-    none-sized _ _ _ _ _ (c .if1 .taken)
-
--- src/lib.rt:187:9
-child-size-size-requires :
-    (t : ℕ) →
-    child-size-lts.Need-size-requires (size-below t, size.Post) (child-size-at t) child-size.Post
-child-size-size-requires t c κs =
-    (omega (arith, c .before .before .pre .0), c .before .before .pre .1)
-
--- src/lib.rt:187:5
-child-size-add-result :
-    (t : ℕ) →
-    child-size-lts.Need-add-result (size-below t, size.Post) (child-size-at t) child-size.Post
-child-size-add-result t c =
-    let s = c .size .ensures .small in let f = c .before .before .before .pre .1 .held .fits in omega arith
-
--- src/lib.rt:180:1
-child-size-returns-2 :
-    (t : ℕ) →
-    child-size-lts.Need-returns-2 (size-below t, size.Post) (child-size-at t) child-size.Post
-child-size-returns-2 t c =
-    kept-sized _ _ _ _ _ _ (c .before .if1 .left) (c .size .ensures)
-
 abbrev size-Inv-loop : size-lts.InvT-loop
 size-Inv-loop names ends marks node left end n₀ c₀ n c =
     (end ≡ getD ends node 0) × (node < c) × (n + 65 * (end - c) < 65 * (end - node)) × Sizing names ends left marks node n c
@@ -85,199 +49,6 @@ abbrev size-μ-loop : size-lts.MeasureT-loop
 size-μ-loop names ends marks node left end n₀ c₀ n c =
     end - c
 
--- src/lib.rt:169:20
-size-element-copy-out-wide : (t : ℕ) → size-lts.Need-element-copy-out-wide (
-  wide-reads.Asked,
-  wide-reads.Learnt,
-  named-reads.Asked,
-  named-reads.Learnt,
-  child-size-below t,
-  child-size.Post,
-) (size-at t) size.Post size-Inv-loop size-μ-loop
-size-element-copy-out-wide t c =
-    let o = inside _ _ _ _ _ (c .pre .1 .held) in let f = c .pre .1 .held .fits in omega arith
-
--- src/lib.rt:169:9
-size-wide-requires : (t : ℕ) → size-lts.Need-wide-requires (
-  wide-reads.Asked,
-  wide-reads.Learnt,
-  named-reads.Asked,
-  named-reads.Learnt,
-  child-size-below t,
-  child-size.Post,
-) (size-at t) size.Post size-Inv-loop size-μ-loop
-size-wide-requires t c κs = search needs
-
--- src/lib.rt:170:23
-size-mul-named : (t : ℕ) → size-lts.Need-mul-named (
-  wide-reads.Asked,
-  wide-reads.Learnt,
-  named-reads.Asked,
-  named-reads.Learnt,
-  child-size-below t,
-  child-size.Post,
-) (size-at t) size.Post size-Inv-loop size-μ-loop
-size-mul-named t c =
-    let o = inside _ _ _ _ _ (c .before .before .pre .1 .held) in let f = c .before .before .pre .1 .held .fits in omega arith
-
--- src/lib.rt:170:23
-size-element-copy-out-named : (t : ℕ) → size-lts.Need-element-copy-out-named (
-  wide-reads.Asked,
-  wide-reads.Learnt,
-  named-reads.Asked,
-  named-reads.Learnt,
-  child-size-below t,
-  child-size.Post,
-) (size-at t) size.Post size-Inv-loop size-μ-loop
-size-element-copy-out-named t c =
-    let o = inside _ _ _ _ _ (c .before .before .pre .1 .held) in let f = c .before .before .pre .1 .held .fits in omega arith
-
--- src/lib.rt:170:9
-size-named-requires : (t : ℕ) → size-lts.Need-named-requires (
-  wide-reads.Asked,
-  wide-reads.Learnt,
-  named-reads.Asked,
-  named-reads.Learnt,
-  child-size-below t,
-  child-size.Post,
-) (size-at t) size.Post size-Inv-loop size-μ-loop
-size-named-requires t c κs = search needs
-
--- src/lib.rt:171:17
-size-add-c : (t : ℕ) → size-lts.Need-add-c (
-  wide-reads.Asked,
-  wide-reads.Learnt,
-  named-reads.Asked,
-  named-reads.Learnt,
-  child-size-below t,
-  child-size.Post,
-) (size-at t) size.Post size-Inv-loop size-μ-loop
-size-add-c t c =
-    let o = inside _ _ _ _ _ (c .before .before .before .before .pre .1 .held) in let f = c .before .before .before .before .pre .1 .held .fits in omega arith
-
--- src/lib.rt:172:5
-size-loop-holds : (t : ℕ) → size-lts.Need-loop-holds (
-  wide-reads.Asked,
-  wide-reads.Learnt,
-  named-reads.Asked,
-  named-reads.Learnt,
-  child-size-below t,
-  child-size.Post,
-) (size-at t) size.Post size-Inv-loop size-μ-loop
-size-loop-holds t c =
-    let o = inside _ _ _ _ _ (c .before .before .before .before .pre .1 .held) in
-    let e = c .before .before .wide .ensures .0 in
-    let l = c .named .ensures .1 in
-    (e, omega arith, omega arith, size-start _ _ _ _ _ (c .named .ensures .0))
-
--- src/lib.rt:173:48
-size-sub-child-size : (t : ℕ) → size-lts.Need-sub-child-size (
-  wide-reads.Asked,
-  wide-reads.Learnt,
-  named-reads.Asked,
-  named-reads.Learnt,
-  child-size-below t,
-  child-size.Post,
-) (size-at t) size.Post size-Inv-loop size-μ-loop
-size-sub-child-size t c =
-    let o = inside _ _ _ _ _ (c .before .before .before .before .before .before .pre .1 .held) in omega arith
-
--- src/lib.rt:173:14
-size-child-size-requires : (t : ℕ) → size-lts.Need-child-size-requires (
-  wide-reads.Asked,
-  wide-reads.Learnt,
-  named-reads.Asked,
-  named-reads.Learnt,
-  child-size-below t,
-  child-size.Post,
-) (size-at t) size.Post size-Inv-loop size-μ-loop
-size-child-size-requires t c κs =
-    let o = inside _ _ _ _ _ (c .before .before .before .before .before .before .pre .1 .held) in
-    let f = size-child _ _ _ _ _ _ _ (c .before .loop .inv .3) (c .before .before .before .before .before .before .pre .1) (omega (arith, c .before .loop .inv .0)) in
-    (omega (arith, c .before .before .before .before .before .before .pre .0), record { roles = _; held = f .here })
-
--- src/lib.rt:173:9
-size-add-n : (t : ℕ) → size-lts.Need-add-n (
-  wide-reads.Asked,
-  wide-reads.Learnt,
-  named-reads.Asked,
-  named-reads.Learnt,
-  child-size-below t,
-  child-size.Post,
-) (size-at t) size.Post size-Inv-loop size-μ-loop
-size-add-n t c =
-    let f = size-child _ _ _ _ _ _ _ (c .before .before .loop .inv .3) (c .before .before .before .before .before .before .before .pre .1) (omega (arith, c .before .before .loop .inv .0)) in
-    let l = c .before .before .before .before .before .before .before .pre .1 .held .fits in
-    omega (arith, c .child-size .ensures .small, c .before .before .loop .inv .0, c .before .before .loop .inv .2)
-
--- src/lib.rt:174:18
-size-element-copy-out-wide-2 : (t : ℕ) → size-lts.Need-element-copy-out-wide-2 (
-  wide-reads.Asked,
-  wide-reads.Learnt,
-  named-reads.Asked,
-  named-reads.Learnt,
-  child-size-below t,
-  child-size.Post,
-) (size-at t) size.Post size-Inv-loop size-μ-loop
-size-element-copy-out-wide-2 t c =
-    let f = c .before .before .before .before .before .before .before .pre .1 .held .fits in omega (arith, c .before .before .loop .inv .0)
-
--- src/lib.rt:174:9
-size-wide-requires-2 : (t : ℕ) → size-lts.Need-wide-requires-2 (
-  wide-reads.Asked,
-  wide-reads.Learnt,
-  named-reads.Asked,
-  named-reads.Learnt,
-  child-size-below t,
-  child-size.Post,
-) (size-at t) size.Post size-Inv-loop size-μ-loop
-size-wide-requires-2 t c κs = search needs
-
--- src/lib.rt:172:5
-size-loop-less : (t : ℕ) → size-lts.Need-loop-less (
-  wide-reads.Asked,
-  wide-reads.Learnt,
-  named-reads.Asked,
-  named-reads.Learnt,
-  child-size-below t,
-  child-size.Post,
-) (size-at t) size.Post size-Inv-loop size-μ-loop
-size-loop-less t c =
-    let f = size-child _ _ _ _ _ _ _ (c .before .before .before .before .loop .inv .3) (c .before .before .before .before .before .before .before .before .before .pre .1) (omega (arith, c .before .before .before .before .loop .inv .0)) in
-    omega (arith, c .wide2 .ensures .0)
-
--- src/lib.rt:172:5
-size-loop-again : (t : ℕ) → size-lts.Need-loop-again (
-  wide-reads.Asked,
-  wide-reads.Learnt,
-  named-reads.Asked,
-  named-reads.Learnt,
-  child-size-below t,
-  child-size.Post,
-) (size-at t) size.Post size-Inv-loop size-μ-loop
-size-loop-again t c =
-    let f = size-child _ _ _ _ _ _ _ (c .before .before .before .before .loop .inv .3) (c .before .before .before .before .before .before .before .before .before .pre .1) (omega (arith, c .before .before .before .before .loop .inv .0)) in
-    let e = c .wide2 .ensures .0 in (
-      c .before .before .before .before .loop .inv .0,
-      omega (arith, c .before .before .before .before .loop .inv .1),
-      omega (arith, c .before .before .child-size .ensures .small, c .before .before .before .before .loop .inv .0, c .before .before .before .before .loop .inv .2),
-      size-next _ _ _ _ _ _ _ (c .before .before .before .before .loop .inv .3) (omega (arith, c .before .before .before .before .loop .inv .0)) _ (c .before .before .child-size .ensures) e,
-    )
-
--- src/lib.rt:165:1
-size-returns : (t : ℕ) → size-lts.Need-returns (
-  wide-reads.Asked,
-  wide-reads.Learnt,
-  named-reads.Asked,
-  named-reads.Learnt,
-  child-size-below t,
-  child-size.Post,
-) (size-at t) size.Post size-Inv-loop size-μ-loop
-size-returns t c =
-    let e = c .before .loop .inv .0 in
-    let l = c .before .loop .inv .2 in
-    record { right = size-all _ _ _ _ _ _ _ (c .before .loop .inv .3) (omega arith); small = omega arith }
-
 pub +child-size+size-spec : {M : Type 1} → statement M
 +child-size+size-spec = close μ-child-size μ-size (λ t. child-size-lts.spec (
   size-below t,
@@ -285,11 +56,11 @@ pub +child-size+size-spec : {M : Type 1} → statement M
 )
     (child-size-at t)
     child-size.Post
-    (child-size-element-copy-out-if1 t)
-    (child-size-returns t)
-    (child-size-size-requires t)
-    (child-size-add-result t)
-    (child-size-returns-2 t))
+    (λ c. let a = in-range _ _ _ _ (c .pre .1 .held) in omega arith)
+    (λ c. none-sized _ _ _ _ _ (c .if1 .taken))
+    (λ c κs. (omega (arith, c .before .before .pre .0), c .before .before .pre .1))
+    (λ c. let s = c .size .ensures .small in let f = c .before .before .before .pre .1 .held .fits in omega arith)
+    (λ c. kept-sized _ _ _ _ _ _ (c .before .if1 .left) (c .size .ensures)))
     λ t. size-lts.spec (
       wide-reads.Asked,
       wide-reads.Learnt,
@@ -302,18 +73,34 @@ pub +child-size+size-spec : {M : Type 1} → statement M
     size.Post
     size-Inv-loop
     size-μ-loop
-    (size-element-copy-out-wide t)
-    (size-wide-requires t)
-    (size-mul-named t)
-    (size-element-copy-out-named t)
-    (size-named-requires t)
-    (size-add-c t)
-    (size-loop-holds t)
-    (size-sub-child-size t)
-    (size-child-size-requires t)
-    (size-add-n t)
-    (size-element-copy-out-wide-2 t)
-    (size-wide-requires-2 t)
-    (size-loop-less t)
-    (size-loop-again t)
-    (size-returns t)
+    (λ c. let a = in-range _ _ _ _ (c .pre .1 .held) in omega arith)
+    (λ c κs. search needs)
+    (λ c. let a = in-range _ _ _ _ (c .before .before .pre .1 .held) in omega arith)
+    (λ c. let a = in-range _ _ _ _ (c .before .before .pre .1 .held) in omega arith)
+    (λ c κs. search needs)
+    (λ c. let a = in-range _ _ _ _ (c .before .before .before .before .pre .1 .held) in omega arith)
+    (λ c. let o = inside _ _ _ _ _ (c .before .before .before .before .pre .1 .held) in
+    let e = c .before .before .wide .ensures .0 in
+    let l = c .named .ensures .1 in
+    (e, omega arith, omega arith, size-start _ _ _ _ _ (c .named .ensures .0)))
+    (λ c. let o = inside _ _ _ _ _ (c .before .before .before .before .before .before .pre .1 .held) in omega arith)
+    (λ c κs. let o = inside _ _ _ _ _ (c .before .before .before .before .before .before .pre .1 .held) in
+    let f = size-child _ _ _ _ _ _ _ (c .before .loop .inv .3) (c .before .before .before .before .before .before .pre .1) (omega (arith, c .before .loop .inv .0)) in
+    (omega (arith, c .before .before .before .before .before .before .pre .0), record { roles = _; held = f .here }))
+    (λ c. let f = size-child _ _ _ _ _ _ _ (c .before .before .loop .inv .3) (c .before .before .before .before .before .before .before .pre .1) (omega (arith, c .before .before .loop .inv .0)) in
+    let l = c .before .before .before .before .before .before .before .pre .1 .held .fits in
+    omega (arith, c .child-size .ensures .small, c .before .before .loop .inv .0, c .before .before .loop .inv .2))
+    (λ c. let f = c .before .before .before .before .before .before .before .pre .1 .held .fits in omega (arith, c .before .before .loop .inv .0))
+    (λ c κs. search needs)
+    (λ c. let f = size-child _ _ _ _ _ _ _ (c .before .before .before .before .loop .inv .3) (c .before .before .before .before .before .before .before .before .before .pre .1) (omega (arith, c .before .before .before .before .loop .inv .0)) in
+    omega (arith, c .wide2 .ensures .0))
+    (λ c. let f = size-child _ _ _ _ _ _ _ (c .before .before .before .before .loop .inv .3) (c .before .before .before .before .before .before .before .before .before .pre .1) (omega (arith, c .before .before .before .before .loop .inv .0)) in
+    let e = c .wide2 .ensures .0 in (
+      c .before .before .before .before .loop .inv .0,
+      omega (arith, c .before .before .before .before .loop .inv .1),
+      omega (arith, c .before .before .child-size .ensures .small, c .before .before .before .before .loop .inv .0, c .before .before .before .before .loop .inv .2),
+      size-next _ _ _ _ _ _ _ (c .before .before .before .before .loop .inv .3) (omega (arith, c .before .before .before .before .loop .inv .0)) _ (c .before .before .child-size .ensures) e,
+    ))
+    (λ c. let e = c .before .loop .inv .0 in
+    let l = c .before .loop .inv .2 in
+    record { right = size-all _ _ _ _ _ _ _ (c .before .loop .inv .3) (omega arith); small = omega arith })

@@ -16,7 +16,7 @@ use native.Mathlib.Omega.{arith}
 use Prim.Native.Nat.{_+_, _*_, _-_, _≤_}
 use mathlib.Core.Path.{_≡_, refl, sym, _∙_}
 use lib.ListN.{getD}
-use Rattle.reduction.proofs.Subsumed.{inside}
+use Rattle.reduction.proofs.Held.{in-range, inside}
 use Rattle.reduction.proofs.Marks.{child-dropped, child-kept, Marking, mark-start, mark-all, next-child, mark-next}
 use borrow.Author.Needs.{needs}
 
@@ -50,199 +50,6 @@ abbrev mark-μ-loop : mark-lts.MeasureT-loop
 mark-μ-loop names roles ends marks₀ node left end c₀ marks c =
     end - c
 
--- src/lib.rt:134:20
-mark-element-copy-out-wide : (t : ℕ) → mark-lts.Need-element-copy-out-wide (
-  wide-reads.Asked,
-  wide-reads.Learnt,
-  mark-child-below t,
-  mark-child.Post,
-) (mark-at t) mark.Post mark-Inv-loop mark-μ-loop
-mark-element-copy-out-wide t c =
-    let o = inside _ _ _ _ _ (c .pre .1) in let f = c .pre .1 .fits in omega arith
-
--- src/lib.rt:134:9
-mark-wide-requires : (t : ℕ) → mark-lts.Need-wide-requires (
-  wide-reads.Asked,
-  wide-reads.Learnt,
-  mark-child-below t,
-  mark-child.Post,
-) (mark-at t) mark.Post mark-Inv-loop mark-μ-loop
-mark-wide-requires t c κs = search needs
-
--- src/lib.rt:135:17
-mark-add-c : (t : ℕ) → mark-lts.Need-add-c (
-  wide-reads.Asked,
-  wide-reads.Learnt,
-  mark-child-below t,
-  mark-child.Post,
-) (mark-at t) mark.Post mark-Inv-loop mark-μ-loop
-mark-add-c t c =
-    let o = inside _ _ _ _ _ (c .before .before .pre .1) in let f = c .before .before .pre .1 .fits in omega arith
-
--- src/lib.rt:136:5
-mark-loop-holds : (t : ℕ) → mark-lts.Need-loop-holds (
-  wide-reads.Asked,
-  wide-reads.Learnt,
-  mark-child-below t,
-  mark-child.Post,
-) (mark-at t) mark.Post mark-Inv-loop mark-μ-loop
-mark-loop-holds t c =
-    (c .wide .ensures .0, mark-start _ _ _ _ _ _)
-
--- src/lib.rt:137:47
-mark-add-mark-child : (t : ℕ) → mark-lts.Need-add-mark-child (
-  wide-reads.Asked,
-  wide-reads.Learnt,
-  mark-child-below t,
-  mark-child.Post,
-) (mark-at t) mark.Post mark-Inv-loop mark-μ-loop
-mark-add-mark-child t c =
-    let o = inside _ _ _ _ _ (c .before .before .before .before .before .pre .1) in let f = c .before .before .before .before .before .pre .1 .fits in omega arith
-
--- src/lib.rt:137:65
-mark-sub-mark-child : (t : ℕ) → mark-lts.Need-sub-mark-child (
-  wide-reads.Asked,
-  wide-reads.Learnt,
-  mark-child-below t,
-  mark-child.Post,
-) (mark-at t) mark.Post mark-Inv-loop mark-μ-loop
-mark-sub-mark-child t c =
-    let o = inside _ _ _ _ _ (c .before .before .before .before .before .pre .1) in omega arith
-
--- src/lib.rt:137:9
-mark-mark-child-requires : (t : ℕ) → mark-lts.Need-mark-child-requires (
-  wide-reads.Asked,
-  wide-reads.Learnt,
-  mark-child-below t,
-  mark-child.Post,
-) (mark-at t) mark.Post mark-Inv-loop mark-μ-loop
-mark-mark-child-requires t c κs =
-    let o = inside _ _ _ _ _ (c .before .before .before .before .before .pre .1) in
-    let e = c .before .before .loop .inv .0 in
-    (omega (arith, c .before .before .before .before .before .pre .0), rw e (next-child _ _ _ _ _ _ _ _ (c .before .before .loop .inv .1) (c .before .before .before .before .before .pre .1) (omega arith)))
-
--- src/lib.rt:138:18
-mark-element-copy-out-wide-2 : (t : ℕ) → mark-lts.Need-element-copy-out-wide-2 (
-  wide-reads.Asked,
-  wide-reads.Learnt,
-  mark-child-below t,
-  mark-child.Post,
-) (mark-at t) mark.Post mark-Inv-loop mark-μ-loop
-mark-element-copy-out-wide-2 t c =
-    let f = c .before .before .before .before .before .before .pre .1 .fits in omega (arith, c .before .before .before .loop .inv .0)
-
--- src/lib.rt:138:9
-mark-wide-requires-2 : (t : ℕ) → mark-lts.Need-wide-requires-2 (
-  wide-reads.Asked,
-  wide-reads.Learnt,
-  mark-child-below t,
-  mark-child.Post,
-) (mark-at t) mark.Post mark-Inv-loop mark-μ-loop
-mark-wide-requires-2 t c κs = search needs
-
--- src/lib.rt:136:5
-mark-loop-less : (t : ℕ) → mark-lts.Need-loop-less (
-  wide-reads.Asked,
-  wide-reads.Learnt,
-  mark-child-below t,
-  mark-child.Post,
-) (mark-at t) mark.Post mark-Inv-loop mark-μ-loop
-mark-loop-less t c =
-    let s = next-child _ _ _ _ _ _ _ _ (c .before .before .before .before .before .loop .inv .1) (c .before .before .before .before .before .before .before .before .pre .1) (omega (arith, c .before .before .before .before .before .loop .inv .0)) in
-    let o = inside _ _ _ _ _ (s .here) in
-    omega (arith, c .wide2 .ensures .0)
-
--- src/lib.rt:136:5
-mark-loop-again : (t : ℕ) → mark-lts.Need-loop-again (
-  wide-reads.Asked,
-  wide-reads.Learnt,
-  mark-child-below t,
-  mark-child.Post,
-) (mark-at t) mark.Post mark-Inv-loop mark-μ-loop
-mark-loop-again t c =
-    (c .before .before .before .before .before .loop .inv .0, mark-next _ _ _ _ _ _ _ _ (c .before .before .before .before .before .loop .inv .1) (omega (arith, c .before .before .before .before .before .loop .inv .0)) _ (c .before .before .before .before .before .loop .inv .0) (c .before .before .mark-child .ensures) (c .wide2 .ensures .0) (c .before .before .before .before .before .before .before .before .pre .1))
-
--- src/lib.rt:130:1
-mark-returns : (t : ℕ) → mark-lts.Need-returns (
-  wide-reads.Asked,
-  wide-reads.Learnt,
-  mark-child-below t,
-  mark-child.Post,
-) (mark-at t) mark.Post mark-Inv-loop mark-μ-loop
-mark-returns t c =
-    mark-all _ _ _ _ _ _ _ _ (c .before .loop .inv .1) (omega (arith, c .before .loop .inv .0))
-
--- src/lib.rt:147:8
-mark-child-dropped-requires : (t : ℕ) → mark-child-lts.Need-dropped-requires (
-  dropped-reads.Asked,
-  dropped-reads.Learnt,
-  put-reads.Asked,
-  put-reads.Learnt,
-  mark-below t,
-  mark.Post,
-) (mark-child-at t) mark-child.Post
-mark-child-dropped-requires t c κs = search needs
-
--- src/lib.rt:148:9
-mark-child-put-requires : (t : ℕ) → mark-child-lts.Need-put-requires (
-  dropped-reads.Asked,
-  dropped-reads.Learnt,
-  put-reads.Asked,
-  put-reads.Learnt,
-  mark-below t,
-  mark.Post,
-) (mark-child-at t) mark-child.Post
-mark-child-put-requires t c κs =
-    let o = inside _ _ _ _ _ (c .before .before .before .pre .1 .here) in let f = c .before .before .before .pre .1 .here .fits in omega arith
-
--- src/lib.rt:149:9
-mark-child-returns : (t : ℕ) → mark-child-lts.Need-returns (
-  dropped-reads.Asked,
-  dropped-reads.Learnt,
-  put-reads.Asked,
-  put-reads.Learnt,
-  mark-below t,
-  mark.Post,
-) (mark-child-at t) mark-child.Post
-mark-child-returns t c =
-    child-dropped _ _ _ _ _ _ _ _ (inside _ _ _ _ _ (c .before .before .before .before .pre .1 .here) .inside) (c .before .before .before .dropped .ensures) _ (c .before .before .if1 .taken) (c .put .ensures)
-
--- src/lib.rt:151:5
-mark-child-put-requires-2 : (t : ℕ) → mark-child-lts.Need-put-requires-2 (
-  dropped-reads.Asked,
-  dropped-reads.Learnt,
-  put-reads.Asked,
-  put-reads.Learnt,
-  mark-below t,
-  mark.Post,
-) (mark-child-at t) mark-child.Post
-mark-child-put-requires-2 t c κs =
-    let o = inside _ _ _ _ _ (c .before .before .before .pre .1 .here) in let f = c .before .before .before .pre .1 .here .fits in omega arith
-
--- src/lib.rt:152:5
-mark-child-mark-requires : (t : ℕ) → mark-child-lts.Need-mark-requires (
-  dropped-reads.Asked,
-  dropped-reads.Learnt,
-  put-reads.Asked,
-  put-reads.Learnt,
-  mark-below t,
-  mark.Post,
-) (mark-child-at t) mark-child.Post
-mark-child-mark-requires t c κs =
-    (omega (arith, c .before .before .before .before .before .pre .0), c .before .before .before .before .before .pre .1 .here)
-
--- src/lib.rt:143:1
-mark-child-returns-2 : (t : ℕ) → mark-child-lts.Need-returns-2 (
-  dropped-reads.Asked,
-  dropped-reads.Learnt,
-  put-reads.Asked,
-  put-reads.Learnt,
-  mark-below t,
-  mark.Post,
-) (mark-child-at t) mark-child.Post
-mark-child-returns-2 t c =
-    child-kept _ _ _ _ _ _ _ _ (inside _ _ _ _ _ (c .before .before .before .before .before .before .pre .1 .here) .inside) (c .before .before .before .before .before .dropped .ensures) _ _ (c .before .before .before .before .if1 .left) (c .before .before .put2 .ensures) (c .mark .ensures)
-
 pub +mark+mark-child-spec : {M : Type 1} → statement M
 +mark+mark-child-spec = close μ-mark μ-mark-child (λ t. mark-lts.spec (
   wide-reads.Asked,
@@ -254,18 +61,22 @@ pub +mark+mark-child-spec : {M : Type 1} → statement M
     mark.Post
     mark-Inv-loop
     mark-μ-loop
-    (mark-element-copy-out-wide t)
-    (mark-wide-requires t)
-    (mark-add-c t)
-    (mark-loop-holds t)
-    (mark-add-mark-child t)
-    (mark-sub-mark-child t)
-    (mark-mark-child-requires t)
-    (mark-element-copy-out-wide-2 t)
-    (mark-wide-requires-2 t)
-    (mark-loop-less t)
-    (mark-loop-again t)
-    (mark-returns t))
+    (λ c. let a = in-range _ _ _ _ (c .pre .1) in omega arith)
+    (λ c κs. search needs)
+    (λ c. let a = in-range _ _ _ _ (c .before .before .pre .1) in omega arith)
+    (λ c. (c .wide .ensures .0, mark-start _ _ _ _ _ _))
+    (λ c. let a = in-range _ _ _ _ (c .before .before .before .before .before .pre .1) in omega arith)
+    (λ c. let o = inside _ _ _ _ _ (c .before .before .before .before .before .pre .1) in omega arith)
+    (λ c κs. let o = inside _ _ _ _ _ (c .before .before .before .before .before .pre .1) in
+    let e = c .before .before .loop .inv .0 in
+    (omega (arith, c .before .before .before .before .before .pre .0), rw e (next-child _ _ _ _ _ _ _ _ (c .before .before .loop .inv .1) (c .before .before .before .before .before .pre .1) (omega arith))))
+    (λ c. let f = c .before .before .before .before .before .before .pre .1 .fits in omega (arith, c .before .before .before .loop .inv .0))
+    (λ c κs. search needs)
+    (λ c. let s = next-child _ _ _ _ _ _ _ _ (c .before .before .before .before .before .loop .inv .1) (c .before .before .before .before .before .before .before .before .pre .1) (omega (arith, c .before .before .before .before .before .loop .inv .0)) in
+    let o = inside _ _ _ _ _ (s .here) in
+    omega (arith, c .wide2 .ensures .0))
+    (λ c. (c .before .before .before .before .before .loop .inv .0, mark-next _ _ _ _ _ _ _ _ (c .before .before .before .before .before .loop .inv .1) (omega (arith, c .before .before .before .before .before .loop .inv .0)) _ (c .before .before .before .before .before .loop .inv .0) (c .before .before .mark-child .ensures) (c .wide2 .ensures .0) (c .before .before .before .before .before .before .before .before .pre .1)))
+    (λ c. mark-all _ _ _ _ _ _ _ _ (c .before .loop .inv .1) (omega (arith, c .before .loop .inv .0))))
     λ t. mark-child-lts.spec (
       dropped-reads.Asked,
       dropped-reads.Learnt,
@@ -276,9 +87,9 @@ pub +mark+mark-child-spec : {M : Type 1} → statement M
     )
     (mark-child-at t)
     mark-child.Post
-    (mark-child-dropped-requires t)
-    (mark-child-put-requires t)
-    (mark-child-returns t)
-    (mark-child-put-requires-2 t)
-    (mark-child-mark-requires t)
-    (mark-child-returns-2 t)
+    (λ c κs. search needs)
+    (λ c κs. let a = in-range _ _ _ _ (c .before .before .before .pre .1 .here) in omega arith)
+    (λ c. child-dropped _ _ _ _ _ _ _ _ (inside _ _ _ _ _ (c .before .before .before .before .pre .1 .here) .inside) (c .before .before .before .dropped .ensures) _ (c .before .before .if1 .taken) (c .put .ensures))
+    (λ c κs. let a = in-range _ _ _ _ (c .before .before .before .pre .1 .here) in omega arith)
+    (λ c κs. (omega (arith, c .before .before .before .before .before .pre .0), c .before .before .before .before .before .pre .1 .here))
+    (λ c. child-kept _ _ _ _ _ _ _ _ (inside _ _ _ _ _ (c .before .before .before .before .before .before .pre .1 .here) .inside) (c .before .before .before .before .before .dropped .ensures) _ _ (c .before .before .before .before .if1 .left) (c .before .before .put2 .ensures) (c .mark .ensures))

@@ -22,7 +22,8 @@ use mathlib.Core.List.{List}
 use lib.ListN.{getD}
 use borrow.Author.Tests.{not-true, not-false}
 use Rattle.meaning.specs.Reduce.{subsumes as above}
-use Rattle.reduction.proofs.Subsumed.{inside, front, Serving, names-differ, serve-start, left-over, serve-all, serve-next, serve-not, role-differs, role-same, Seeking, seek-start, unseen, seek-none, seek-next, seek-found}
+use Rattle.reduction.proofs.Held.{in-range, inside, front}
+use Rattle.reduction.proofs.Subsumed.{Serving, names-differ, serve-start, left-over, serve-all, serve-next, serve-not, role-differs, role-same, Seeking, seek-start, unseen, seek-none, seek-next, seek-found}
 
 abbrev μ-subsumes : Measures 3 subsumes-kinds.ps ℕ
 μ-subsumes κs a =
@@ -75,303 +76,6 @@ abbrev subsumes-μ-loop : subsumes-lts.MeasureT-loop
 subsumes-μ-loop names roles ends c d left e m k₀ k =
     e - k
 
--- src/lib.rt:41:16
-subsumes-mul-within : (t : ℕ) → subsumes-lts.Need-mul-within (
-  within-reads.Asked,
-  within-reads.Learnt,
-  wide-reads.Asked,
-  wide-reads.Learnt,
-  subsumes-one-below t,
-  subsumes-one.Post,
-) (subsumes-at t) subsumes.Post subsumes-Inv-loop subsumes-μ-loop
-subsumes-mul-within t c =
-    let o = inside _ _ _ _ _ (c .pre .1 .one) in let f = c .pre .1 .one .fits in omega arith
-
--- src/lib.rt:41:16
-subsumes-element-copy-out-within : (t : ℕ) → subsumes-lts.Need-element-copy-out-within (
-  within-reads.Asked,
-  within-reads.Learnt,
-  wide-reads.Asked,
-  wide-reads.Learnt,
-  subsumes-one-below t,
-  subsumes-one.Post,
-) (subsumes-at t) subsumes.Post subsumes-Inv-loop subsumes-μ-loop
-subsumes-element-copy-out-within t c =
-    let o = inside _ _ _ _ _ (c .pre .1 .one) in let f = c .pre .1 .one .fits in omega arith
-
--- src/lib.rt:41:26
-subsumes-mul-within-2 : (t : ℕ) → subsumes-lts.Need-mul-within-2 (
-  within-reads.Asked,
-  within-reads.Learnt,
-  wide-reads.Asked,
-  wide-reads.Learnt,
-  subsumes-one-below t,
-  subsumes-one.Post,
-) (subsumes-at t) subsumes.Post subsumes-Inv-loop subsumes-μ-loop
-subsumes-mul-within-2 t c =
-    let o = inside _ _ _ _ _ (c .before .pre .1 .other) in let f = c .before .pre .1 .other .fits in omega arith
-
--- src/lib.rt:41:26
-subsumes-element-copy-out-within-2 : (t : ℕ) → subsumes-lts.Need-element-copy-out-within-2 (
-  within-reads.Asked,
-  within-reads.Learnt,
-  wide-reads.Asked,
-  wide-reads.Learnt,
-  subsumes-one-below t,
-  subsumes-one.Post,
-) (subsumes-at t) subsumes.Post subsumes-Inv-loop subsumes-μ-loop
-subsumes-element-copy-out-within-2 t c =
-    let o = inside _ _ _ _ _ (c .before .pre .1 .other) in let f = c .before .pre .1 .other .fits in omega arith
-
--- src/lib.rt:41:9
-subsumes-within-requires : (t : ℕ) → subsumes-lts.Need-within-requires (
-  within-reads.Asked,
-  within-reads.Learnt,
-  wide-reads.Asked,
-  wide-reads.Learnt,
-  subsumes-one-below t,
-  subsumes-one.Post,
-) (subsumes-at t) subsumes.Post subsumes-Inv-loop subsumes-μ-loop
-subsumes-within-requires t c κs = search needs
-
--- src/lib.rt:42:9
-subsumes-returns : (t : ℕ) → subsumes-lts.Need-returns (
-  within-reads.Asked,
-  within-reads.Learnt,
-  wide-reads.Asked,
-  wide-reads.Learnt,
-  subsumes-one-below t,
-  subsumes-one.Post,
-) (subsumes-at t) subsumes.Post subsumes-Inv-loop subsumes-μ-loop
-subsumes-returns t c =
-    names-differ _ _ _ _ _ _ (c .before .within .ensures) (not-true _ (c .if1 .taken))
-
--- src/lib.rt:44:18
-subsumes-element-copy-out-wide : (t : ℕ) → subsumes-lts.Need-element-copy-out-wide (
-  within-reads.Asked,
-  within-reads.Learnt,
-  wide-reads.Asked,
-  wide-reads.Learnt,
-  subsumes-one-below t,
-  subsumes-one.Post,
-) (subsumes-at t) subsumes.Post subsumes-Inv-loop subsumes-μ-loop
-subsumes-element-copy-out-wide t c =
-    let o = inside _ _ _ _ _ (c .before .before .before .before .pre .1 .one) in let f = c .before .before .before .before .pre .1 .one .fits in omega arith
-
--- src/lib.rt:44:9
-subsumes-wide-requires : (t : ℕ) → subsumes-lts.Need-wide-requires (
-  within-reads.Asked,
-  within-reads.Learnt,
-  wide-reads.Asked,
-  wide-reads.Learnt,
-  subsumes-one-below t,
-  subsumes-one.Post,
-) (subsumes-at t) subsumes.Post subsumes-Inv-loop subsumes-μ-loop
-subsumes-wide-requires t c κs = search needs
-
--- src/lib.rt:45:18
-subsumes-element-copy-out-wide-2 : (t : ℕ) → subsumes-lts.Need-element-copy-out-wide-2 (
-  within-reads.Asked,
-  within-reads.Learnt,
-  wide-reads.Asked,
-  wide-reads.Learnt,
-  subsumes-one-below t,
-  subsumes-one.Post,
-) (subsumes-at t) subsumes.Post subsumes-Inv-loop subsumes-μ-loop
-subsumes-element-copy-out-wide-2 t c =
-    let o = inside _ _ _ _ _ (c .before .before .before .before .before .before .pre .1 .other) in let f = c .before .before .before .before .before .before .pre .1 .other .fits in omega arith
-
--- src/lib.rt:45:9
-subsumes-wide-requires-2 : (t : ℕ) → subsumes-lts.Need-wide-requires-2 (
-  within-reads.Asked,
-  within-reads.Learnt,
-  wide-reads.Asked,
-  wide-reads.Learnt,
-  subsumes-one-below t,
-  subsumes-one.Post,
-) (subsumes-at t) subsumes.Post subsumes-Inv-loop subsumes-μ-loop
-subsumes-wide-requires-2 t c κs = search needs
-
--- src/lib.rt:46:17
-subsumes-add-k : (t : ℕ) → subsumes-lts.Need-add-k (
-  within-reads.Asked,
-  within-reads.Learnt,
-  wide-reads.Asked,
-  wide-reads.Learnt,
-  subsumes-one-below t,
-  subsumes-one.Post,
-) (subsumes-at t) subsumes.Post subsumes-Inv-loop subsumes-μ-loop
-subsumes-add-k t c =
-    let o = inside _ _ _ _ _ (c .before .before .before .before .before .before .before .before .pre .1 .one) in let f = c .before .before .before .before .before .before .before .before .pre .1 .one .fits in omega arith
-
--- src/lib.rt:47:5
-subsumes-loop-holds : (t : ℕ) → subsumes-lts.Need-loop-holds (
-  within-reads.Asked,
-  within-reads.Learnt,
-  wide-reads.Asked,
-  wide-reads.Learnt,
-  subsumes-one-below t,
-  subsumes-one.Post,
-) (subsumes-at t) subsumes.Post subsumes-Inv-loop subsumes-μ-loop
-subsumes-loop-holds t c =
-    (c .before .before .wide .ensures .0, c .wide2 .ensures .0, serve-start _ _ _ _ _ _ (c .before .before .before .before .before .within .ensures) (not-false _ (c .before .before .before .before .if1 .left)))
-
--- src/lib.rt:48:49
-subsumes-add-subsumes-one : (t : ℕ) → subsumes-lts.Need-add-subsumes-one (
-  within-reads.Asked,
-  within-reads.Learnt,
-  wide-reads.Asked,
-  wide-reads.Learnt,
-  subsumes-one-below t,
-  subsumes-one.Post,
-) (subsumes-at t) subsumes.Post subsumes-Inv-loop subsumes-μ-loop
-subsumes-add-subsumes-one t c =
-    let o = inside _ _ _ _ _ (c .before .before .before .before .before .before .before .before .before .before .pre .1 .other) in let f = c .before .before .before .before .before .before .before .before .before .before .pre .1 .other .fits in omega arith
-
--- src/lib.rt:48:59
-subsumes-sub-subsumes-one : (t : ℕ) → subsumes-lts.Need-sub-subsumes-one (
-  within-reads.Asked,
-  within-reads.Learnt,
-  wide-reads.Asked,
-  wide-reads.Learnt,
-  subsumes-one-below t,
-  subsumes-one.Post,
-) (subsumes-at t) subsumes.Post subsumes-Inv-loop subsumes-μ-loop
-subsumes-sub-subsumes-one t c =
-    let o = inside _ _ _ _ _ (c .before .before .before .before .before .before .before .before .before .before .pre .1 .other) in omega arith
-
--- src/lib.rt:48:13
-subsumes-subsumes-one-requires : (t : ℕ) → subsumes-lts.Need-subsumes-one-requires (
-  within-reads.Asked,
-  within-reads.Learnt,
-  wide-reads.Asked,
-  wide-reads.Learnt,
-  subsumes-one-below t,
-  subsumes-one.Post,
-) (subsumes-at t) subsumes.Post subsumes-Inv-loop subsumes-μ-loop
-subsumes-subsumes-one-requires t c κs =
-    let o = inside _ _ _ _ _ (c .before .before .before .before .before .before .before .before .before .before .pre .1 .one) in
-    let r = inside _ _ _ _ _ (c .before .before .before .before .before .before .before .before .before .before .pre .1 .other) in
-    let e = c .before .loop .inv .1 in
-    let f = front _ _ _ _ _ _ (left-over _ _ _ _ _ _ _ (c .before .loop .inv .2) (c .before .before .before .before .before .before .before .before .before .before .pre .1)) (omega (arith, c .before .loop .inv .0)) in
-    (omega (arith, c .before .before .before .before .before .before .before .before .before .before .pre .0), record { one = f .here; others = rw e (r .children) })
-
--- src/lib.rt:49:13
-subsumes-returns-2 : (t : ℕ) → subsumes-lts.Need-returns-2 (
-  within-reads.Asked,
-  within-reads.Learnt,
-  wide-reads.Asked,
-  wide-reads.Learnt,
-  subsumes-one-below t,
-  subsumes-one.Post,
-) (subsumes-at t) subsumes.Post subsumes-Inv-loop subsumes-μ-loop
-subsumes-returns-2 t c =
-    serve-not _ _ _ _ _ _ _ (c .before .before .before .loop .inv .2) (omega (arith, c .before .before .before .loop .inv .0)) (c .before .before .before .loop .inv .1) (c .before .subsumes-one .ensures) (not-true _ (c .if2 .taken))
-
--- src/lib.rt:51:18
-subsumes-element-copy-out-wide-3 : (t : ℕ) → subsumes-lts.Need-element-copy-out-wide-3 (
-  within-reads.Asked,
-  within-reads.Learnt,
-  wide-reads.Asked,
-  wide-reads.Learnt,
-  subsumes-one-below t,
-  subsumes-one.Post,
-) (subsumes-at t) subsumes.Post subsumes-Inv-loop subsumes-μ-loop
-subsumes-element-copy-out-wide-3 t c =
-    let f = c .before .before .before .before .before .before .before .before .before .before .before .before .pre .1 .one .fits in omega (arith, c .before .before .before .loop .inv .0)
-
--- src/lib.rt:51:9
-subsumes-wide-requires-3 : (t : ℕ) → subsumes-lts.Need-wide-requires-3 (
-  within-reads.Asked,
-  within-reads.Learnt,
-  wide-reads.Asked,
-  wide-reads.Learnt,
-  subsumes-one-below t,
-  subsumes-one.Post,
-) (subsumes-at t) subsumes.Post subsumes-Inv-loop subsumes-μ-loop
-subsumes-wide-requires-3 t c κs = search needs
-
--- src/lib.rt:47:5
-subsumes-loop-less : (t : ℕ) → subsumes-lts.Need-loop-less (
-  within-reads.Asked,
-  within-reads.Learnt,
-  wide-reads.Asked,
-  wide-reads.Learnt,
-  subsumes-one-below t,
-  subsumes-one.Post,
-) (subsumes-at t) subsumes.Post subsumes-Inv-loop subsumes-μ-loop
-subsumes-loop-less t c =
-    let f = front _ _ _ _ _ _ (left-over _ _ _ _ _ _ _ (c .before .before .before .before .before .loop .inv .2) (c .before .before .before .before .before .before .before .before .before .before .before .before .before .before .pre .1)) (omega (arith, c .before .before .before .before .before .loop .inv .0)) in
-    omega (arith, c .wide3 .ensures .0)
-
--- src/lib.rt:47:5
-subsumes-loop-again : (t : ℕ) → subsumes-lts.Need-loop-again (
-  within-reads.Asked,
-  within-reads.Learnt,
-  wide-reads.Asked,
-  wide-reads.Learnt,
-  subsumes-one-below t,
-  subsumes-one.Post,
-) (subsumes-at t) subsumes.Post subsumes-Inv-loop subsumes-μ-loop
-subsumes-loop-again t c = (
-  c .before .before .before .before .before .before .before .before .wide .ensures .0,
-  c .before .before .before .before .before .before .wide2 .ensures .0,
-  serve-next _ _ _ _ _ _ _ (c .before .before .before .before .before .loop .inv .2) (omega (arith, c .before .before .before .before .before .loop .inv .0)) (c .before .before .before .before .before .loop .inv .1) (c .before .before .before .subsumes-one .ensures) (not-false _ (c .before .before .if2 .left)) (c .wide3 .ensures .0),
-)
-
--- src/lib.rt:37:1
-subsumes-returns-3 : (t : ℕ) → subsumes-lts.Need-returns-3 (
-  within-reads.Asked,
-  within-reads.Learnt,
-  wide-reads.Asked,
-  wide-reads.Learnt,
-  subsumes-one-below t,
-  subsumes-one.Post,
-) (subsumes-at t) subsumes.Post subsumes-Inv-loop subsumes-μ-loop
-subsumes-returns-3 t c =
-    serve-all _ _ _ _ _ _ _ (c .before .loop .inv .2) (omega (arith, c .before .loop .inv .0))
-
--- src/lib.rt:76:8
-subsumes-like-element-copy-out-if1 : (t : ℕ) → subsumes-like-lts.Need-element-copy-out-if1 (
-  subsumes-below t,
-  subsumes.Post,
-) (subsumes-like-at t) subsumes-like.Post
-subsumes-like-element-copy-out-if1 t c =
-    let o = inside _ _ _ _ _ (c .pre .1 .one) in let f = c .pre .1 .one .fits in omega arith
-
--- src/lib.rt:76:20
-subsumes-like-element-copy-out-if1-2 : (t : ℕ) → subsumes-like-lts.Need-element-copy-out-if1-2 (
-  subsumes-below t,
-  subsumes.Post,
-) (subsumes-like-at t) subsumes-like.Post
-subsumes-like-element-copy-out-if1-2 t c =
-    let o = inside _ _ _ _ _ (c .before .pre .1 .other) in let f = c .before .pre .1 .other .fits in omega arith
-
--- src/lib.rt:77:9
-subsumes-like-returns :
-    (t : ℕ) →
-    subsumes-like-lts.Need-returns
-    (subsumes-below t, subsumes.Post)
-    (subsumes-like-at t)
-    subsumes-like.Post
-subsumes-like-returns t c =
-    role-differs _ _ _ _ _ _ _ (c .if1 .taken)
-
--- src/lib.rt:79:5
-subsumes-like-subsumes-requires : (t : ℕ) → subsumes-like-lts.Need-subsumes-requires (
-  subsumes-below t,
-  subsumes.Post,
-) (subsumes-like-at t) subsumes-like.Post
-subsumes-like-subsumes-requires t c κs = search needs
-
--- src/lib.rt:72:1
-subsumes-like-returns-2 : (t : ℕ) → subsumes-like-lts.Need-returns-2 (
-  subsumes-below t,
-  subsumes.Post,
-) (subsumes-like-at t) subsumes-like.Post
-subsumes-like-returns-2 t c =
-    role-same _ _ _ _ _ _ _ (c .before .if1 .left) (c .subsumes .ensures)
-
 abbrev subsumes-one-Inv-loop : subsumes-one-lts.InvT-loop
 subsumes-one-Inv-loop names roles ends c first end left d₀ d =
     Seeking names roles ends left above c first end d
@@ -379,87 +83,6 @@ subsumes-one-Inv-loop names roles ends c first end left d₀ d =
 abbrev subsumes-one-μ-loop : subsumes-one-lts.MeasureT-loop
 subsumes-one-μ-loop names roles ends c first end left d₀ d =
     end - d
-
--- src/lib.rt:62:5
-subsumes-one-loop-holds : (t : ℕ) → subsumes-one-lts.Need-loop-holds (
-  subsumes-like-below t,
-  subsumes-like.Post,
-  wide-reads.Asked,
-  wide-reads.Learnt,
-) (subsumes-one-at t) subsumes-one.Post subsumes-one-Inv-loop subsumes-one-μ-loop
-subsumes-one-loop-holds t c =
-    seek-start _ _ _ _ _ _ _ _
-
--- src/lib.rt:63:12
-subsumes-one-subsumes-like-requires : (t : ℕ) → subsumes-one-lts.Need-subsumes-like-requires (
-  subsumes-like-below t,
-  subsumes-like.Post,
-  wide-reads.Asked,
-  wide-reads.Learnt,
-) (subsumes-one-at t) subsumes-one.Post subsumes-one-Inv-loop subsumes-one-μ-loop
-subsumes-one-subsumes-like-requires t c κs =
-    let f = front _ _ _ _ _ _ (unseen _ _ _ _ _ _ _ _ _ (c .before .loop .inv) (c .before .before .pre .1)) (c .loop-test .taken) in
-    (omega (arith, c .before .before .pre .0), record { one = c .before .before .pre .1 .one; other = f .here })
-
--- src/lib.rt:64:13
-subsumes-one-returns : (t : ℕ) → subsumes-one-lts.Need-returns (
-  subsumes-like-below t,
-  subsumes-like.Post,
-  wide-reads.Asked,
-  wide-reads.Learnt,
-) (subsumes-one-at t) subsumes-one.Post subsumes-one-Inv-loop subsumes-one-μ-loop
-subsumes-one-returns t c =
-    seek-found _ _ _ _ _ _ _ _ _ (c .before .before .before .loop .inv) (c .before .before .loop-test .taken) (c .before .subsumes-like .ensures) (c .if1 .taken)
-
--- src/lib.rt:66:18
-subsumes-one-element-copy-out-wide : (t : ℕ) → subsumes-one-lts.Need-element-copy-out-wide (
-  subsumes-like-below t,
-  subsumes-like.Post,
-  wide-reads.Asked,
-  wide-reads.Learnt,
-) (subsumes-one-at t) subsumes-one.Post subsumes-one-Inv-loop subsumes-one-μ-loop
-subsumes-one-element-copy-out-wide t c =
-    let f = c .before .before .before .before .pre .1 .others .fits in omega arith
-
--- src/lib.rt:66:9
-subsumes-one-wide-requires : (t : ℕ) → subsumes-one-lts.Need-wide-requires (
-  subsumes-like-below t,
-  subsumes-like.Post,
-  wide-reads.Asked,
-  wide-reads.Learnt,
-) (subsumes-one-at t) subsumes-one.Post subsumes-one-Inv-loop subsumes-one-μ-loop
-subsumes-one-wide-requires t c κs = search needs
-
--- src/lib.rt:62:5
-subsumes-one-loop-less : (t : ℕ) → subsumes-one-lts.Need-loop-less (
-  subsumes-like-below t,
-  subsumes-like.Post,
-  wide-reads.Asked,
-  wide-reads.Learnt,
-) (subsumes-one-at t) subsumes-one.Post subsumes-one-Inv-loop subsumes-one-μ-loop
-subsumes-one-loop-less t c =
-    let f = front _ _ _ _ _ _ (unseen _ _ _ _ _ _ _ _ _ (c .before .before .before .before .before .loop .inv) (c .before .before .before .before .before .before .pre .1)) (c .before .before .before .before .loop-test .taken) in
-    omega (arith, c .wide .ensures .0)
-
--- src/lib.rt:62:5
-subsumes-one-loop-again : (t : ℕ) → subsumes-one-lts.Need-loop-again (
-  subsumes-like-below t,
-  subsumes-like.Post,
-  wide-reads.Asked,
-  wide-reads.Learnt,
-) (subsumes-one-at t) subsumes-one.Post subsumes-one-Inv-loop subsumes-one-μ-loop
-subsumes-one-loop-again t c =
-    seek-next _ _ _ _ _ _ _ _ _ (c .before .before .before .before .before .loop .inv) (c .before .before .before .before .loop-test .taken) (c .before .before .before .subsumes-like .ensures) (c .before .before .if1 .left) (c .wide .ensures .0)
-
--- src/lib.rt:57:1
-subsumes-one-returns-2 : (t : ℕ) → subsumes-one-lts.Need-returns-2 (
-  subsumes-like-below t,
-  subsumes-like.Post,
-  wide-reads.Asked,
-  wide-reads.Learnt,
-) (subsumes-one-at t) subsumes-one.Post subsumes-one-Inv-loop subsumes-one-μ-loop
-subsumes-one-returns-2 t c =
-    seek-none _ _ _ _ _ _ _ _ _ (c .before .loop .inv) (c .loop-test .left)
 
 pub +subsumes+subsumes-like+subsumes-one-spec : {M : Type 1} → statement M
 +subsumes+subsumes-like+subsumes-one-spec =
@@ -475,47 +98,58 @@ pub +subsumes+subsumes-like+subsumes-one-spec : {M : Type 1} → statement M
     subsumes.Post
     subsumes-Inv-loop
     subsumes-μ-loop
-    (subsumes-mul-within t)
-    (subsumes-element-copy-out-within t)
-    (subsumes-mul-within-2 t)
-    (subsumes-element-copy-out-within-2 t)
-    (subsumes-within-requires t)
-    (subsumes-returns t)
-    (subsumes-element-copy-out-wide t)
-    (subsumes-wide-requires t)
-    (subsumes-element-copy-out-wide-2 t)
-    (subsumes-wide-requires-2 t)
-    (subsumes-add-k t)
-    (subsumes-loop-holds t)
-    (subsumes-add-subsumes-one t)
-    (subsumes-sub-subsumes-one t)
-    (subsumes-subsumes-one-requires t)
-    (subsumes-returns-2 t)
-    (subsumes-element-copy-out-wide-3 t)
-    (subsumes-wide-requires-3 t)
-    (subsumes-loop-less t)
-    (subsumes-loop-again t)
-    (subsumes-returns-3 t))
+    (λ c. let a = in-range _ _ _ _ (c .pre .1 .one) in let b = in-range _ _ _ _ (c .pre .1 .other) in omega arith)
+    (λ c. let a = in-range _ _ _ _ (c .pre .1 .one) in let b = in-range _ _ _ _ (c .pre .1 .other) in omega arith)
+    (λ c. let a = in-range _ _ _ _ (c .before .pre .1 .one) in let b = in-range _ _ _ _ (c .before .pre .1 .other) in omega arith)
+    (λ c. let a = in-range _ _ _ _ (c .before .pre .1 .one) in let b = in-range _ _ _ _ (c .before .pre .1 .other) in omega arith)
+    (λ c κs. search needs)
+    (λ c. names-differ _ _ _ _ _ _ (c .before .within .ensures) (not-true _ (c .if1 .taken)))
+    (λ c. let a = in-range _ _ _ _ (c .before .before .before .before .pre .1 .one) in let b = in-range _ _ _ _ (c .before .before .before .before .pre .1 .other) in omega arith)
+    (λ c κs. search needs)
+    (λ c. let a = in-range _ _ _ _ (c .before .before .before .before .before .before .pre .1 .one) in let b = in-range _ _ _ _ (c .before .before .before .before .before .before .pre .1 .other) in omega arith)
+    (λ c κs. search needs)
+    (λ c. let a = in-range _ _ _ _ (c .before .before .before .before .before .before .before .before .pre .1 .one) in let b = in-range _ _ _ _ (c .before .before .before .before .before .before .before .before .pre .1 .other) in omega arith)
+    (λ c. (c .before .before .wide .ensures .0, c .wide2 .ensures .0, serve-start _ _ _ _ _ _ (c .before .before .before .before .before .within .ensures) (not-false _ (c .before .before .before .before .if1 .left))))
+    (λ c. let a = in-range _ _ _ _ (c .before .before .before .before .before .before .before .before .before .before .pre .1 .one) in let b = in-range _ _ _ _ (c .before .before .before .before .before .before .before .before .before .before .pre .1 .other) in omega arith)
+    (λ c. let o = inside _ _ _ _ _ (c .before .before .before .before .before .before .before .before .before .before .pre .1 .other) in omega arith)
+    (λ c κs. let o = inside _ _ _ _ _ (c .before .before .before .before .before .before .before .before .before .before .pre .1 .one) in
+    let r = inside _ _ _ _ _ (c .before .before .before .before .before .before .before .before .before .before .pre .1 .other) in
+    let e = c .before .loop .inv .1 in
+    let f = front _ _ _ _ _ _ (left-over _ _ _ _ _ _ _ (c .before .loop .inv .2) (c .before .before .before .before .before .before .before .before .before .before .pre .1)) (omega (arith, c .before .loop .inv .0)) in
+    (omega (arith, c .before .before .before .before .before .before .before .before .before .before .pre .0), record { one = f .here; others = rw e (r .children) }))
+    (λ c. serve-not _ _ _ _ _ _ _ (c .before .before .before .loop .inv .2) (omega (arith, c .before .before .before .loop .inv .0)) (c .before .before .before .loop .inv .1) (c .before .subsumes-one .ensures) (not-true _ (c .if2 .taken)))
+    (λ c. let f = c .before .before .before .before .before .before .before .before .before .before .before .before .pre .1 .one .fits in omega (arith, c .before .before .before .loop .inv .0))
+    (λ c κs. search needs)
+    (λ c. let f = front _ _ _ _ _ _ (left-over _ _ _ _ _ _ _ (c .before .before .before .before .before .loop .inv .2) (c .before .before .before .before .before .before .before .before .before .before .before .before .before .before .pre .1)) (omega (arith, c .before .before .before .before .before .loop .inv .0)) in
+    omega (arith, c .wide3 .ensures .0))
+    (λ c. (
+      c .before .before .before .before .before .before .before .before .wide .ensures .0,
+      c .before .before .before .before .before .before .wide2 .ensures .0,
+      serve-next _ _ _ _ _ _ _ (c .before .before .before .before .before .loop .inv .2) (omega (arith, c .before .before .before .before .before .loop .inv .0)) (c .before .before .before .before .before .loop .inv .1) (c .before .before .before .subsumes-one .ensures) (not-false _ (c .before .before .if2 .left)) (c .wide3 .ensures .0),
+    ))
+    (λ c. serve-all _ _ _ _ _ _ _ (c .before .loop .inv .2) (omega (arith, c .before .loop .inv .0))))
     (λ t. subsumes-like-lts.spec
     (subsumes-below t, subsumes.Post)
     (subsumes-like-at t)
     subsumes-like.Post
-    (subsumes-like-element-copy-out-if1 t)
-    (subsumes-like-element-copy-out-if1-2 t)
-    (subsumes-like-returns t)
-    (subsumes-like-subsumes-requires t)
-    (subsumes-like-returns-2 t))
+    (λ c. let a = in-range _ _ _ _ (c .pre .1 .one) in let b = in-range _ _ _ _ (c .pre .1 .other) in omega arith)
+    (λ c. let a = in-range _ _ _ _ (c .before .pre .1 .one) in let b = in-range _ _ _ _ (c .before .pre .1 .other) in omega arith)
+    (λ c. role-differs _ _ _ _ _ _ _ (c .if1 .taken))
+    (λ c κs. search needs)
+    (λ c. role-same _ _ _ _ _ _ _ (c .before .if1 .left) (c .subsumes .ensures)))
     λ t. subsumes-one-lts.spec
     (subsumes-like-below t, subsumes-like.Post, wide-reads.Asked, wide-reads.Learnt)
     (subsumes-one-at t)
     subsumes-one.Post
     subsumes-one-Inv-loop
     subsumes-one-μ-loop
-    (subsumes-one-loop-holds t)
-    (subsumes-one-subsumes-like-requires t)
-    (subsumes-one-returns t)
-    (subsumes-one-element-copy-out-wide t)
-    (subsumes-one-wide-requires t)
-    (subsumes-one-loop-less t)
-    (subsumes-one-loop-again t)
-    (subsumes-one-returns-2 t)
+    (λ c. seek-start _ _ _ _ _ _ _ _)
+    (λ c κs. let f = front _ _ _ _ _ _ (unseen _ _ _ _ _ _ _ _ _ (c .before .loop .inv) (c .before .before .pre .1)) (c .loop-test .taken) in
+    (omega (arith, c .before .before .pre .0), record { one = c .before .before .pre .1 .one; other = f .here }))
+    (λ c. seek-found _ _ _ _ _ _ _ _ _ (c .before .before .before .loop .inv) (c .before .before .loop-test .taken) (c .before .subsumes-like .ensures) (c .if1 .taken))
+    (λ c. let f = c .before .before .before .before .pre .1 .others .fits in omega arith)
+    (λ c κs. search needs)
+    (λ c. let f = front _ _ _ _ _ _ (unseen _ _ _ _ _ _ _ _ _ (c .before .before .before .before .before .loop .inv) (c .before .before .before .before .before .before .pre .1)) (c .before .before .before .before .loop-test .taken) in
+    omega (arith, c .wide .ensures .0))
+    (λ c. seek-next _ _ _ _ _ _ _ _ _ (c .before .before .before .before .before .loop .inv) (c .before .before .before .before .loop-test .taken) (c .before .before .before .subsumes-like .ensures) (c .before .before .if1 .left) (c .wide .ensures .0))
+    (λ c. seek-none _ _ _ _ _ _ _ _ _ (c .before .loop .inv) (c .loop-test .left))
