@@ -1,0 +1,433 @@
+// The degree of an item in a concept tree that is held as rows, over a register image that was read; the map shown for it; lowest terms.
+
+// Of an item's links under a role: the greatest value of an end (0 where there is none), the lowest-numbered end of that value (65535
+// where there is none), and where the links of the next item begin.
+pub struct Best {
+    pub value: u32,
+    pub item: usize,
+    pub next: usize,
+}
+
+// What a child gives to one item: the greatest value at a successor, that successor (65535 where there is none), the child's scale.
+pub struct Choice {
+    pub value: u64,
+    pub item: usize,
+    pub scale: u64,
+}
+
+// A degree: a whole number over a scale.
+pub struct Degree {
+    pub number: u64,
+    pub scale: u64,
+}
+
+pub struct Fraction {
+    pub num: u64,
+    pub den: u64,
+}
+
+fn wide(x: u8) -> usize {
+    x as usize
+}
+
+fn broad(x: u32) -> u64 {
+    x as u64
+}
+
+// An end of value v is taken: it is under the role, and the first or of greater value than the one before.
+fn taken(same: bool, found: usize, value: u32, v: u32) -> bool {
+    if same {
+        if found == 65535 {
+            return true;
+        }
+        return value < v;
+    }
+    false
+}
+
+fn scan(
+    s: &[u8],
+    items: usize,
+    links: usize,
+    item: usize,
+    first: usize,
+    role: usize,
+    sub: &[u32],
+) -> Best {
+    let mut value: u32 = 0;
+    let mut found: usize = 65535;
+    let mut k = first;
+    while k < links {
+        if register::from_of(s, items, k) != item {
+            return Best {
+                value,
+                item: found,
+                next: k,
+            };
+        }
+        let same = register::role_of(s, items, k) == role;
+        let to = register::to_of(s, items, k);
+        k += 1;
+        if !taken(same, found, value, sub[to]) {
+            continue;
+        }
+        value = sub[to];
+        found = to;
+    }
+    Best {
+        value,
+        item: found,
+        next: k,
+    }
+}
+
+fn add_best(
+    s: &[u8],
+    items: usize,
+    links: usize,
+    role: usize,
+    sub: &[u32],
+    scale: u64,
+    product: u64,
+    out: &mut [u32],
+) {
+    let mut i = 0;
+    let mut k = 0;
+    while i < items {
+        let b = scan(s, items, links, i, k, role, sub);
+        out[i] = (broad(out[i]) * scale + broad(b.value) * product) as u32;
+        k = b.next;
+        i += 1;
+    }
+}
+
+// out[i] becomes the number of names that the node shares with item i.
+fn own(s: &[u8], names: u64, out: &mut [u32]) {
+    let mut i = 0;
+    while i < out.len() {
+        out[i] = u64::count_ones(names & register::names_of(s, i));
+        i += 1;
+    }
+}
+
+fn fill_ones(out: &mut [u32]) {
+    let mut i = 0;
+    while i < out.len() {
+        out[i] = 1;
+        i += 1;
+    }
+}
+
+pub fn degrees(
+    s: &[u8],
+    items: usize,
+    links: usize,
+    names: &[u64; 64],
+    roles: &[u8; 64],
+    ends: &[u8; 64],
+    marks: &[u8; 64],
+    node: usize,
+    left: usize,
+    out: &mut [u32],
+) -> u64 {
+    own(s, names[node], out);
+    let e = wide(ends[node]);
+    let mut n = broad(u64::count_ones(names[node]));
+    let mut product: u64 = 1;
+    let mut c = node + 1;
+    while c < e {
+        let at = c;
+        c = wide(ends[at]);
+        if marks[at] == 0 {
+            continue;
+        }
+        let mut sub = [0u32; 512];
+        let scale = degrees(
+            s,
+            items,
+            links,
+            names,
+            roles,
+            ends,
+            marks,
+            at,
+            left - 1,
+            &mut sub[..items],
+        );
+        add_best(
+            s,
+            items,
+            links,
+            wide(roles[at]),
+            &sub[..items],
+            scale,
+            product,
+            out,
+        );
+        product = product * scale;
+        n += 1;
+    }
+    if n == 0 {
+        fill_ones(out);
+        return 1;
+    }
+    n * product
+}
+
+pub fn choose(
+    s: &[u8],
+    items: usize,
+    links: usize,
+    names: &[u64; 64],
+    roles: &[u8; 64],
+    ends: &[u8; 64],
+    marks: &[u8; 64],
+    node: usize,
+    left: usize,
+    item: usize,
+) -> Choice {
+    let mut sub = [0u32; 512];
+    let scale = degrees(
+        s,
+        items,
+        links,
+        names,
+        roles,
+        ends,
+        marks,
+        node,
+        left,
+        &mut sub[..items],
+    );
+    let first = register::first_link(s, items, links, item);
+    let b = scan(
+        s,
+        items,
+        links,
+        item,
+        first,
+        wide(roles[node]),
+        &sub[..items],
+    );
+    Choice {
+        value: broad(b.value),
+        item: b.item,
+        scale,
+    }
+}
+
+pub fn at_item(
+    s: &[u8],
+    items: usize,
+    links: usize,
+    names: &[u64; 64],
+    roles: &[u8; 64],
+    ends: &[u8; 64],
+    marks: &[u8; 64],
+    node: usize,
+    left: usize,
+    item: usize,
+) -> Degree {
+    let e = wide(ends[node]);
+    let mut sum = broad(u64::count_ones(names[node] & register::names_of(s, item)));
+    let mut n = broad(u64::count_ones(names[node]));
+    let mut product: u64 = 1;
+    let mut c = node + 1;
+    while c < e {
+        let at = c;
+        c = wide(ends[at]);
+        if marks[at] == 0 {
+            continue;
+        }
+        let b = choose(
+            s,
+            items,
+            links,
+            names,
+            roles,
+            ends,
+            marks,
+            at,
+            left - 1,
+            item,
+        );
+        sum = sum * b.scale + b.value * product;
+        product = product * b.scale;
+        n += 1;
+    }
+    if n == 0 {
+        return Degree {
+            number: 1,
+            scale: 1,
+        };
+    }
+    Degree {
+        number: sum,
+        scale: n * product,
+    }
+}
+
+// Where a child of a node goes that goes to `item`, or nowhere.
+fn onward(
+    s: &[u8],
+    items: usize,
+    links: usize,
+    names: &[u64; 64],
+    roles: &[u8; 64],
+    ends: &[u8; 64],
+    marks: &[u8; 64],
+    node: usize,
+    left: usize,
+    item: usize,
+) -> usize {
+    if item == 65535 {
+        return 65535;
+    }
+    let b = choose(s, items, links, names, roles, ends, marks, node, left, item);
+    b.item
+}
+
+fn fill_dropped(map: &mut [u16], from: usize, to: usize) {
+    let mut i = from;
+    while i < to {
+        map[i] = 65534;
+        i += 1;
+    }
+}
+
+pub fn show(
+    s: &[u8],
+    items: usize,
+    links: usize,
+    names: &[u64; 64],
+    roles: &[u8; 64],
+    ends: &[u8; 64],
+    marks: &[u8; 64],
+    node: usize,
+    left: usize,
+    item: usize,
+    map: &mut [u16],
+) {
+    map[node] = item as u16;
+    let e = wide(ends[node]);
+    let mut c = node + 1;
+    while c < e {
+        let at = c;
+        c = wide(ends[at]);
+        if marks[at] == 0 {
+            fill_dropped(map, at, c);
+            continue;
+        }
+        let next = onward(
+            s,
+            items,
+            links,
+            names,
+            roles,
+            ends,
+            marks,
+            at,
+            left - 1,
+            item,
+        );
+        show(
+            s,
+            items,
+            links,
+            names,
+            roles,
+            ends,
+            marks,
+            at,
+            left - 1,
+            next,
+            map,
+        );
+    }
+}
+
+pub fn shown_at(
+    s: &[u8],
+    items: usize,
+    links: usize,
+    names: &[u64; 64],
+    roles: &[u8; 64],
+    ends: &[u8; 64],
+    marks: &[u8; 64],
+    node: usize,
+    left: usize,
+    item: usize,
+    map: &mut [u16],
+) -> Degree {
+    map[node] = item as u16;
+    let e = wide(ends[node]);
+    let mut sum = broad(u64::count_ones(names[node] & register::names_of(s, item)));
+    let mut n = broad(u64::count_ones(names[node]));
+    let mut product: u64 = 1;
+    let mut c = node + 1;
+    while c < e {
+        let at = c;
+        c = wide(ends[at]);
+        if marks[at] == 0 {
+            fill_dropped(map, at, c);
+            continue;
+        }
+        let b = choose(
+            s,
+            items,
+            links,
+            names,
+            roles,
+            ends,
+            marks,
+            at,
+            left - 1,
+            item,
+        );
+        show(
+            s,
+            items,
+            links,
+            names,
+            roles,
+            ends,
+            marks,
+            at,
+            left - 1,
+            b.item,
+            map,
+        );
+        sum = sum * b.scale + b.value * product;
+        product = product * b.scale;
+        n += 1;
+    }
+    if n == 0 {
+        return Degree {
+            number: 1,
+            scale: 1,
+        };
+    }
+    Degree {
+        number: sum,
+        scale: n * product,
+    }
+}
+
+fn divisor(a: u64, b: u64) -> u64 {
+    let mut x = a;
+    let mut y = b;
+    while y != 0 {
+        let r = x % y;
+        x = y;
+        y = r;
+    }
+    x
+}
+
+pub fn lowest(num: u64, den: u64) -> Fraction {
+    let d = divisor(num, den);
+    Fraction {
+        num: num / d,
+        den: den / d,
+    }
+}
