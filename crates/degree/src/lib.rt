@@ -1,4 +1,17 @@
 // The degree of an item in a concept tree that is held as rows, over a register image that was read; the map shown for it; lowest terms.
+ghost use mathlib.Core.Path.{_≡_};
+ghost use mathlib.Core.Bool.{_&&_, _||_};
+ghost use Prim.Native.Nat.{ℕ, _+_, _*_, _≤_, _<_};
+ghost use lib.Dec.{eqb, ltb};
+ghost use lib.ListN.{length, getD};
+ghost use Rattle.meaning.specs.Names.{common};
+ghost use Rattle.meaning.specs.Register.{targets};
+ghost use Rattle.meaning.specs.Degree.{best};
+ghost use Rattle.meaning.specs.Fraction.{gcd, _//_};
+ghost use Rattle.meaning.specs.Fraction.{lowest as lowestOf};
+ghost use Rattle.register.specs.Image.{Asked, Image, Begins};
+ghost use Rattle.degree.specs.Case.{Case};
+ghost use Rattle.degree.specs.Given.{Scanned, Worked, Chosen, Graded};
 
 // Of an item's links under a role: the greatest value of an end (0 where there is none), the lowest-numbered end of that value (65535
 // where there is none), and where the links of the next item begin.
@@ -26,16 +39,24 @@ pub struct Fraction {
     pub den: u64,
 }
 
-fn wide(x: u8) -> usize {
+fn wide(x: u8) -> usize
+    ensures { λ r. ⌜ r ≡ x ⌝ }
+    ensures { λ r. ⌜ r < 256 ⌝ }
+{
     x as usize
 }
 
-fn broad(x: u32) -> u64 {
+fn broad(x: u32) -> u64
+    ensures { λ r. ⌜ r ≡ x ⌝ }
+    ensures { λ r. ⌜ r < 4294967296 ⌝ }
+{
     x as u64
 }
 
 // An end of value v is taken: it is under the role, and the first or of greater value than the one before.
-fn taken(same: bool, found: usize, value: u32, v: u32) -> bool {
+fn taken(same: bool, found: usize, value: u32, v: u32) -> bool
+    ensures { λ r. ⌜ r ≡ (same && (eqb found 65535 || ltb value v)) ⌝ }
+{
     if same {
         if found == 65535 {
             return true;
@@ -53,7 +74,11 @@ fn scan(
     first: usize,
     role: usize,
     sub: &[u32],
-) -> Best {
+) -> Best
+    requires { ⌜ Asked (now s) (λ g. (items ≡ length (g .names)) × (links ≡ length (g .links)) × Begins (g .links) item first) ⌝ }
+    requires { ⌜ (items ≤ 512) × (length (now sub) ≡ items) ⌝ }
+    ensures { λ r. ⌜ Image (now (s .entry)) (λ g. Scanned (λ y. getD (now (sub .entry)) y 0) (targets (g .links) item role) r × Begins (g .links) (item + 1) (r .next)) ⌝ }
+{
     let mut value: u32 = 0;
     let mut found: usize = 65535;
     let mut k = first;
@@ -90,7 +115,13 @@ fn add_best(
     scale: u64,
     product: u64,
     out: &mut [u32],
-) {
+)
+    requires { ⌜ Asked (now s) (λ g. (items ≡ length (g .names)) × (links ≡ length (g .links))
+        × ((i : ℕ) → i < items → getD (now out) i 0 * scale + best (λ y. getD (now sub) y 0) (targets (g .links) i role) * product < 4294967296)) ⌝ }
+    requires { ⌜ (items ≤ 512) × (length (now sub) ≡ items) × (length (now out) ≡ items) ⌝ }
+    ensures { λ _. ⌜ Image (now (s .entry)) (λ g. (i : ℕ) → i < items → getD (now (out .exit)) i 0
+        ≡ getD (now (out .entry)) i 0 * scale + best (λ y. getD (now (sub .entry)) y 0) (targets (g .links) i role) * product) ⌝ }
+{
     let mut i = 0;
     let mut k = 0;
     while i < items {
@@ -102,7 +133,10 @@ fn add_best(
 }
 
 // out[i] becomes the number of names that the node shares with item i.
-fn own(s: &[u8], names: u64, out: &mut [u32]) {
+fn own(s: &[u8], names: u64, out: &mut [u32])
+    requires { ⌜ Asked (now s) (λ g. length (now out) ≡ length (g .names)) ⌝ }
+    ensures { λ _. ⌜ Image (now (s .entry)) (λ g. (i : ℕ) → i < length (g .names) → getD (now (out .exit)) i 0 ≡ common names (getD (g .names) i 0)) ⌝ }
+{
     let mut i = 0;
     while i < out.len() {
         out[i] = u64::count_ones(names & register::names_of(s, i));
@@ -110,7 +144,9 @@ fn own(s: &[u8], names: u64, out: &mut [u32]) {
     }
 }
 
-fn fill_ones(out: &mut [u32]) {
+fn fill_ones(out: &mut [u32])
+    ensures { λ _. ⌜ ((i : ℕ) → i < length (now (out .entry)) → getD (now (out .exit)) i 0 ≡ 1) ⌝ }
+{
     let mut i = 0;
     while i < out.len() {
         out[i] = 1;
@@ -129,7 +165,12 @@ pub fn degrees(
     node: usize,
     left: usize,
     out: &mut [u32],
-) -> u64 {
+) -> u64
+    requires { ⌜ Case (now s) items links (now names) (now roles) (now ends) (now marks) node left ⌝ }
+    requires { ⌜ length (now out) ≡ items ⌝ }
+    ensures { λ r. ⌜ ((k : Case (now (s .entry)) items links (now (names .entry)) (now (roles .entry)) (now (ends .entry)) (now (marks .entry)) node left)
+        → Worked (k .register) (k .tree) items r (now (out .exit))) ⌝ }
+{
     own(s, names[node], out);
     let e = wide(ends[node]);
     let mut n = broad(u64::count_ones(names[node]));
@@ -185,7 +226,11 @@ pub fn choose(
     node: usize,
     left: usize,
     item: usize,
-) -> Choice {
+) -> Choice
+    requires { ⌜ Case (now s) items links (now names) (now roles) (now ends) (now marks) node left ⌝ }
+    ensures { λ r. ⌜ ((k : Case (now (s .entry)) items links (now (names .entry)) (now (roles .entry)) (now (ends .entry)) (now (marks .entry)) node left)
+        → Chosen (k .register) (k .tree) item (getD (now (roles .entry)) node 0) r) ⌝ }
+{
     let mut sub = [0u32; 512];
     let scale = degrees(
         s,
@@ -227,7 +272,12 @@ pub fn at_item(
     node: usize,
     left: usize,
     item: usize,
-) -> Degree {
+) -> Degree
+    requires { ⌜ Case (now s) items links (now names) (now roles) (now ends) (now marks) node left ⌝ }
+    requires { ⌜ item < items ⌝ }
+    ensures { λ r. ⌜ ((k : Case (now (s .entry)) items links (now (names .entry)) (now (roles .entry)) (now (ends .entry)) (now (marks .entry)) node left)
+        → Graded (k .register) (k .tree) item r) ⌝ }
+{
     let e = wide(ends[node]);
     let mut sum = broad(u64::count_ones(names[node] & register::names_of(s, item)));
     let mut n = broad(u64::count_ones(names[node]));
@@ -413,7 +463,9 @@ pub fn shown_at(
     }
 }
 
-fn divisor(a: u64, b: u64) -> u64 {
+fn divisor(a: u64, b: u64) -> u64
+    ensures { λ r. ⌜ r ≡ gcd a b ⌝ }
+{
     let mut x = a;
     let mut y = b;
     while y != 0 {
@@ -424,7 +476,10 @@ fn divisor(a: u64, b: u64) -> u64 {
     x
 }
 
-pub fn lowest(num: u64, den: u64) -> Fraction {
+pub fn lowest(num: u64, den: u64) -> Fraction
+    requires { ⌜ 0 < den ⌝ }
+    ensures { λ r. ⌜ (r .num ≡ lowestOf (num // den) .num) × (r .den ≡ lowestOf (num // den) .den) ⌝ }
+{
     let d = divisor(num, den);
     Fraction {
         num: num / d,

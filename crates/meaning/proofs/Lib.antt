@@ -41,3 +41,5 @@ pub mod YesShown
 pub mod Sheet
 pub mod Orders
 pub mod Slips
+-- Trees as rows
+pub mod Rows

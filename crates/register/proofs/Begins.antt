@@ -48,6 +48,10 @@ from-rises n before (x ∷ ls) zero (suc k) w h l = behind n x ls k (right n bef
 from-rises n before (x ∷ ls) (suc j) zero w h l = absurd (omega arith)
 from-rises n before (x ∷ ls) (suc j) (suc k) w h l = from-rises n (some x) ls j k (right n before x ls w .1) (omega arith) (omega arith)
 
+pub links-rise : (s : List ℕ) → Bytes s → (g : Register) → readBuffer s ≡ good g → (j k : ℕ) → j ≤ k → k < length (g .links)
+    → linkNo g j .from ≤ linkNo g k .from
+links-rise s b g h j k = from-rises (length (g .names)) nowhere (g .links) j k (image-fits s g b h .0 .rising)
+
 -- ---- the search: what is known of the links outside low to high
 
 pub record Narrowed (ls : List Link) (item low high : ℕ) : Type 0 where
@@ -58,13 +62,10 @@ pub narrowed-none : (ls : List Link) (item high : ℕ) → high ≡ length ls �
 narrowed-none ls item high e = record { before = λ j h. absurd (let z : j < 0 = h in omega arith); behind = λ j h l. absurd (omega arith) }
 
 module _ (s : List ℕ) (b : Bytes s) (item : ℕ) (g : Register) (h : readBuffer s ≡ good g) where
-  rising : (j k : ℕ) → j ≤ k → k < length (g .links) → linkNo g j .from ≤ linkNo g k .from
-  rising j k = from-rises (length (g .names)) nowhere (g .links) j k (image-fits s g b h .0 .rising)
-
   pub narrowed-up : (low high mid f : ℕ) → Narrowed (g .links) item low high → mid < length (g .links) → f ≡ linkNo g mid .from → f < item
       → Narrowed (g .links) item (mid + 1) high
   narrowed-up low high mid f w m e l = record {
-    before = λ j k. let r = rising j mid (omega arith) m in omega arith;
+    before = λ j k. let r = links-rise s b g h j mid (omega arith) m in omega arith;
     behind = w .behind;
   }
 
@@ -72,7 +73,7 @@ module _ (s : List ℕ) (b : Bytes s) (item : ℕ) (g : Register) (h : readBuffe
       → Narrowed (g .links) item low mid
   narrowed-down low high mid f w m e l = record {
     before = w .before;
-    behind = λ j k n. let r = rising mid j k n in omega arith;
+    behind = λ j k n. let r = links-rise s b g h mid j k n in omega arith;
   }
 
 pub narrowed-all : (ls : List Link) (item low high : ℕ) → Narrowed ls item low high → low ≡ high → high ≤ length ls → Begins ls item low

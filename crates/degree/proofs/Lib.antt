@@ -1,0 +1,4 @@
+pub mod Fill
+pub mod Targets
+pub mod OnePass
+pub mod Euclid
