@@ -2,7 +2,7 @@
 -- Assumes nothing.
 use mathlib.Core.Path.{_≡_, refl, _∙_}
 use mathlib.Core.List.{List}
-use Prim.Native.Nat.{ℕ, _+_, _≤_, _<_}
+use Prim.Native.Nat.{ℕ, _+_, _*_, _≤_, _<_}
 use native.Mathlib.Omega.{arith}
 use lib.ListN.{length, getD, set, length-set}
 use lib.Seq.{getD-set-same, getD-set-other}
@@ -29,3 +29,6 @@ filled-more f old new i v w h e = record {
   done = below-more _ _ (λ k g. getD-set-other new i k v 0 (λ q. let z : k ≡ i = q in omega arith) ∙ w .done k g) (getD-set-same new i v 0 h ∙ e);
   rest = λ k g. getD-set-other new i k v 0 (λ q. let z : k ≡ i = q in omega arith) ∙ w .rest k (omega arith);
 }
+
+pub fold-fits : (a b c d s p n : ℕ) → a ≡ c → b ≡ d → c * s + d * p < n → a * s + b * p < n
+fold-fits a b c d s p n e f h = rw (e, f) h

@@ -92,7 +92,7 @@ module _ (v : ℕ → ℕ) (ls : List Link) (item role : ℕ) where
     stepped : goOn v (cond test (some to) (w .so-far)) (targets (drop (k + 1) ls) item role) ≡ pick v (targets ls item role)
     stepped =
         let e : targets (drop k ls) item role ≡ cond (eqb r role) (to ∷ targets (drop (k + 1) ls) item role) (targets (drop (k + 1) ls) item role) =
-            targets-step ls k item role h ∙ rw (← ef, ← er, ← et, here, eq-eqb item item refl) in
+        targets-step ls k item role h ∙ rw (← ef, ← er, ← et, here, eq-eqb item item refl) in
         let q = go-on-cond v (w .so-far) (eqb r role) to (targets (drop (k + 1) ls) item role) (w .inside) in
         rw (w .found-is, w .value-is, ← q, ← e) (w .rest)
 
@@ -131,8 +131,7 @@ module _ (v : ℕ → ℕ) (ls : List Link) (item role : ℕ) where
   unfolding goOn pick firstBest
   scan-end b w h =
       let none-left : targets (drop (b .next) ls) item role ≡ [] = targets-behind (drop (b .next) ls) item role (λ j l. rw getD-drop (h (b .next + j) (omega arith) (left j l))) in
-      let e : pick v (targets ls item role) ≡ w .so-far = sym (w .rest) ∙ ap (goOn v (w .so-far)) none-left ∙ last (w .so-far) in
-      (
+      let e : pick v (targets ls item role) ≡ w .so-far = sym (w .rest) ∙ ap (goOn v (w .so-far)) none-left ∙ last (w .so-far) in (
         record { value = w .value-is ∙ value-best (w .so-far) (targets ls item role) e; item = w .found-is ∙ ap placeOf (sym e) },
         record { within = w .within; before = w .before; behind = λ j k l. let z = h j k l in omega arith },
       )

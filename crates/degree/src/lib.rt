@@ -106,6 +106,16 @@ fn scan(
     }
 }
 
+// A number so far over the scale of the children so far, and a child's number over its own scale: their sum over the product.
+fn folded(sum: u32, scale: u64, value: u32, product: u64) -> u32
+    requires { ⌜ sum * scale + value * product < 4294967296 ⌝ }
+    ensures { λ r. ⌜ r ≡ sum * scale + value * product ⌝ }
+{
+    (broad(sum) * scale + broad(value) * product) as u32
+}
+
+// Folds one child in: out[i] becomes what it was times the child's scale, and the best of the child's numbers over i's links under the
+// role times the product of the scales so far. One pass over the items and the links.
 fn add_best(
     s: &[u8],
     items: usize,
@@ -126,7 +136,7 @@ fn add_best(
     let mut k = 0;
     while i < items {
         let b = scan(s, items, links, i, k, role, sub);
-        out[i] = (broad(out[i]) * scale + broad(b.value) * product) as u32;
+        out[i] = folded(out[i], scale, b.value, product);
         k = b.next;
         i += 1;
     }

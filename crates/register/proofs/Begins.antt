@@ -82,3 +82,7 @@ narrowed-all ls item low high w e h = record {
   before = w .before;
   behind = λ j k l. w .behind j (omega arith) l;
 }
+
+-- the links of the first item begin at the first link
+pub begins-first : (ls : List Link) → Begins ls 0 0
+begins-first ls = record { within = omega arith; before = λ j h. absurd (let z : j < 0 = h in omega arith); behind = λ j h l. omega arith }
