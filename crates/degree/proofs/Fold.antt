@@ -120,96 +120,102 @@ module _ (names roles ends marks : List ℕ) (G : Graph ℕ) (t : Concept) (left
     pub then : (new : ℕ → ℕ) → ((x : ℕ) → X x → new x ≡ acc x * scaleIn tree + best (λ y. degreeIn G tree y) (G .next x (getD roles c 0)) * p)
         → Rest (getD ends c 0) (n + 1) (p * scaleIn tree) new X
 
-  module _ (c n p : ℕ) (acc : ℕ → ℕ) (X : ℕ → Type 0) (w : Rest c n p acc X) where
-    pub rest-skip : c < e → getD marks c 0 ≡ 0 → Rest (getD ends c 0) n p acc X
-    unfolding Holds Marked countIn scaleIn degreeIn
-    rest-skip l m = go (w .rest) (w .before) (w .held) (w .marked) (w .counted) (w .scaled) (w .summed)
-      where
-        go : (f b : Forest ℕ) → HoldsF names roles ends f left c e → MarkedF ends marks f b c → n + countIn f b ≡ fullCount t → p * scaleInF f b ≡ fullScale t
-            → ((x : ℕ) → X x → acc x * scaleInF f b + p * degreeInF G f b x ≡ fullSum G t x) → Rest (getD ends c 0) n p acc X
-        go none b h k cs ss qs = absurd (let z : c ≡ e = h in omega arith)
-        go (more r u f) b h k cs ss qs =
-            let d : dropped (under r b) u (under r f) ≡ true = mark-zero _ (sym (k .0) ∙ m) in
-            record {
+  -- no child is left
+  pub record Whole (n p : ℕ) (acc : ℕ → ℕ) (X : ℕ → Type 0) : Type 0 where
+    pub counted : n ≡ fullCount t
+    pub scaled : p ≡ fullScale t
+    pub summed : (x : ℕ) → X x → acc x ≡ fullSum G t x
+
+module _ {names roles ends marks : List ℕ} {G : Graph ℕ} {t : Concept} {left e c n p : ℕ} {acc : ℕ → ℕ} {X : ℕ → Type 0}
+    (w : Rest names roles ends marks G t left e c n p acc X) where
+  pub rest-skip : c < e → getD marks c 0 ≡ 0 → Rest names roles ends marks G t left e (getD ends c 0) n p acc X
+  unfolding Holds Marked countIn scaleIn degreeIn
+  rest-skip l m = go (w .rest) (w .before) (w .held) (w .marked) (w .counted) (w .scaled) (w .summed)
+    where
+      go : (f b : Forest ℕ) → HoldsF names roles ends f left c e → MarkedF ends marks f b c → n + countIn f b ≡ fullCount t → p * scaleInF f b ≡ fullScale t
+          → ((x : ℕ) → X x → acc x * scaleInF f b + p * degreeInF G f b x ≡ fullSum G t x) → Rest names roles ends marks G t left e (getD ends c 0) n p acc X
+      go none b h k cs ss qs = absurd (let z : c ≡ e = h in omega arith)
+      go (more r u f) b h k cs ss qs =
+          let d : dropped (under r b) u (under r f) ≡ true = mark-zero _ (sym (k .0) ∙ m) in
+          record {
+            rest = f;
+            before = more r u b;
+            held = h .3;
+            marked = k .2;
+            counted = rw d at cs;
+            scaled = rw d at ss;
+            summed = λ x i. rw d at (qs x i);
+          }
+
+  pub rest-child : c < e → (getD marks c 0 ≡ 0 → ⊥) → Child names roles ends marks G t left e c n p acc X
+  unfolding Holds Marked countIn scaleIn degreeIn
+  rest-child l m = go (w .rest) (w .before) (w .held) (w .marked) (w .counted) (w .scaled) (w .summed)
+    where
+      go : (f b : Forest ℕ) → HoldsF names roles ends f left c e → MarkedF ends marks f b c → n + countIn f b ≡ fullCount t → p * scaleInF f b ≡ fullScale t
+          → ((x : ℕ) → X x → acc x * scaleInF f b + p * degreeInF G f b x ≡ fullSum G t x) → Child names roles ends marks G t left e c n p acc X
+      go none b h k cs ss qs = absurd (let z : c ≡ e = h in omega arith)
+      go (more r u f) b h k cs ss qs =
+          let d : dropped (under r b) u (under r f) ≡ false = mark-other _ (λ z. m (k .0 ∙ z)) in
+          let one : getD marks c 0 ≡ 1 = k .0 ∙ ap mark d in
+          let S : ℕ = scaleInF f (more r u b) in
+          let pos : 0 < S = scaleF-in-pos f (more r u b) in
+          let top : ℕ → ℕ = λ x. best (λ y. degreeIn G u y) (G .next x r) in
+          let cs′ : n + (1 + countIn f (more r u b)) ≡ fullCount t = rw d at cs in
+          let ss′ : p * (scaleIn u * S) ≡ fullScale t = rw d at ss in
+          let qs′ : (x : ℕ) → X x → (acc x * scaleIn u + top x * p) * S + p * scaleIn u * degreeInF G f (more r u b) x ≡ fullSum G t x =
+              λ x i. fold-step (acc x) (scaleIn u) S (top x) p (degreeInF G f (more r u b) x) (fullSum G t x) (rw d at (qs x i)) in
+          record {
+            tree = u;
+            held = h .2;
+            marked = k .1 one;
+            small = le-trans (factor p (scaleIn u) S (fullScale t) (scaleF-in-pos (children t) none) pos (omega arith)) (scale-le t);
+            count-fits = le-trans (omega arith) (count-le t);
+            scale-fits = le-trans (within (p * scaleIn u) S 0 (fullScale t) pos (omega arith)) (scale-le t);
+            sum-fits = λ x i. rw (h .0) (le-trans (within _ S _ (fullSum G t x) pos (qs′ x i)) (le-trans (sum-le G t x) (full-le t)));
+            then = λ new q. record {
               rest = f;
               before = more r u b;
               held = h .3;
               marked = k .2;
-              counted = rw d at cs;
-              scaled = rw d at ss;
-              summed = λ x i. rw d at (qs x i);
-            }
+              counted = omega arith;
+              scaled = omega arith;
+              summed = λ x i. rw (q x i, h .0) (qs′ x i);
+            };
+          }
 
-    pub rest-child : c < e → (getD marks c 0 ≡ 0 → ⊥) → Child c n p acc X
-    unfolding Holds Marked countIn scaleIn degreeIn
-    rest-child l m = go (w .rest) (w .before) (w .held) (w .marked) (w .counted) (w .scaled) (w .summed)
-      where
-        go : (f b : Forest ℕ) → HoldsF names roles ends f left c e → MarkedF ends marks f b c → n + countIn f b ≡ fullCount t → p * scaleInF f b ≡ fullScale t
-            → ((x : ℕ) → X x → acc x * scaleInF f b + p * degreeInF G f b x ≡ fullSum G t x) → Child c n p acc X
-        go none b h k cs ss qs = absurd (let z : c ≡ e = h in omega arith)
-        go (more r u f) b h k cs ss qs =
-            let d : dropped (under r b) u (under r f) ≡ false = mark-other _ (λ z. m (k .0 ∙ z)) in
-            let one : getD marks c 0 ≡ 1 = k .0 ∙ ap mark d in
-            let S : ℕ = scaleInF f (more r u b) in
-            let pos : 0 < S = scaleF-in-pos f (more r u b) in
-            let top : ℕ → ℕ = λ x. best (λ y. degreeIn G u y) (G .next x r) in
-            let cs′ : n + (1 + countIn f (more r u b)) ≡ fullCount t = rw d at cs in
-            let ss′ : p * (scaleIn u * S) ≡ fullScale t = rw d at ss in
-            let qs′ : (x : ℕ) → X x → (acc x * scaleIn u + top x * p) * S + p * scaleIn u * degreeInF G f (more r u b) x ≡ fullSum G t x =
-                λ x i. fold-step (acc x) (scaleIn u) S (top x) p (degreeInF G f (more r u b) x) (fullSum G t x) (rw d at (qs x i)) in
-            record {
-              tree = u;
-              held = h .2;
-              marked = k .1 one;
-              small = le-trans (factor p (scaleIn u) S (fullScale t) (scaleF-in-pos (children t) none) pos (omega arith)) (scale-le t);
-              count-fits = le-trans (omega arith) (count-le t);
-              scale-fits = le-trans (within (p * scaleIn u) S 0 (fullScale t) pos (omega arith)) (scale-le t);
-              sum-fits = λ x i. rw (h .0) (le-trans (within _ S _ (fullSum G t x) pos (qs′ x i)) (le-trans (sum-le G t x) (full-le t)));
-              then = λ new q. record {
-                rest = f;
-                before = more r u b;
-                held = h .3;
-                marked = k .2;
-                counted = omega arith;
-                scaled = omega arith;
-                summed = λ x i. rw (q x i, h .0) (qs′ x i);
-              };
-            }
+  -- where the next child stands
+  pub rest-next : c < e → (c < getD ends c 0) × (getD ends c 0 ≤ e)
+  rest-next l = let q = first names roles ends (w .rest) left c e (w .held) l in (q .inside, q .within)
 
-    -- where the next child stands
-    pub rest-next : c < e → (c < getD ends c 0) × (getD ends c 0 ≤ e)
-    rest-next l = let q = first names roles ends (w .rest) left c e (w .held) l in (q .inside, q .within)
+  pub rest-whole : e ≤ c → Whole names roles ends marks G t left e n p acc X
+  unfolding countIn scaleIn degreeIn
+  rest-whole l =
+      let z = ran-out names roles ends (w .rest) left c e (w .held) l in
+      let cs : n + countIn none (w .before) ≡ fullCount t = rw z at (w .counted) in
+      let ss : p * scaleInF none (w .before) ≡ fullScale t = rw z at (w .scaled) in
+      record {
+        counted = omega arith;
+        scaled = omega arith;
+        summed = λ x i. let q : acc x * scaleInF none (w .before) + p * degreeInF G none (w .before) x ≡ fullSum G t x = rw z at (w .summed x i) in omega arith;
+      }
 
-    -- no child is left
-    pub record Whole : Type 0 where
-      pub counted : n ≡ fullCount t
-      pub scaled : p ≡ fullScale t
-      pub summed : (x : ℕ) → X x → acc x ≡ fullSum G t x
+  pub whole-fits : e ≤ c → n * p ≤ scaleIn t
+  whole-fits l = let v = rest-whole l in rw (v .counted, v .scaled) (full-le t)
 
-    pub rest-whole : e ≤ c → Whole
-    unfolding countIn scaleIn degreeIn
-    rest-whole l =
-        let z = ran-out names roles ends (w .rest) left c e (w .held) l in
-        let cs : n + countIn none (w .before) ≡ fullCount t = rw z at (w .counted) in
-        let ss : p * scaleInF none (w .before) ≡ fullScale t = rw z at (w .scaled) in
-        record {
-          counted = omega arith;
-          scaled = omega arith;
-          summed = λ x i. let q : acc x * scaleInF none (w .before) + p * degreeInF G none (w .before) x ≡ fullSum G t x = rw z at (w .summed x i) in omega arith;
-        }
+  -- "its value is 1 if n is 0"
+  pub whole-bare : e ≤ c → n ≡ 0 → (scaleIn t ≡ 1) × ((x : ℕ) → degreeIn G t x ≡ 1)
+  whole-bare l z = bare G t (sym (rest-whole l .counted) ∙ z)
 
-    pub whole-fits : e ≤ c → n * p ≤ scaleIn t
-    whole-fits l = let v = rest-whole l in rw (v .counted, v .scaled) (full-le t)
+  pub whole-other : e ≤ c → (n ≡ 0 → ⊥) → (scaleIn t ≡ n * p) × ((x : ℕ) → X x → degreeIn G t x ≡ acc x)
+  whole-other l z =
+      let v = rest-whole l in
+      let q = other G t (λ y. z (v .counted ∙ y)) in
+      (q .0 ∙ rw (v .counted, v .scaled), λ x i. q .1 x ∙ sym (v .summed x i))
 
-    -- "its value is 1 if n is 0"
-    pub whole-bare : e ≤ c → n ≡ 0 → (scaleIn t ≡ 1) × ((x : ℕ) → degreeIn G t x ≡ 1)
-    whole-bare l z = bare G t (sym (rest-whole l .counted) ∙ z)
-
-    pub whole-other : e ≤ c → (n ≡ 0 → ⊥) → (scaleIn t ≡ n * p) × ((x : ℕ) → X x → degreeIn G t x ≡ acc x)
-    whole-other l z =
-        let v = rest-whole l in
-        let q = other G t (λ y. z (v .counted ∙ y)) in
-        (q .0 ∙ rw (v .counted, v .scaled), λ x i. q .1 x ∙ sym (v .summed x i))
+-- the same at a row that is known by another name
+pub rest-at : {names roles ends marks : List ℕ} {G : Graph ℕ} {t : Concept} {left e c n p : ℕ} {acc : ℕ → ℕ} {X : ℕ → Type 0} {j : ℕ} → j ≡ c
+    → Rest names roles ends marks G t left e c n p acc X → Rest names roles ends marks G t left e j n p acc X
+rest-at {names} {roles} {ends} {marks} {G} {t} {left} {e} {n} {p} {acc} {X} q w = subst (λ (z : ℕ). Rest names roles ends marks G t left e z n p acc X) (sym q) w
 
 -- at first all are left
 pub rest-start : (names roles ends marks : List ℕ) (G : Graph ℕ) (t : Concept) (left e c n : ℕ) (acc : ℕ → ℕ) (X : ℕ → Type 0)
