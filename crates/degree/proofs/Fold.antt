@@ -163,7 +163,7 @@ module _ {names roles ends marks : List ℕ} {G : Graph ℕ} {t : Concept} {left
           let cs′ : n + (1 + countIn f (more r u b)) ≡ fullCount t = rw d at cs in
           let ss′ : p * (scaleIn u * S) ≡ fullScale t = rw d at ss in
           let qs′ : (x : ℕ) → X x → (acc x * scaleIn u + top x * p) * S + p * scaleIn u * degreeInF G f (more r u b) x ≡ fullSum G t x =
-              λ x i. fold-step (acc x) (scaleIn u) S (top x) p (degreeInF G f (more r u b) x) (fullSum G t x) (rw d at (qs x i)) in
+          λ x i. fold-step (acc x) (scaleIn u) S (top x) p (degreeInF G f (more r u b) x) (fullSum G t x) (rw d at (qs x i)) in
           record {
             tree = u;
             held = h .2;

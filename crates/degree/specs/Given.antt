@@ -3,7 +3,7 @@
 use mathlib.Core.Path.{_≡_}
 use mathlib.Core.List.{List}
 use mathlib.Core.Option.{Option}
-use Prim.Native.Nat.{ℕ, _<_}
+use Prim.Native.Nat.{ℕ, _*_, _<_}
 use lib.ListN.{getD}
 use Rattle.meaning.specs.Tree.{Concept}
 use Rattle.meaning.specs.Register.{Register, targets, judged}
@@ -12,6 +12,7 @@ use Rattle.meaning.specs.InPlace.{scaleIn, degreeIn}
 use Rattle.meaning.specs.Shown.{pick, goes, markNumber}
 use Rattle.degree.specs.declared.Best.{Best}
 use Rattle.degree.specs.declared.Choice.{Choice}
+use Rattle.degree.specs.declared.Sum.{Sum}
 use Rattle.degree.specs.declared.Degree.{Degree}
 
 -- a place in the map: an item, or nowhere
@@ -33,6 +34,11 @@ pub record Chosen (g : Register) (t : Concept) (x role : ℕ) (c : Choice) : Typ
   pub value : c .value ≡ best (λ y. degreeIn (judged g) t y) (targets (g .links) x role)
   pub item : c .item ≡ placeOf (pick (λ y. degreeIn (judged g) t y) (targets (g .links) x role))
   pub scale : c .scale ≡ scaleIn t
+
+-- "its value is 1 if n is 0"
+pub record Ended (d : Sum) (r : Degree) : Type 0 where
+  pub bare : d .count ≡ 0 → (r .number ≡ 1) × (r .scale ≡ 1)
+  pub other : (d .count ≡ 0 → ⊥) → (r .number ≡ d .number) × (r .scale ≡ d .count * d .scale)
 
 -- the degree of item x
 pub record Graded (g : Register) (t : Concept) (x : ℕ) (d : Degree) : Type 0 where

@@ -5,13 +5,14 @@ ghost use Prim.Native.Nat.{ℕ, _+_, _*_, _≤_, _<_};
 ghost use lib.Dec.{eqb, ltb};
 ghost use lib.ListN.{length, getD};
 ghost use Rattle.meaning.specs.Names.{common};
+ghost use Rattle.meaning.specs.Names.{names as many};
 ghost use Rattle.meaning.specs.Register.{targets};
 ghost use Rattle.meaning.specs.Degree.{best};
 ghost use Rattle.meaning.specs.Fraction.{gcd, _//_};
 ghost use Rattle.meaning.specs.Fraction.{lowest as lowestOf};
 ghost use Rattle.register.specs.Image.{Asked, Image, Begins};
-ghost use Rattle.degree.specs.Case.{Case};
-ghost use Rattle.degree.specs.Given.{Scanned, Worked, Chosen, Graded};
+ghost use Rattle.degree.specs.Case.{Case, mostScale};
+ghost use Rattle.degree.specs.Given.{Scanned, Worked, Chosen, Ended, Graded};
 
 // Of an item's links under a role: the greatest value of an end (0 where there is none), the lowest-numbered end of that value (65535
 // where there is none), and where the links of the next item begin.
@@ -25,6 +26,13 @@ pub struct Best {
 pub struct Choice {
     pub value: u64,
     pub item: usize,
+    pub scale: u64,
+}
+
+// The sum at a node for one item, so far: a whole number over a scale, and how many names and children are counted.
+pub struct Sum {
+    pub number: u64,
+    pub count: u64,
     pub scale: u64,
 }
 
@@ -271,6 +279,47 @@ pub fn choose(
     }
 }
 
+// A node's sum for an item that holds such names, before any child.
+fn begun(names: u64, held: u64) -> Sum
+    ensures { λ r. ⌜ (r .number ≡ common names held) × (r .count ≡ many names) × (r .scale ≡ 1) ⌝ }
+{
+    Sum {
+        number: broad(u64::count_ones(names & held)),
+        count: broad(u64::count_ones(names)),
+        scale: 1,
+    }
+}
+
+// With what one more child gives.
+fn joined(d: Sum, b: Choice) -> Sum
+    requires { ⌜ (d .number * b .scale + b .value * d .scale ≤ mostScale) × (d .count + 1 ≤ mostScale) × (d .scale * b .scale ≤ mostScale) ⌝ }
+    ensures { λ r. ⌜ (r .number ≡ d .number * b .scale + b .value * d .scale) × (r .count ≡ d .count + 1) × (r .scale ≡ d .scale * b .scale) ⌝ }
+{
+    Sum {
+        number: d.number * b.scale + b.value * d.scale,
+        count: d.count + 1,
+        scale: d.scale * b.scale,
+    }
+}
+
+// With no child left: the value is 1 where nothing was counted.
+fn ended(d: Sum) -> Degree
+    requires { ⌜ d .count * d .scale ≤ mostScale ⌝ }
+    ensures { λ r. ⌜ Ended d r ⌝ }
+{
+    if d.count == 0 {
+        return Degree {
+            number: 1,
+            scale: 1,
+        };
+    }
+    Degree {
+        number: d.number,
+        scale: d.count * d.scale,
+    }
+}
+
+// The degree of one item in the tree at a node.
 pub fn at_item(
     s: &[u8],
     items: usize,
@@ -289,9 +338,7 @@ pub fn at_item(
         → Graded (k .register) (k .tree) item r) ⌝ }
 {
     let e = wide(ends[node]);
-    let mut sum = broad(u64::count_ones(names[node] & register::names_of(s, item)));
-    let mut n = broad(u64::count_ones(names[node]));
-    let mut product: u64 = 1;
+    let mut sum = begun(names[node], register::names_of(s, item));
     let mut c = node + 1;
     while c < e {
         let at = c;
@@ -311,20 +358,9 @@ pub fn at_item(
             left - 1,
             item,
         );
-        sum = sum * b.scale + b.value * product;
-        product = product * b.scale;
-        n += 1;
+        sum = joined(sum, b);
     }
-    if n == 0 {
-        return Degree {
-            number: 1,
-            scale: 1,
-        };
-    }
-    Degree {
-        number: sum,
-        scale: n * product,
-    }
+    ended(sum)
 }
 
 // Where a child of a node goes that goes to `item`, or nowhere.
@@ -421,9 +457,7 @@ pub fn shown_at(
 ) -> Degree {
     map[node] = item as u16;
     let e = wide(ends[node]);
-    let mut sum = broad(u64::count_ones(names[node] & register::names_of(s, item)));
-    let mut n = broad(u64::count_ones(names[node]));
-    let mut product: u64 = 1;
+    let mut sum = begun(names[node], register::names_of(s, item));
     let mut c = node + 1;
     while c < e {
         let at = c;
@@ -457,22 +491,12 @@ pub fn shown_at(
             b.item,
             map,
         );
-        sum = sum * b.scale + b.value * product;
-        product = product * b.scale;
-        n += 1;
+        sum = joined(sum, b);
     }
-    if n == 0 {
-        return Degree {
-            number: 1,
-            scale: 1,
-        };
-    }
-    Degree {
-        number: sum,
-        scale: n * product,
-    }
+    ended(sum)
 }
 
+// Euclid's remainders.
 fn divisor(a: u64, b: u64) -> u64
     ensures { λ r. ⌜ r ≡ gcd a b ⌝ }
 {
