@@ -25,7 +25,7 @@ use Rattle.meaning.proofs.Rows.{first, ran-out}
 pub scale-in-pos : (t : Concept) → 0 < scaleIn t
 scale-in-pos t = rw (← scale-in t) (scale-pos (reduce t))
 
-scaleF-in-pos : (f b : Forest ℕ) → 0 < scaleInF f b
+pub scaleF-in-pos : (f b : Forest ℕ) → 0 < scaleInF f b
 scaleF-in-pos f b = rw (← scaleF-in f b) (scaleF-pos (keep (reduceF b) (reduceF f)))
 
 bare-scale-in : (f b : Forest ℕ) → countIn f b ≡ 0 → scaleInF f b ≡ 1
@@ -54,7 +54,7 @@ full-le : (t : Concept) → fullCount t * fullScale t ≤ scaleIn t
 unfolding scaleIn
 full-le (node a f) = let l : many a + countIn f none ≤ max 1 (many a + countIn f none) = omega arith in mul-le-mul-right (scaleInF f none) l
 
-scale-le : (t : Concept) → fullScale t ≤ scaleIn t
+pub scale-le : (t : Concept) → fullScale t ≤ scaleIn t
 unfolding scaleIn
 scale-le (node a f) = let l : 1 ≤ max 1 (many a + countIn f none) = omega arith in omega (arith, mul-le-mul-right (scaleInF f none) l)
 
@@ -74,11 +74,11 @@ within : (x S r total : ℕ) → 0 < S → x * S + r ≡ total → x ≤ total
 within x S r total pos e = omega (arith, mul-le-mul-left x pos)
 
 -- a mark says whether the node is dropped
-mark-zero : (d : Bool) → mark d ≡ 0 → d ≡ true
+pub mark-zero : (d : Bool) → mark d ≡ 0 → d ≡ true
 mark-zero true e = refl
 mark-zero false e = absurd (let z : _≡_ {A = ℕ} 1 0 = e in omega arith)
 
-mark-other : (d : Bool) → (mark d ≡ 0 → ⊥) → d ≡ false
+pub mark-other : (d : Bool) → (mark d ≡ 0 → ⊥) → d ≡ false
 mark-other true e = absurd (e refl)
 mark-other false e = refl
 

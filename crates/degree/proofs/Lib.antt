@@ -5,3 +5,4 @@ pub mod Euclid
 pub mod Same
 pub mod Fold
 pub mod Cases
+pub mod Walk

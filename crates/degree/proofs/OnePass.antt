@@ -22,7 +22,7 @@ use Rattle.meaning.proofs.Best.{pick-none, pick-some}
 use Rattle.register.specs.Image.{noLink, linkNo, Begins}
 use Rattle.register.proofs.Begins.{links-rise}
 use Rattle.degree.specs.declared.Best.{Best}
-use Rattle.degree.specs.Given.{placeOf, Scanned}
+use Rattle.degree.specs.Given.{placeOf, Inside, Scanned}
 use Rattle.degree.proofs.Targets.{targets-before, targets-behind, targets-step}
 
 -- what is picked in the end, where o is picked so far
@@ -34,11 +34,6 @@ goOn v (some x) ys = some (firstBest v x ys)
 abbrev pub valueAt : (ℕ → ℕ) → Option ℕ → ℕ
 valueAt v nowhere = 0
 valueAt v (some x) = v x
-
--- an item, where it is one
-abbrev pub Inside : Option ℕ → Type 0
-Inside nowhere = Unit {0}
-Inside (some x) = x < 512
 
 abbrev pub takes : (ℕ → ℕ) → Option ℕ → ℕ → Bool
 takes v o y = eqb (placeOf o) 65535 || ltb (valueAt v o) (v y)

@@ -14,6 +14,7 @@ use Rattle.meaning.specs.Refusal.{good}
 use Rattle.meaning.specs.Register.{Link, Register, targets, linksOf, readBuffer}
 use Rattle.meaning.specs.Degree.{best}
 use Rattle.meaning.specs.Shown.{firstBest, pick}
+use Rattle.meaning.proofs.Best.{pick-some}
 use Rattle.meaning.proofs.Links.{targets-links, link}
 use Rattle.meaning.proofs.Image.{right, image-fits}
 
@@ -62,3 +63,10 @@ module _ (s : List ℕ) (b : Bytes s) (g : Register) (h : readBuffer s ≡ good 
 
   pub pick-items : pick f (targets (g .links) i r) ≡ pick v (targets (g .links) i r)
   pick-items = pick-same f v (targets (g .links) i r) agree
+
+-- what is picked is an item
+pub pick-inside : (s : List ℕ) → Bytes s → (g : Register) → readBuffer s ≡ good g → (v : ℕ → ℕ) (i r y : ℕ) → pick v (targets (g .links) i r) ≡ some y
+    → y < length (g .names)
+pick-inside s b g h v i r y e =
+    link-inside (length (g .names)) nowhere (g .links) (link i r y) (image-fits s g b h .0 .rising)
+    (targets-links (g .links) i r y .0 (pick-some v (targets (g .links) i r) y e .0))

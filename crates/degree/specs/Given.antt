@@ -1,15 +1,17 @@
 -- What is answered, in meaning's words.
 -- Assumes nothing.
 use mathlib.Core.Path.{_≡_}
-use mathlib.Core.List.{List}
-use mathlib.Core.Option.{Option}
+use mathlib.Core.List.{List, map}
+use mathlib.Core.Option.{Option, some}
+use mathlib.Core.Option.{none as nowhere}
 use Prim.Native.Nat.{ℕ, _*_, _<_}
 use lib.ListN.{getD}
+use lib.Seq.{sets}
 use Rattle.meaning.specs.Tree.{Concept}
 use Rattle.meaning.specs.Register.{Register, targets, judged}
 use Rattle.meaning.specs.Degree.{best}
 use Rattle.meaning.specs.InPlace.{scaleIn, degreeIn}
-use Rattle.meaning.specs.Shown.{pick, goes, markNumber}
+use Rattle.meaning.specs.Shown.{pick, goes, shown, markNumber}
 use Rattle.degree.specs.declared.Best.{Best}
 use Rattle.degree.specs.declared.Choice.{Choice}
 use Rattle.degree.specs.declared.Sum.{Sum}
@@ -18,6 +20,15 @@ use Rattle.degree.specs.declared.Degree.{Degree}
 -- a place in the map: an item, or nowhere
 abbrev pub placeOf : Option ℕ → ℕ
 placeOf o = markNumber (goes o)
+
+-- an item, where it is one
+abbrev pub Inside : Option ℕ → Type 0
+Inside nowhere = Unit {0}
+Inside (some x) = x < 512
+
+-- the map with what is shown for a tree from a row on, whose root goes to o
+abbrev pub drawn : Register → Concept → ℕ → Option ℕ → List ℕ → List ℕ
+drawn g t row o m = sets m row (map markNumber (shown (judged g) t o))
 
 -- the greatest of v over successors, and where it is first reached
 pub record Scanned (v : ℕ → ℕ) (ys : List ℕ) (b : Best) : Type 0 where

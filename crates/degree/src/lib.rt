@@ -1,18 +1,21 @@
 // The degree of an item in a concept tree that is held as rows, over a register image that was read; the map shown for it; lowest terms.
 ghost use mathlib.Core.Path.{_≡_};
 ghost use mathlib.Core.Bool.{_&&_, _||_};
-ghost use Prim.Native.Nat.{ℕ, _+_, _*_, _≤_, _<_};
+ghost use mathlib.Core.Option.{Option, some};
+ghost use Prim.Native.Nat.{ℕ, _+_, _-_, _*_, _≤_, _<_};
 ghost use lib.Dec.{eqb, ltb};
-ghost use lib.ListN.{length, getD};
+ghost use lib.ListN.{length, getD, replicate};
+ghost use lib.Seq.{sets};
 ghost use Rattle.meaning.specs.Names.{common};
 ghost use Rattle.meaning.specs.Names.{names as many};
-ghost use Rattle.meaning.specs.Register.{targets};
+ghost use Rattle.meaning.specs.Register.{targets, judged};
+ghost use Rattle.meaning.specs.Shown.{goesTo};
 ghost use Rattle.meaning.specs.Degree.{best};
 ghost use Rattle.meaning.specs.Fraction.{gcd, _//_};
 ghost use Rattle.meaning.specs.Fraction.{lowest as lowestOf};
 ghost use Rattle.register.specs.Image.{Asked, Image, Begins};
 ghost use Rattle.degree.specs.Case.{Case, mostScale};
-ghost use Rattle.degree.specs.Given.{Scanned, Worked, Chosen, Ended, Graded};
+ghost use Rattle.degree.specs.Given.{placeOf, Inside, drawn, Scanned, Worked, Chosen, Ended, Graded};
 
 // Of an item's links under a role: the greatest value of an end (0 where there is none), the lowest-numbered end of that value (65535
 // where there is none), and where the links of the next item begin.
@@ -375,7 +378,13 @@ fn onward(
     node: usize,
     left: usize,
     item: usize,
-) -> usize {
+) -> usize
+    requires { ⌜ Case (now s) items links (now names) (now roles) (now ends) (now marks) node left ⌝ }
+    ensures { λ r. ⌜ ((k : Case (now (s .entry)) items links (now (names .entry)) (now (roles .entry)) (now (ends .entry)) (now (marks .entry)) node left)
+        (o : Option ℕ) → Inside o → item ≡ placeOf o → (r ≡ placeOf (goesTo (judged (k .register)) o (getD (now (roles .entry)) node 0) (k .tree)))
+        × Inside (goesTo (judged (k .register)) o (getD (now (roles .entry)) node 0) (k .tree))) ⌝ }
+    ensures { λ r. ⌜ r < 65536 ⌝ }
+{
     if item == 65535 {
         return 65535;
     }
@@ -383,7 +392,10 @@ fn onward(
     b.item
 }
 
-fn fill_dropped(map: &mut [u16], from: usize, to: usize) {
+fn fill_dropped(map: &mut [u16], from: usize, to: usize)
+    requires { ⌜ (from ≤ to) × (to ≤ length (now map)) ⌝ }
+    ensures { λ _. ⌜ now (map .exit) ≡ sets (now (map .entry)) from (replicate (to - from) 65534) ⌝ }
+{
     let mut i = from;
     while i < to {
         map[i] = 65534;
@@ -403,7 +415,12 @@ pub fn show(
     left: usize,
     item: usize,
     map: &mut [u16],
-) {
+)
+    requires { ⌜ Case (now s) items links (now names) (now roles) (now ends) (now marks) node left ⌝ }
+    requires { ⌜ (getD (now ends) node 0 ≤ length (now map)) × (item < 65536) ⌝ }
+    ensures { λ _. ⌜ ((k : Case (now (s .entry)) items links (now (names .entry)) (now (roles .entry)) (now (ends .entry)) (now (marks .entry)) node left)
+        (o : Option ℕ) → Inside o → item ≡ placeOf o → now (map .exit) ≡ drawn (k .register) (k .tree) node o (now (map .entry))) ⌝ }
+{
     map[node] = item as u16;
     let e = wide(ends[node]);
     let mut c = node + 1;
@@ -454,7 +471,14 @@ pub fn shown_at(
     left: usize,
     item: usize,
     map: &mut [u16],
-) -> Degree {
+) -> Degree
+    requires { ⌜ Case (now s) items links (now names) (now roles) (now ends) (now marks) node left ⌝ }
+    requires { ⌜ (getD (now ends) node 0 ≤ length (now map)) × (item < items) ⌝ }
+    ensures { λ r. ⌜ ((k : Case (now (s .entry)) items links (now (names .entry)) (now (roles .entry)) (now (ends .entry)) (now (marks .entry)) node left)
+        → Graded (k .register) (k .tree) item r) ⌝ }
+    ensures { λ _. ⌜ ((k : Case (now (s .entry)) items links (now (names .entry)) (now (roles .entry)) (now (ends .entry)) (now (marks .entry)) node left)
+        → now (map .exit) ≡ drawn (k .register) (k .tree) node (some item) (now (map .entry))) ⌝ }
+{
     map[node] = item as u16;
     let e = wide(ends[node]);
     let mut sum = begun(names[node], register::names_of(s, item));
