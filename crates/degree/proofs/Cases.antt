@@ -28,8 +28,8 @@ module _ {s : List ℕ} {items links : ℕ} {names roles ends marks : List ℕ} 
   pub root : Opened names roles ends (k .tree) left node (getD ends node 0)
   root = opened names roles ends (k .tree) left node (getD ends node 0) (k .held)
 
-  pub here : (0 < left) × (node < 64)
-  here = (root .deep, let l = root .inside in let m = k .few in omega arith)
+  pub here : (0 < left) × (node < 64) × (node < getD ends node 0)
+  here = (root .deep, let l = root .inside in let m = k .few in omega arith, root .inside)
 
   -- ---- its numbers at all items, as they stand in an array
   module _ (b : Bytes s) (scale role : ℕ) (ys seen : List ℕ) (done : Worked (k .register) (k .tree) items scale ys)

@@ -13,7 +13,7 @@ use lib.ListN.{length, getD, set, replicate, length-map, length-replicate}
 use lib.Dec.{lit≤}
 use lib.Seq.{sets}
 use Rattle.meaning.specs.Bytes.{Bytes}
-use Rattle.meaning.specs.Tree.{node, Forest, none, more, Concept, under, nodes, nodesF}
+use Rattle.meaning.specs.Tree.{node, Forest, none, more, Concept, children, under, nodes, nodesF}
 use Rattle.meaning.specs.Graph.{Graph}
 use Rattle.meaning.specs.Register.{Register, targets, judged}
 use Rattle.meaning.specs.Reduce.{dropped, reduce, reduceF}
@@ -26,7 +26,7 @@ use Rattle.meaning.proofs.Kept.{shown-length}
 use Rattle.meaning.proofs.Rows.{first, ran-out}
 use Rattle.degree.specs.Case.{Case, mostScale}
 use Rattle.degree.specs.declared.Choice.{Choice}
-use Rattle.degree.specs.Given.{placeOf, Inside, drawn, Chosen}
+use Rattle.degree.specs.Given.{placeOf, Inside, Goes, drawn, Chosen}
 use Rattle.degree.proofs.Same.{pick-inside}
 use Rattle.degree.proofs.Fold.{mark-zero, mark-other, scale-in-pos, scaleF-in-pos, scale-le}
 
@@ -92,6 +92,10 @@ module _ {names roles ends marks : List ℕ} {G : Graph ℕ} {left e : ℕ} {o :
   pub drawn-next : c < e → (c < getD ends c 0) × (getD ends c 0 ≤ e)
   drawn-next l = let q = first names roles ends (w .rest) left c e (w .held) l in (q .inside, q .within)
 
+  -- the same with a map that is equal
+  pub drawn-is : {n : List ℕ} → n ≡ m → Drawn names roles ends marks G left e o final c n
+  drawn-is q = subst (λ (z : List ℕ). Drawn names roles ends marks G left e o final c z) (sym q) w
+
   pub drawn-skip : c < e → getD marks c 0 ≡ 0 → (j : ℕ) → j ≡ getD ends c 0 → Drawn names roles ends marks G left e o final j (sets m c (replicate (j - c) 65534))
   unfolding Holds Marked countIn scaleIn shown
   drawn-skip l z j ej = go (w .rest) (w .before) (w .held) (w .marked) (w .small) (w .same)
@@ -155,27 +159,34 @@ module _ {names roles ends marks : List ℕ} {G : Graph ℕ} {left e : ℕ} {o :
 
 -- ---- what is asked at a node
 
-start : (names roles ends marks : List ℕ) (G : Graph ℕ) (t : Concept) (left i e : ℕ) (o : Option ℕ) (m : List ℕ) (v : ℕ) → v ≡ placeOf o
+-- what is shown for the children of a root that is drawn
+abbrev pub children-drawn : Graph ℕ → Concept → ℕ → Option ℕ → List ℕ → List ℕ
+children-drawn G t i o m = sets m (i + 1) (map markNumber (shownF G (children t) none o))
+
+start : (names roles ends marks : List ℕ) (G : Graph ℕ) (t : Concept) (left i e : ℕ) (o : Option ℕ) (m : List ℕ)
     → Holds names roles ends t left i e → Marked ends marks t i → scaleIn t ≤ mostScale
-    → Drawn names roles ends marks G (left - 1) e o (sets m i (map markNumber (shown G t o))) (i + 1) (set m i v)
-unfolding Holds Marked shown
-start names roles ends marks G (node a f) left i e o m v ev h k s = record {
-  rest = f;
-  before = none;
-  held = h .4;
-  marked = k;
-  small = le-trans (scale-le (node a f)) s;
-  same = rw (ev, add-one i);
-}
+    → Drawn names roles ends marks G (left - 1) e o (children-drawn G t i o m) (i + 1) m
+unfolding Holds Marked
+start names roles ends marks G (node a f) left i e o m h k s =
+    record { rest = f; before = none; held = h .4; marked = k; small = le-trans (scale-le (node a f)) s; same = refl }
+
+root-drawn : (G : Graph ℕ) (t : Concept) (i : ℕ) (o : Option ℕ) (m : List ℕ) (v : ℕ) → v ≡ placeOf o
+    → children-drawn G t i o (set m i v) ≡ sets m i (map markNumber (shown G t o))
+unfolding shown
+root-drawn G (node a f) i o m v e = rw (e, add-one i)
 
 module _ {s : List ℕ} {items links : ℕ} {names roles ends marks : List ℕ} {node left : ℕ} (k : Case s items links names roles ends marks node left) where
   -- the children from row c on are left, and the node goes to o
   abbrev pub Walked : Option ℕ → List ℕ → ℕ → List ℕ → Type 0
-  Walked o old c new = Drawn names roles ends marks (judged (k .register)) (left - 1) (getD ends node 0) o (drawn (k .register) (k .tree) node o old) c new
+  Walked o old c new =
+      Drawn names roles ends marks (judged (k .register)) (left - 1) (getD ends node 0) o (children-drawn (judged (k .register)) (k .tree) node o old) c new
 
-  pub walk-start : (o : Option ℕ) (m : List ℕ) (v : ℕ) → v ≡ placeOf o → Walked o m (node + 1) (set m node v)
-  walk-start o m v e =
-      start names roles ends marks (judged (k .register)) (k .tree) left node (getD ends node 0) o m v e (k .held) (k .marked) (k .small)
+  pub walk-start : (o : Option ℕ) (m : List ℕ) → Walked o m (node + 1) m
+  walk-start o m = start names roles ends marks (judged (k .register)) (k .tree) left node (getD ends node 0) o m (k .held) (k .marked) (k .small)
+
+  pub walk-end : (o : Option ℕ) (m : List ℕ) (v c : ℕ) (new : List ℕ) → v ≡ placeOf o → Walked o (set m node v) c new → getD ends node 0 ≤ c
+      → new ≡ drawn (k .register) (k .tree) node o m
+  walk-end o m v c new e w l = drawn-end w l ∙ root-drawn (judged (k .register)) (k .tree) node o m v e
 
   -- a child that is kept
   abbrev pub walk-case : (o : Option ℕ) (old : List ℕ) (c : ℕ) (new : List ℕ) → Walked o old c new → c < getD ends node 0 → (getD marks c 0 ≡ 0 → ⊥)
@@ -197,7 +208,7 @@ module _ {s : List ℕ} {items links : ℕ} {names roles ends marks : List ℕ} 
 
 -- ---- where it goes
 
-pub place-fits : (o : Option ℕ) → Inside o → placeOf o < 65536
+place-fits : (o : Option ℕ) → Inside o → placeOf o < 65536
 place-fits nowhere h = lit≤ tt
 place-fits (some x) h = omega arith
 
@@ -216,9 +227,6 @@ module _ {s : List ℕ} {items links : ℕ} {names roles ends marks : List ℕ} 
   inside nowhere e = tt
   inside (some y) e = let l = pick-inside s b (k .register) (k .read) _ item (getD roles node 0) y e in omega (arith, k .items-are, k .most)
 
-  pub chosen-fits : c .item < 65536
-  chosen-fits = rw (h .item) (place-fits picked (inside picked refl))
-
   pub onward-some : (o : Option ℕ) → Inside o → item ≡ placeOf o → (item ≡ 65535 → ⊥)
       → (c .item ≡ placeOf (goesTo (judged (k .register)) o (getD roles node 0) (k .tree))) × Inside (goesTo (judged (k .register)) o (getD roles node 0) (k .tree))
   onward-some nowhere i e z = absurd (z e)
@@ -235,3 +243,14 @@ fill-step m i to l = let e : to - i ≡ suc (to - (i + 1)) = omega arith in rw (
 
 pub fill-end : (m : List ℕ) (i to : ℕ) → to ≤ i → sets m i (replicate (to - i) 65534) ≡ m
 fill-end m i to l = let e : to - i ≡ 0 = omega arith in rw e
+
+-- and so a child goes to an item or nowhere
+abbrev pub goes-on : (G : Graph ℕ) (o : Option ℕ) (r : ℕ) (t : Concept) (x : ℕ) → (x ≡ placeOf (goesTo G o r t)) × Inside (goesTo G o r t) → Goes x
+goes-on G o r t x h = record { to = goesTo G o r t; inside = h .1; same = h .0 }
+
+-- an item goes to itself
+abbrev pub at-itself : (item : ℕ) → item < 512 → Goes item
+at-itself item l = record { to = some item; inside = l; same = refl }
+
+pub goes-fits : (item : ℕ) → Goes item → item < 65536
+goes-fits item o = rw (o .same) (place-fits (o .to) (o .inside))

@@ -26,6 +26,12 @@ abbrev pub Inside : Option ℕ → Type 0
 Inside nowhere = Unit {0}
 Inside (some x) = x < 512
 
+-- a place that is an item or nowhere
+pub record Goes (item : ℕ) : Type 0 where
+  pub to : Option ℕ
+  pub inside : Inside to
+  pub same : item ≡ placeOf to
+
 -- the map with what is shown for a tree from a row on, whose root goes to o
 abbrev pub drawn : Register → Concept → ℕ → Option ℕ → List ℕ → List ℕ
 drawn g t row o m = sets m row (map markNumber (shown (judged g) t o))

@@ -15,7 +15,7 @@ ghost use Rattle.meaning.specs.Fraction.{gcd, _//_};
 ghost use Rattle.meaning.specs.Fraction.{lowest as lowestOf};
 ghost use Rattle.register.specs.Image.{Asked, Image, Begins};
 ghost use Rattle.degree.specs.Case.{Case, mostScale};
-ghost use Rattle.degree.specs.Given.{placeOf, Inside, drawn, Scanned, Worked, Chosen, Ended, Graded};
+ghost use Rattle.degree.specs.Given.{placeOf, Inside, Goes, drawn, Scanned, Worked, Chosen, Ended, Graded};
 
 // Of an item's links under a role: the greatest value of an end (0 where there is none), the lowest-numbered end of that value (65535
 // where there is none), and where the links of the next item begin.
@@ -381,9 +381,8 @@ fn onward(
 ) -> usize
     requires { ⌜ Case (now s) items links (now names) (now roles) (now ends) (now marks) node left ⌝ }
     ensures { λ r. ⌜ ((k : Case (now (s .entry)) items links (now (names .entry)) (now (roles .entry)) (now (ends .entry)) (now (marks .entry)) node left)
-        (o : Option ℕ) → Inside o → item ≡ placeOf o → (r ≡ placeOf (goesTo (judged (k .register)) o (getD (now (roles .entry)) node 0) (k .tree)))
-        × Inside (goesTo (judged (k .register)) o (getD (now (roles .entry)) node 0) (k .tree))) ⌝ }
-    ensures { λ r. ⌜ r < 65536 ⌝ }
+        (o : Goes item) → (r ≡ placeOf (goesTo (judged (k .register)) (o .to) (getD (now (roles .entry)) node 0) (k .tree)))
+        × Inside (goesTo (judged (k .register)) (o .to) (getD (now (roles .entry)) node 0) (k .tree))) ⌝ }
 {
     if item == 65535 {
         return 65535;
@@ -417,9 +416,10 @@ pub fn show(
     map: &mut [u16],
 )
     requires { ⌜ Case (now s) items links (now names) (now roles) (now ends) (now marks) node left ⌝ }
-    requires { ⌜ (getD (now ends) node 0 ≤ length (now map)) × (item < 65536) ⌝ }
+    requires { ⌜ getD (now ends) node 0 ≤ length (now map) ⌝ }
+    requires { ⌜ Goes item ⌝ }
     ensures { λ _. ⌜ ((k : Case (now (s .entry)) items links (now (names .entry)) (now (roles .entry)) (now (ends .entry)) (now (marks .entry)) node left)
-        (o : Option ℕ) → Inside o → item ≡ placeOf o → now (map .exit) ≡ drawn (k .register) (k .tree) node o (now (map .entry))) ⌝ }
+        (o : Goes item) → now (map .exit) ≡ drawn (k .register) (k .tree) node (o .to) (now (map .entry))) ⌝ }
 {
     map[node] = item as u16;
     let e = wide(ends[node]);

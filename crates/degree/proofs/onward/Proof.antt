@@ -7,14 +7,14 @@ use Rattle.degree.proofs.choose.Reads as choose-reads
 use native.Mathlib.Omega.{arith}
 use Rattle.meaning.specs.Register.{judged}
 use Rattle.fields.proofs.Known.{bytes-known}
-use Rattle.degree.proofs.Walk.{onward-none, onward-some, chosen-fits}
+use Rattle.degree.proofs.Walk.{onward-none, onward-some}
 
--- src/lib.rt:389:9
+-- src/lib.rt:388:9
 returns : tie.Need-returns
 returns c =
-    (λ k o i e. onward-none (judged (k .register)) _ (k .tree) _ o i e (c .if1 .taken), omega arith)
+    λ k o. onward-none (judged (k .register)) _ (k .tree) _ (o .to) (o .inside) (o .same) (c .if1 .taken)
 
--- src/lib.rt:391:9
+-- src/lib.rt:390:9
 choose-requires : tie.Need-choose-requires
 choose-requires c κs =
     c .before .before .pre
@@ -22,7 +22,7 @@ choose-requires c κs =
 -- src/lib.rt:370:1
 returns-2 : tie.Need-returns-2
 returns-2 c =
-    (λ k o i e. onward-some k (bytes-known (c .before .before .before .args .s .now) (c .before .before .shared-slice-known .given)) _ _ (c .choose .ensures k) o i e (c .before .if1 .left), chosen-fits (c .before .before .before .pre) (bytes-known (c .before .before .before .args .s .now) (c .before .before .shared-slice-known .given)) _ _ (c .choose .ensures (c .before .before .before .pre)))
+    λ k o. onward-some k (bytes-known (c .before .before .before .args .s .now) (c .before .before .shared-slice-known .given)) _ _ (c .choose .ensures k) (o .to) (o .inside) (o .same) (c .before .if1 .left)
 
 pub onward-spec : {M : Type 1} → statement M
 onward-spec = tie.close (tie.spec returns choose-requires returns-2)
