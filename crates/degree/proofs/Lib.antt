@@ -6,3 +6,4 @@ pub mod Same
 pub mod Fold
 pub mod Cases
 pub mod Walk
+pub mod Entry

@@ -45,11 +45,13 @@ pub struct Degree {
     pub scale: u64,
 }
 
+// A fraction.
 pub struct Fraction {
     pub num: u64,
     pub den: u64,
 }
 
+// A byte as a number.
 fn wide(x: u8) -> usize
     ensures { λ r. ⌜ r ≡ x ⌝ }
     ensures { λ r. ⌜ r < 256 ⌝ }
@@ -57,6 +59,7 @@ fn wide(x: u8) -> usize
     x as usize
 }
 
+// A 32-bit number as a 64-bit one.
 fn broad(x: u32) -> u64
     ensures { λ r. ⌜ r ≡ x ⌝ }
     ensures { λ r. ⌜ r < 4294967296 ⌝ }
@@ -77,6 +80,7 @@ fn taken(same: bool, found: usize, value: u32, v: u32) -> bool
     false
 }
 
+// One pass over the links of an item, which begin at `first`.
 fn scan(
     s: &[u8],
     items: usize,
@@ -165,6 +169,7 @@ fn own(s: &[u8], names: u64, out: &mut [u32])
     }
 }
 
+// out[i] becomes 1.
 fn fill_ones(out: &mut [u32])
     ensures { λ _. ⌜ ((i : ℕ) → i < length (now (out .entry)) → getD (now (out .exit)) i 0 ≡ 1) ⌝ }
 {
@@ -175,6 +180,8 @@ fn fill_ones(out: &mut [u32])
     }
 }
 
+// The degrees of all items in the tree at a node, as whole numbers over its scale, which is answered. Each kept child's numbers are worked
+// out once, in an array of its own, and folded in. The rows may hold a tree of at most `left` levels: that falls with each call.
 pub fn degrees(
     s: &[u8],
     items: usize,
@@ -198,9 +205,9 @@ pub fn degrees(
     let mut product: u64 = 1;
     let mut c = node + 1;
     while c < e {
-        let at = c;
-        c = wide(ends[at]);
-        if marks[at] == 0 {
+        let child = c;
+        c = wide(ends[child]);
+        if marks[child] == 0 {
             continue;
         }
         let mut sub = [0u32; 512];
@@ -212,7 +219,7 @@ pub fn degrees(
             roles,
             ends,
             marks,
-            at,
+            child,
             left - 1,
             &mut sub[..items],
         );
@@ -220,7 +227,7 @@ pub fn degrees(
             s,
             items,
             links,
-            wide(roles[at]),
+            wide(roles[child]),
             &sub[..items],
             scale,
             product,
@@ -236,6 +243,7 @@ pub fn degrees(
     n * product
 }
 
+// What the child at a node gives to one item.
 pub fn choose(
     s: &[u8],
     items: usize,
@@ -391,6 +399,7 @@ fn onward(
     b.item
 }
 
+// The map says "dropped" from one row up to another.
 fn fill_dropped(map: &mut [u16], from: usize, to: usize)
     requires { ⌜ (from ≤ to) × (to ≤ length (now map)) ⌝ }
     ensures { λ _. ⌜ now (map .exit) ≡ sets (now (map .entry)) from (replicate (to - from) 65534) ⌝ }
@@ -402,6 +411,7 @@ fn fill_dropped(map: &mut [u16], from: usize, to: usize)
     }
 }
 
+// Writes the map of the tree at a node that goes to `item`, or nowhere where that is 65535: its own place, then each child's.
 pub fn show(
     s: &[u8],
     items: usize,
@@ -459,6 +469,7 @@ pub fn show(
     }
 }
 
+// The degree of one item in the tree at a node, and its map: a child's numbers serve both.
 pub fn shown_at(
     s: &[u8],
     items: usize,
@@ -534,6 +545,7 @@ fn divisor(a: u64, b: u64) -> u64
     x
 }
 
+// A fraction in lowest terms.
 pub fn lowest(num: u64, den: u64) -> Fraction
     requires { ⌜ 0 < den ⌝ }
     ensures { λ r. ⌜ (r .num ≡ lowestOf (num // den) .num) × (r .den ≡ lowestOf (num // den) .den) ⌝ }
