@@ -4,3 +4,4 @@ pub mod Links
 pub mod Body
 pub mod Whole
 pub mod Facts
+pub mod Begins

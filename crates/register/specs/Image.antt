@@ -2,8 +2,8 @@
 -- Assumes nothing.
 use mathlib.Core.Path.{_≡_}
 use mathlib.Core.List.{List}
-use Prim.Native.Nat.{ℕ}
-use lib.ListN.{getD}
+use Prim.Native.Nat.{ℕ, _≤_, _<_}
+use lib.ListN.{length, getD}
 use Rattle.meaning.specs.Refusal.{good}
 use Rattle.meaning.specs.Register.{Link, Register, readBuffer}
 
@@ -23,3 +23,9 @@ noLink = record { from = 0; role = 0; to = 0 }
 -- the k-th link
 abbrev pub linkNo : Register → ℕ → Link
 linkNo g k = getD (g .links) k noLink
+
+-- the links of an item begin at the k-th: those before it lead from items before, and no other does
+pub record Begins (ls : List Link) (item k : ℕ) : Type 0 where
+  pub within : k ≤ length ls
+  pub before : (j : ℕ) → j < k → getD ls j noLink .from < item
+  pub behind : (j : ℕ) → k ≤ j → j < length ls → item ≤ getD ls j noLink .from

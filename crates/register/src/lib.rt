@@ -8,7 +8,7 @@ ghost use Prim.Native.Nat.{_+_, _*_, _≤_, _<_};
 ghost use lib.ListN.{length, getD};
 ghost use Rattle.meaning.specs.Register.{Link, readLink, readBody, readRegisterBy};
 ghost use Rattle.fields.specs.Head.{wrongIn};
-ghost use Rattle.register.specs.Image.{Asked, Image, linkNo};
+ghost use Rattle.register.specs.Image.{Asked, Image, linkNo, Begins};
 ghost use Rattle.register.specs.Reading.{paper, counted, linksAnswer, refusedAt, Floor, paperLink, keyed, Passed, cutAt};
 
 // An image: how many items and links it has, or its refusal.
@@ -195,4 +195,22 @@ pub fn to_of(s: &[u8], items: usize, k: usize) -> usize
     ensures { λ r. ⌜ Image (now (s .entry)) (λ g. (r ≡ linkNo g k .to) × (r < length (g .names))) ⌝ }
 {
     fields::two(s, 7 + 8 * items + 5 * k + 3)
+}
+
+// Where the links of an item begin: at the first link that leads from it or from an item behind it.
+pub fn first_link(s: &[u8], items: usize, links: usize, item: usize) -> usize
+    requires { ⌜ Asked (now s) (λ g. (items ≡ length (g .names)) × (links ≡ length (g .links))) ⌝ }
+    ensures { λ r. ⌜ Image (now (s .entry)) (λ g. Begins (g .links) item r) ⌝ }
+{
+    let mut low = 0;
+    let mut high = links;
+    while low < high {
+        let mid = low + (high - low) / 2;
+        if from_of(s, items, mid) < item {
+            low = mid + 1;
+            continue;
+        }
+        high = mid;
+    }
+    low
 }

@@ -1,0 +1,558 @@
+// The degree of an item in a concept tree that is held as rows, over a register image that was read; the map shown for it; lowest terms.
+ghost use mathlib.Core.Path.{_≡_};
+ghost use mathlib.Core.Bool.{_&&_, _||_};
+ghost use mathlib.Core.Option.{Option, some};
+ghost use Prim.Native.Nat.{ℕ, _+_, _-_, _*_, _≤_, _<_};
+ghost use lib.Dec.{eqb, ltb};
+ghost use lib.ListN.{length, getD, replicate};
+ghost use lib.Seq.{sets};
+ghost use Rattle.meaning.specs.Names.{common};
+ghost use Rattle.meaning.specs.Names.{names as many};
+ghost use Rattle.meaning.specs.Register.{targets, judged};
+ghost use Rattle.meaning.specs.Shown.{goesTo};
+ghost use Rattle.meaning.specs.Degree.{best};
+ghost use Rattle.meaning.specs.Fraction.{gcd, _//_};
+ghost use Rattle.meaning.specs.Fraction.{lowest as lowestOf};
+ghost use Rattle.register.specs.Image.{Asked, Image, Begins};
+ghost use Rattle.degree.specs.Case.{Case, mostScale};
+ghost use Rattle.degree.specs.Given.{placeOf, Inside, Goes, drawn, Scanned, Worked, Chosen, Ended, Graded};
+
+// Of an item's links under a role: the greatest value of an end (0 where there is none), the lowest-numbered end of that value (65535
+// where there is none), and where the links of the next item begin.
+pub struct Best {
+    pub value: u32,
+    pub item: usize,
+    pub next: usize,
+}
+
+// What a child gives to one item: the greatest value at a successor, that successor (65535 where there is none), the child's scale.
+pub struct Choice {
+    pub value: u64,
+    pub item: usize,
+    pub scale: u64,
+}
+
+// The sum at a node for one item, so far: a whole number over a scale, and how many names and children are counted.
+pub struct Sum {
+    pub number: u64,
+    pub count: u64,
+    pub scale: u64,
+}
+
+// A degree: a whole number over a scale.
+pub struct Degree {
+    pub number: u64,
+    pub scale: u64,
+}
+
+// A fraction.
+pub struct Fraction {
+    pub num: u64,
+    pub den: u64,
+}
+
+// A byte as a number.
+fn wide(x: u8) -> usize
+    ensures { λ r. ⌜ r ≡ x ⌝ }
+    ensures { λ r. ⌜ r < 256 ⌝ }
+{
+    x as usize
+}
+
+// A 32-bit number as a 64-bit one.
+fn broad(x: u32) -> u64
+    ensures { λ r. ⌜ r ≡ x ⌝ }
+    ensures { λ r. ⌜ r < 4294967296 ⌝ }
+{
+    x as u64
+}
+
+// An end of value v is taken: it is under the role, and the first or of greater value than the one before.
+fn taken(same: bool, found: usize, value: u32, v: u32) -> bool
+    ensures { λ r. ⌜ r ≡ (same && (eqb found 65535 || ltb value v)) ⌝ }
+{
+    if same {
+        if found == 65535 {
+            return true;
+        }
+        return value < v;
+    }
+    false
+}
+
+// One pass over the links of an item, which begin at `first`.
+fn scan(
+    s: &[u8],
+    items: usize,
+    links: usize,
+    item: usize,
+    first: usize,
+    role: usize,
+    sub: &[u32],
+) -> Best
+    requires { ⌜ Asked (now s) (λ g. (items ≡ length (g .names)) × (links ≡ length (g .links)) × Begins (g .links) item first) ⌝ }
+    requires { ⌜ (items ≤ 512) × (length (now sub) ≡ items) ⌝ }
+    ensures { λ r. ⌜ Image (now (s .entry)) (λ g. Scanned (λ y. getD (now (sub .entry)) y 0) (targets (g .links) item role) r × Begins (g .links) (item + 1) (r .next)) ⌝ }
+{
+    let mut value: u32 = 0;
+    let mut found: usize = 65535;
+    let mut k = first;
+    while k < links {
+        if register::from_of(s, items, k) != item {
+            return Best {
+                value,
+                item: found,
+                next: k,
+            };
+        }
+        let same = register::role_of(s, items, k) == role;
+        let to = register::to_of(s, items, k);
+        k += 1;
+        if !taken(same, found, value, sub[to]) {
+            continue;
+        }
+        value = sub[to];
+        found = to;
+    }
+    Best {
+        value,
+        item: found,
+        next: k,
+    }
+}
+
+// A number so far over the scale of the children so far, and a child's number over its own scale: their sum over the product.
+fn folded(sum: u32, scale: u64, value: u32, product: u64) -> u32
+    requires { ⌜ sum * scale + value * product < 4294967296 ⌝ }
+    ensures { λ r. ⌜ r ≡ sum * scale + value * product ⌝ }
+{
+    (broad(sum) * scale + broad(value) * product) as u32
+}
+
+// Folds one child in: out[i] becomes what it was times the child's scale, and the best of the child's numbers over i's links under the
+// role times the product of the scales so far. One pass over the items and the links.
+fn add_best(
+    s: &[u8],
+    items: usize,
+    links: usize,
+    role: usize,
+    sub: &[u32],
+    scale: u64,
+    product: u64,
+    out: &mut [u32],
+)
+    requires { ⌜ Asked (now s) (λ g. (items ≡ length (g .names)) × (links ≡ length (g .links))
+        × ((i : ℕ) → i < items → getD (now out) i 0 * scale + best (λ y. getD (now sub) y 0) (targets (g .links) i role) * product < 4294967296)) ⌝ }
+    requires { ⌜ (items ≤ 512) × (length (now sub) ≡ items) × (length (now out) ≡ items) ⌝ }
+    ensures { λ _. ⌜ Image (now (s .entry)) (λ g. (i : ℕ) → i < items → getD (now (out .exit)) i 0
+        ≡ getD (now (out .entry)) i 0 * scale + best (λ y. getD (now (sub .entry)) y 0) (targets (g .links) i role) * product) ⌝ }
+{
+    let mut i = 0;
+    let mut k = 0;
+    while i < items {
+        let b = scan(s, items, links, i, k, role, sub);
+        out[i] = folded(out[i], scale, b.value, product);
+        k = b.next;
+        i += 1;
+    }
+}
+
+// out[i] becomes the number of names that the node shares with item i.
+fn own(s: &[u8], names: u64, out: &mut [u32])
+    requires { ⌜ Asked (now s) (λ g. length (now out) ≡ length (g .names)) ⌝ }
+    ensures { λ _. ⌜ Image (now (s .entry)) (λ g. (i : ℕ) → i < length (g .names) → getD (now (out .exit)) i 0 ≡ common names (getD (g .names) i 0)) ⌝ }
+{
+    let mut i = 0;
+    while i < out.len() {
+        out[i] = u64::count_ones(names & register::names_of(s, i));
+        i += 1;
+    }
+}
+
+// out[i] becomes 1.
+fn fill_ones(out: &mut [u32])
+    ensures { λ _. ⌜ ((i : ℕ) → i < length (now (out .entry)) → getD (now (out .exit)) i 0 ≡ 1) ⌝ }
+{
+    let mut i = 0;
+    while i < out.len() {
+        out[i] = 1;
+        i += 1;
+    }
+}
+
+// The degrees of all items in the tree at a node, as whole numbers over its scale, which is answered. Each kept child's numbers are worked
+// out once, in an array of its own, and folded in. The rows may hold a tree of at most `left` levels: that falls with each call.
+pub fn degrees(
+    s: &[u8],
+    items: usize,
+    links: usize,
+    names: &[u64; 64],
+    roles: &[u8; 64],
+    ends: &[u8; 64],
+    marks: &[u8; 64],
+    node: usize,
+    left: usize,
+    out: &mut [u32],
+) -> u64
+    requires { ⌜ Case (now s) items links (now names) (now roles) (now ends) (now marks) node left ⌝ }
+    requires { ⌜ length (now out) ≡ items ⌝ }
+    ensures { λ r. ⌜ ((k : Case (now (s .entry)) items links (now (names .entry)) (now (roles .entry)) (now (ends .entry)) (now (marks .entry)) node left)
+        → Worked (k .register) (k .tree) items r (now (out .exit))) ⌝ }
+{
+    own(s, names[node], out);
+    let e = wide(ends[node]);
+    let mut n = broad(u64::count_ones(names[node]));
+    let mut product: u64 = 1;
+    let mut c = node + 1;
+    while c < e {
+        let child = c;
+        c = wide(ends[child]);
+        if marks[child] == 0 {
+            continue;
+        }
+        let mut sub = [0u32; 512];
+        let scale = degrees(
+            s,
+            items,
+            links,
+            names,
+            roles,
+            ends,
+            marks,
+            child,
+            left - 1,
+            &mut sub[..items],
+        );
+        add_best(
+            s,
+            items,
+            links,
+            wide(roles[child]),
+            &sub[..items],
+            scale,
+            product,
+            out,
+        );
+        product = product * scale;
+        n += 1;
+    }
+    if n == 0 {
+        fill_ones(out);
+        return 1;
+    }
+    n * product
+}
+
+// What the child at a node gives to one item.
+pub fn choose(
+    s: &[u8],
+    items: usize,
+    links: usize,
+    names: &[u64; 64],
+    roles: &[u8; 64],
+    ends: &[u8; 64],
+    marks: &[u8; 64],
+    node: usize,
+    left: usize,
+    item: usize,
+) -> Choice
+    requires { ⌜ Case (now s) items links (now names) (now roles) (now ends) (now marks) node left ⌝ }
+    ensures { λ r. ⌜ ((k : Case (now (s .entry)) items links (now (names .entry)) (now (roles .entry)) (now (ends .entry)) (now (marks .entry)) node left)
+        → Chosen (k .register) (k .tree) item (getD (now (roles .entry)) node 0) r) ⌝ }
+{
+    let mut sub = [0u32; 512];
+    let scale = degrees(
+        s,
+        items,
+        links,
+        names,
+        roles,
+        ends,
+        marks,
+        node,
+        left,
+        &mut sub[..items],
+    );
+    let first = register::first_link(s, items, links, item);
+    let b = scan(
+        s,
+        items,
+        links,
+        item,
+        first,
+        wide(roles[node]),
+        &sub[..items],
+    );
+    Choice {
+        value: broad(b.value),
+        item: b.item,
+        scale,
+    }
+}
+
+// A node's sum for an item that holds such names, before any child.
+fn begun(names: u64, held: u64) -> Sum
+    ensures { λ r. ⌜ (r .number ≡ common names held) × (r .count ≡ many names) × (r .scale ≡ 1) ⌝ }
+{
+    Sum {
+        number: broad(u64::count_ones(names & held)),
+        count: broad(u64::count_ones(names)),
+        scale: 1,
+    }
+}
+
+// With what one more child gives.
+fn joined(d: Sum, b: Choice) -> Sum
+    requires { ⌜ (d .number * b .scale + b .value * d .scale ≤ mostScale) × (d .count + 1 ≤ mostScale) × (d .scale * b .scale ≤ mostScale) ⌝ }
+    ensures { λ r. ⌜ (r .number ≡ d .number * b .scale + b .value * d .scale) × (r .count ≡ d .count + 1) × (r .scale ≡ d .scale * b .scale) ⌝ }
+{
+    Sum {
+        number: d.number * b.scale + b.value * d.scale,
+        count: d.count + 1,
+        scale: d.scale * b.scale,
+    }
+}
+
+// With no child left: the value is 1 where nothing was counted.
+fn ended(d: Sum) -> Degree
+    requires { ⌜ d .count * d .scale ≤ mostScale ⌝ }
+    ensures { λ r. ⌜ Ended d r ⌝ }
+{
+    if d.count == 0 {
+        return Degree {
+            number: 1,
+            scale: 1,
+        };
+    }
+    Degree {
+        number: d.number,
+        scale: d.count * d.scale,
+    }
+}
+
+// The degree of one item in the tree at a node.
+pub fn at_item(
+    s: &[u8],
+    items: usize,
+    links: usize,
+    names: &[u64; 64],
+    roles: &[u8; 64],
+    ends: &[u8; 64],
+    marks: &[u8; 64],
+    node: usize,
+    left: usize,
+    item: usize,
+) -> Degree
+    requires { ⌜ Case (now s) items links (now names) (now roles) (now ends) (now marks) node left ⌝ }
+    requires { ⌜ item < items ⌝ }
+    ensures { λ r. ⌜ ((k : Case (now (s .entry)) items links (now (names .entry)) (now (roles .entry)) (now (ends .entry)) (now (marks .entry)) node left)
+        → Graded (k .register) (k .tree) item r) ⌝ }
+{
+    let e = wide(ends[node]);
+    let mut sum = begun(names[node], register::names_of(s, item));
+    let mut c = node + 1;
+    while c < e {
+        let at = c;
+        c = wide(ends[at]);
+        if marks[at] == 0 {
+            continue;
+        }
+        let b = choose(
+            s,
+            items,
+            links,
+            names,
+            roles,
+            ends,
+            marks,
+            at,
+            left - 1,
+            item,
+        );
+        sum = joined(sum, b);
+    }
+    ended(sum)
+}
+
+// Where a child of a node goes that goes to `item`, or nowhere.
+fn onward(
+    s: &[u8],
+    items: usize,
+    links: usize,
+    names: &[u64; 64],
+    roles: &[u8; 64],
+    ends: &[u8; 64],
+    marks: &[u8; 64],
+    node: usize,
+    left: usize,
+    item: usize,
+) -> usize
+    requires { ⌜ Case (now s) items links (now names) (now roles) (now ends) (now marks) node left ⌝ }
+    ensures { λ r. ⌜ ((k : Case (now (s .entry)) items links (now (names .entry)) (now (roles .entry)) (now (ends .entry)) (now (marks .entry)) node left)
+        (o : Goes item) → (r ≡ placeOf (goesTo (judged (k .register)) (o .to) (getD (now (roles .entry)) node 0) (k .tree)))
+        × Inside (goesTo (judged (k .register)) (o .to) (getD (now (roles .entry)) node 0) (k .tree))) ⌝ }
+{
+    if item == 65535 {
+        return 65535;
+    }
+    let b = choose(s, items, links, names, roles, ends, marks, node, left, item);
+    b.item
+}
+
+// The map says "dropped" from one row up to another.
+fn fill_dropped(map: &mut [u16], from: usize, to: usize)
+    requires { ⌜ (from ≤ to) × (to ≤ length (now map)) ⌝ }
+    ensures { λ _. ⌜ now (map .exit) ≡ sets (now (map .entry)) from (replicate (to - from) 65534) ⌝ }
+{
+    let mut i = from;
+    while i < to {
+        map[i] = 65534;
+        i += 1;
+    }
+}
+
+// Writes the map of the tree at a node that goes to `item`, or nowhere where that is 65535: its own place, then each child's.
+pub fn show(
+    s: &[u8],
+    items: usize,
+    links: usize,
+    names: &[u64; 64],
+    roles: &[u8; 64],
+    ends: &[u8; 64],
+    marks: &[u8; 64],
+    node: usize,
+    left: usize,
+    item: usize,
+    map: &mut [u16],
+)
+    requires { ⌜ Case (now s) items links (now names) (now roles) (now ends) (now marks) node left ⌝ }
+    requires { ⌜ getD (now ends) node 0 ≤ length (now map) ⌝ }
+    requires { ⌜ Goes item ⌝ }
+    ensures { λ _. ⌜ ((k : Case (now (s .entry)) items links (now (names .entry)) (now (roles .entry)) (now (ends .entry)) (now (marks .entry)) node left)
+        (o : Goes item) → now (map .exit) ≡ drawn (k .register) (k .tree) node (o .to) (now (map .entry))) ⌝ }
+{
+    map[node] = item as u16;
+    let e = wide(ends[node]);
+    let mut c = node + 1;
+    while c < e {
+        let at = c;
+        c = wide(ends[at]);
+        if marks[at] == 0 {
+            fill_dropped(map, at, c);
+            continue;
+        }
+        let next = onward(
+            s,
+            items,
+            links,
+            names,
+            roles,
+            ends,
+            marks,
+            at,
+            left - 1,
+            item,
+        );
+        show(
+            s,
+            items,
+            links,
+            names,
+            roles,
+            ends,
+            marks,
+            at,
+            left - 1,
+            next,
+            map,
+        );
+    }
+}
+
+// The degree of one item in the tree at a node, and its map: a child's numbers serve both.
+pub fn shown_at(
+    s: &[u8],
+    items: usize,
+    links: usize,
+    names: &[u64; 64],
+    roles: &[u8; 64],
+    ends: &[u8; 64],
+    marks: &[u8; 64],
+    node: usize,
+    left: usize,
+    item: usize,
+    map: &mut [u16],
+) -> Degree
+    requires { ⌜ Case (now s) items links (now names) (now roles) (now ends) (now marks) node left ⌝ }
+    requires { ⌜ (getD (now ends) node 0 ≤ length (now map)) × (item < items) ⌝ }
+    ensures { λ r. ⌜ ((k : Case (now (s .entry)) items links (now (names .entry)) (now (roles .entry)) (now (ends .entry)) (now (marks .entry)) node left)
+        → Graded (k .register) (k .tree) item r) ⌝ }
+    ensures { λ _. ⌜ ((k : Case (now (s .entry)) items links (now (names .entry)) (now (roles .entry)) (now (ends .entry)) (now (marks .entry)) node left)
+        → now (map .exit) ≡ drawn (k .register) (k .tree) node (some item) (now (map .entry))) ⌝ }
+{
+    map[node] = item as u16;
+    let e = wide(ends[node]);
+    let mut sum = begun(names[node], register::names_of(s, item));
+    let mut c = node + 1;
+    while c < e {
+        let at = c;
+        c = wide(ends[at]);
+        if marks[at] == 0 {
+            fill_dropped(map, at, c);
+            continue;
+        }
+        let b = choose(
+            s,
+            items,
+            links,
+            names,
+            roles,
+            ends,
+            marks,
+            at,
+            left - 1,
+            item,
+        );
+        show(
+            s,
+            items,
+            links,
+            names,
+            roles,
+            ends,
+            marks,
+            at,
+            left - 1,
+            b.item,
+            map,
+        );
+        sum = joined(sum, b);
+    }
+    ended(sum)
+}
+
+// Euclid's remainders.
+fn divisor(a: u64, b: u64) -> u64
+    ensures { λ r. ⌜ r ≡ gcd a b ⌝ }
+{
+    let mut x = a;
+    let mut y = b;
+    while y != 0 {
+        let r = x % y;
+        x = y;
+        y = r;
+    }
+    x
+}
+
+// A fraction in lowest terms.
+pub fn lowest(num: u64, den: u64) -> Fraction
+    requires { ⌜ 0 < den ⌝ }
+    ensures { λ r. ⌜ (r .num ≡ lowestOf (num // den) .num) × (r .den ≡ lowestOf (num // den) .den) ⌝ }
+{
+    let d = divisor(num, den);
+    Fraction {
+        num: num / d,
+        den: den / d,
+    }
+}
