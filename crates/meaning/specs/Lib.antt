@@ -14,6 +14,7 @@ pub mod Message
 pub mod Shown
 pub mod InPlace
 pub mod Rows
+pub mod Session
 pub mod Calls
 pub mod Sheet
 pub mod Slips
