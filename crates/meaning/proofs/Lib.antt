@@ -41,3 +41,6 @@ pub mod YesShown
 pub mod Sheet
 pub mod Orders
 pub mod Slips
+-- Sessions
+pub mod SessionNames
+pub mod SessionLinks
