@@ -44,3 +44,4 @@ pub mod Slips
 -- Sessions
 pub mod SessionNames
 pub mod SessionLinks
+pub mod SessionFacts

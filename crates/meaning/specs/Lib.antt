@@ -16,5 +16,6 @@ pub mod InPlace
 pub mod Rows
 pub mod Session
 pub mod Calls
+pub mod Demand3
 pub mod Sheet
 pub mod Slips
