@@ -45,3 +45,4 @@ pub mod Slips
 pub mod SessionNames
 pub mod SessionLinks
 pub mod SessionFacts
+pub mod SessionCalls

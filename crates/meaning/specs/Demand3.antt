@@ -7,7 +7,7 @@ use mathlib.Core.Bool.{Bool, true, false}
 use mathlib.Core.List.{List, _++_}
 use Prim.Native.Nat.{ℕ, _-_, _≤_, _<_}
 use lib.Dec.{T}
-use lib.ListN.{length, replicate}
+use lib.ListN.{length}
 use Rattle.meaning.specs.declared.Fact.{Fact}
 use Rattle.meaning.specs.Refusal.{Answer, good}
 use Rattle.meaning.specs.Tree.{Concept, nodes}
@@ -17,7 +17,7 @@ use Rattle.meaning.specs.Requirement.{Requirement, member}
 use Rattle.meaning.specs.Message.{Part, readRequirement}
 use Rattle.meaning.specs.Shown.{degreeMap, yesMap}
 use Rattle.meaning.specs.Calls.{readPlain, degreeCall, memberCall, decide}
-use Rattle.meaning.specs.Session.{Facts, imageOf}
+use Rattle.meaning.specs.Session.{Facts, zeros, imageOf}
 
 -- a register of n items that has these facts
 pub record RegisterOf (n : ℕ) (facts : Facts) (g : Register) : Type 0 where
@@ -33,7 +33,7 @@ pub record Shows (n : ℕ) (facts : Facts) (buffer : List ℕ) : Type 0 where
   pub image : imageOf buffer ≡ encode register
   pub only : (g : Register) → RegisterOf n facts g → g ≡ register
   -- behind it stand zeros: opening cleared them, an added link takes 5 of them, and one taken away gives them back
-  pub behind : buffer ≡ encode register ++ replicate (length buffer - length (encode register)) 0
+  pub behind : buffer ≡ encode register ++ zeros (length buffer - length (encode register))
   -- the degree, the yes or no, and the map asked of the image are those over these facts
   pub degree : (message : List ℕ) (t : Concept) (item room : ℕ) → readPlain message ≡ good t → item < n → nodes t ≤ room
       → degreeCall (imageOf buffer) message item room

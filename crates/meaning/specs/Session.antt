@@ -65,14 +65,17 @@ setFact v (linkOf a r b) g = record { names = g .names; links = withLink v (link
 
 -- ---- the buffer
 
+abbrev pub zeros : ℕ → List ℕ
+zeros n = replicate n 0
+
 -- "Opening .. fills all behind them with zeros"
 unfoldable pub cleared : List ℕ → Register → List ℕ
-cleared s g = encode g ++ replicate (length s - length (encode g)) 0
+cleared s g = encode g ++ zeros (length s - length (encode g))
 
 -- The image of `after` stands where that of `before` stood. "Taking a link away .. zeros the 5 bytes freed; other bytes behind the image stay."
 unfoldable pub rewritten : List ℕ → Register → Register → List ℕ
 rewritten s before after =
-    encode after ++ replicate (length (encode before) - length (encode after)) 0 ++ drop (max (length (encode before)) (length (encode after))) s
+    encode after ++ zeros (length (encode before) - length (encode after)) ++ drop (max (length (encode before)) (length (encode after))) s
 
 -- "A degree or yes/no in a session is asked of the image alone": the first 3 + length bytes
 abbrev pub imageOf : List ℕ → List ℕ
