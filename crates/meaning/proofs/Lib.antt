@@ -46,3 +46,4 @@ pub mod SessionNames
 pub mod SessionLinks
 pub mod SessionFacts
 pub mod SessionCalls
+pub mod History
