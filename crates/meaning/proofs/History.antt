@@ -46,24 +46,24 @@ edited-agree e p q h x = ap (λ (b : Bool). cond (sameFact (e .fact) x) (e .adds
 -- ---- what holds in a session of n items in a buffer of `long` bytes, opened with the facts `opened`
 
 module _ (n long : ℕ) (opened : Facts) where
-  record Has (facts : Facts) : Type 0 where
-    register : Register
-    of : RegisterOf n facts register
-    small : length (encode register) ≤ long
+  pub record Has (facts : Facts) : Type 0 where
+    pub register : Register
+    pub of : RegisterOf n facts register
+    pub small : length (encode register) ≤ long
 
   -- each record in use holds its edit's fact, and whether the edits before gave it; and those edits gave a register
-  Logged : List Step → List Edit → List Edit → Type 0
+  unfoldable pub Logged : List Step → List Edit → List Edit → Type 0
   Logged log [] kept = Unit {0}
   Logged log (e ∷ es) kept =
       (getD log (length es) noStep ≡ record { fact = e .fact; was = applied (es ++ kept) opened (e .fact) })
       × Sounds n (e .fact) × Has (applied (es ++ kept) opened) × Logged log es kept
 
-  record Held (w : Standing) (s : Session) : Type 0 where
-    has : Has (standingFacts w opened)
-    filled : s .buffer ≡ alone long (has .register)
-    count : s .count ≡ length (w .trial)
-    steps : s .count ≤ room (length (s .log))
-    logged : Logged (s .log) (w .trial) (w .kept)
+  pub record Held (w : Standing) (s : Session) : Type 0 where
+    pub has : Has (standingFacts w opened)
+    pub filled : s .buffer ≡ alone long (has .register)
+    pub count : s .count ≡ length (w .trial)
+    pub steps : s .count ≤ room (length (s .log))
+    pub logged : Logged (s .log) (w .trial) (w .kept)
 
   logged-later : (log : List Step) (k : ℕ) (st : Step) (es kept : List Edit) → length es ≤ k → Logged log es kept → Logged (set log k st) es kept
   unfolding Logged
@@ -93,7 +93,7 @@ module _ (n long : ℕ) (opened : Facts) where
 
   -- ---- one call
 
-  abbrev Stepped : Standing → Session → Session → Answer ℕ → Type 0
+  abbrev pub Stepped : Standing → Session → Session → Answer ℕ → Type 0
   Stepped w s t (good k) = Held w t
   Stepped w s t (refused r) = t ≡ s
 
@@ -101,7 +101,7 @@ module _ (n long : ℕ) (opened : Facts) where
     abbrev g : Register
     g = h .has .register
 
-    read-here : readBuffer (s .buffer) ≡ good g
+    pub read-here : readBuffer (s .buffer) ≡ good g
     read-here = ap readBuffer (h .filled) ∙ alone-read long g (h .has .of .well) (h .has .small)
 
     here : {r : Register} → readBuffer (s .buffer) ≡ good r → r ≡ g
@@ -144,7 +144,7 @@ module _ (n long : ℕ) (opened : Facts) where
         }
 
   -- the last step in use is that of the latest edit on trial
-  last-step : (e : Edit) (es kept : List Edit) (s : Session) → s .count ≡ suc (length es) → Logged (s .log) (e ∷ es) kept
+  pub last-step : (e : Edit) (es kept : List Edit) (s : Session) → s .count ≡ suc (length es) → Logged (s .log) (e ∷ es) kept
       → lastStep s ≡ record { fact = e .fact; was = applied (es ++ kept) opened (e .fact) }
   unfolding Logged
   last-step e es kept s c l = ap (λ (z : ℕ). getD (s .log) z noStep) (omega arith) ∙ l .0
@@ -211,7 +211,7 @@ module _ (n long : ℕ) (opened : Facts) where
     step-keep (refused r) = refl
     step-keep (good u) = kept-all
 
-    step : (c : Call) → Stepped (told w c) s (next s c) (answer s c)
+    pub step : (c : Call) → Stepped (told w c) s (next s c) (answer s c)
     unfolding next answer buffer log
     step opens = step-open (openCall (s .buffer)) refl
     step (edits e) = step-edit w s h e (editCall (s .buffer) (length (s .log)) (s .count) e) refl
@@ -220,7 +220,7 @@ module _ (n long : ℕ) (opened : Facts) where
 
   -- ---- any calls
 
-  held-play : (cs : List Call) (w : Standing) (s : Session) → Held w s → Held (standing w (accepted s cs)) (play s cs)
+  pub held-play : (cs : List Call) (w : Standing) (s : Session) → Held w s → Held (standing w (accepted s cs)) (play s cs)
   unfolding play accepted standing
   held-play [] w s h = h
   held-play (c ∷ cs) w s h = go (answer s c) (step w s h c) (λ w t k. held-play cs w t k)

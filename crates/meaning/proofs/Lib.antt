@@ -47,3 +47,4 @@ pub mod SessionLinks
 pub mod SessionFacts
 pub mod SessionCalls
 pub mod History
+pub mod Demand3

@@ -7,15 +7,16 @@ use Prim.Native.Nat.{ℕ, zero, suc, _+_, _-_, _≤_, _<_, max}
 use native.Mathlib.Omega.{arith}
 use lib.Dec.{T, ltb, eqb, eqb-refl}
 use lib.ListN.{length, drop, length-append, length-replicate, replicate-append-replicate}
-use lib.Seq.{drop-append-add}
+use lib.Seq.{drop-append-add, take-at}
 use Rattle.meaning.specs.declared.Step.{Step}
 use Rattle.meaning.specs.Refusal.{Answer, good, refused, onCall, refuseIf, _>>=_, _>>_}
-use Rattle.meaning.specs.Bytes.{Bytes}
-use Rattle.meaning.specs.Register.{Register, wellFormed, encode, readBuffer}
-use Rattle.meaning.specs.Session.{Edit, setFact, zeros, cleared, rewritten, room, outOfRange, roleAbove, noPlace, Changed, openCall, editCall, undoCall, keepCall}
+use Rattle.meaning.specs.Bytes.{Bytes, number, bytes, headed}
+use Rattle.meaning.specs.Register.{Register, wellFormed, itemsBytes, linksBytes, encode, readBuffer}
+use Rattle.meaning.specs.Session.{Edit, setFact, zeros, cleared, rewritten, imageOf, room, outOfRange, roleAbove, noPlace, Changed, openCall, editCall, undoCall, keepCall}
 use Rattle.meaning.proofs.Tests.{neither-of, true-false, is-true, is-eqb}
-use Rattle.meaning.proofs.Reading.{good-inj, passed, taken, le-of-not-below, Stands, stands-self, stands-left}
-use Rattle.meaning.proofs.Image.{buffer-read}
+use Rattle.meaning.proofs.Reading.{good-inj, passed, taken, le-of-not-below, Stands, stands-self, stands-left, number-of}
+use Rattle.meaning.proofs.Image.{buffer-read, largest-image}
+use Rattle.meaning.proofs.Head.{headed-length, length-stands}
 
 -- ---- calls
 
@@ -101,6 +102,20 @@ alone-length long g h =
 
 pub alone-read : (long : ℕ) (g : Register) → T (wellFormed g) → length (encode g) ≤ long → readBuffer (alone long g) ≡ good g
 alone-read long g w h = buffer-read (alone long g) g w (front-stands (encode g) _) (omega (arith, alone-length long g h))
+
+-- where an image ends, and the image alone
+pub image-end : (s : List ℕ) (g : Register) → T (wellFormed g) → Stands s 0 (encode g) → 3 + number s 1 2 ≡ length (encode g)
+unfolding encode
+image-end s g w h =
+    let body = bytes 2 (length (g .names)) ++ itemsBytes (g .names) ++ bytes 2 (length (g .links)) ++ linksBytes (g .links) in
+    let l : length (headed body) ≡ 3 + length body = headed-length body in
+    let m = largest-image g w in
+    omega (arith, number-of s 1 2 (length body) (omega arith) (length-stands s body h))
+
+pub alone-image : (long : ℕ) (g : Register) → T (wellFormed g) → imageOf (alone long g) ≡ encode g
+alone-image long g w =
+    take-at (encode g) (zeros (long - length (encode g))) (3 + number (alone long g) 1 2)
+    (sym (image-end (alone long g) g w (front-stands (encode g) (zeros (long - length (encode g))))))
 
 drop-zeros : (n z : ℕ) → drop n (zeros z) ≡ zeros (z - n)
 drop-zeros zero z = let e : z ≡ z - 0 = omega arith in ap zeros e
