@@ -40,7 +40,7 @@ edit-undone e there x = go (sameFact (e .fact) x) refl
     go true d = ap there (same-fact (e .fact) x d)
     go false d = refl
 
-edited-agree : (e : Edit) (p q : Facts) → ((x : Fact) → p x ≡ q x) → (x : Fact) → edited e p x ≡ edited e q x
+pub edited-agree : (e : Edit) (p q : Facts) → ((x : Fact) → p x ≡ q x) → (x : Fact) → edited e p x ≡ edited e q x
 edited-agree e p q h x = ap (λ (b : Bool). cond (sameFact (e .fact) x) (e .adds) b) (h x)
 
 -- ---- what holds in a session of n items in a buffer of `long` bytes, opened with the facts `opened`
@@ -80,16 +80,18 @@ module _ (n long : ℕ) (opened : Facts) where
       let i = h .of .items in
       let so : Sounds (length (g .names)) f = subst (λ (z : ℕ). Sounds z f) (sym i) o in
       let l = alone-length long g (h .small) in
-      let pl = placed (alone long g) v f g w so (omega (arith, h .small)) e in
-      (record {
-        register = setFact v f g;
-        of = record {
-          well = set-well v f g w so (pl .0);
-          items = set-items v f g ∙ i;
-          has = λ x. set-facts v f g w so x ∙ edited-agree (record { fact = f; adds = v }) (isFact g) p (h .of .has) x ∙ agree x;
-        };
-        small = omega (arith, pl .1);
-      }, refl)
+      let pl = placed (alone long g) v f g w so (omega (arith, h .small)) e in (
+        record {
+          register = setFact v f g;
+          of = record {
+            well = set-well v f g w so (pl .0);
+            items = set-items v f g ∙ i;
+            has = λ x. set-facts v f g w so x ∙ edited-agree (record { fact = f; adds = v }) (isFact g) p (h .of .has) x ∙ agree x;
+          };
+          small = omega (arith, pl .1);
+        },
+        refl,
+      )
 
   -- ---- one call
 
@@ -123,12 +125,12 @@ module _ (n long : ℕ) (opened : Facts) where
         let b = here (q .read) in
         let so : Sounds n (e .fact) = subst (λ (z : ℕ). Sounds z (e .fact)) (ap (λ (r : Register). length (r .names)) b ∙ h .has .of .items) (sounds _ (e .fact) (q .range) (q .role)) in
         let np : noPlace (alone long g) g (e .adds) (e .fact) ≡ false =
-            ap₂ (λ (z : List ℕ) (r : Register). noPlace z r (e .adds) (e .fact)) (sym (h .filled)) (sym b) ∙ q .place in
+        ap₂ (λ (z : List ℕ) (r : Register). noPlace z r (e .adds) (e .fact)) (sym (h .filled)) (sym b) ∙ q .place in
         let k = has-set (standingFacts w opened) (edited e (standingFacts w opened)) (h .has) (e .adds) (e .fact) so np (λ x. refl) in
         let af : c .after ≡ k .0 .register = q .after ∙ ap (setFact (e .adds) (e .fact)) b ∙ sym (k .1) in
         let room : s .count < length (s .log) = omega (arith, q .steps) in
         let st : stepOf (c .before) (e .fact) ≡ record { fact = e .fact; was = standingFacts w opened (e .fact) } =
-            ap (λ (z : Bool). record { fact = e .fact; was = z }) (ap (λ (r : Register). isFact r (e .fact)) b ∙ h .has .of .has (e .fact)) in
+        ap (λ (z : Bool). record { fact = e .fact; was = z }) (ap (λ (r : Register). isFact r (e .fact)) b ∙ h .has .of .has (e .fact)) in
         record {
           has = k .0;
           filled = refilled c (k .0 .register) b af (k .0 .small);
@@ -136,7 +138,7 @@ module _ (n long : ℕ) (opened : Facts) where
           steps = omega (arith, q .more, q .steps, length-set (s .log) (s .count) (stepOf (c .before) (e .fact)));
           logged = (
             ap (λ (z : ℕ). getD (set (s .log) (s .count) (stepOf (c .before) (e .fact))) z noStep) (sym (h .count))
-            ∙ getD-set-same (s .log) (s .count) (stepOf (c .before) (e .fact)) noStep room ∙ st,
+                ∙ getD-set-same (s .log) (s .count) (stepOf (c .before) (e .fact)) noStep room ∙ st,
             so,
             h .has,
             logged-later (s .log) (s .count) _ (w .trial) (w .kept) (omega (arith, h .count)) (h .logged),
@@ -162,11 +164,11 @@ module _ (n long : ℕ) (opened : Facts) where
         let ls = last-step e es kept s (hh .count) (hh .logged) in
         let v = p (e .fact) in
         let np : noPlace (alone long (hh .has .register)) (hh .has .register) v (e .fact) ≡ false =
-            ap₂ (λ (z : List ℕ) (r : Register). noPlace z r v (e .fact)) (sym (hh .filled)) (sym b)
-            ∙ sym (ap (λ (z : Step). noPlace (s .buffer) (c .before) (z .was) (z .fact)) ls) ∙ q .place in
+        ap₂ (λ (z : List ℕ) (r : Register). noPlace z r v (e .fact)) (sym (hh .filled)) (sym b)
+        ∙ sym (ap (λ (z : Step). noPlace (s .buffer) (c .before) (z .was) (z .fact)) ls) ∙ q .place in
         let k = has-set (edited e p) p (hh .has) v (e .fact) (hh .logged .1) np (edit-undone e p) in
         let af : c .after ≡ k .0 .register =
-            q .after ∙ ap (λ (z : Step). setFact (z .was) (z .fact) (c .before)) ls ∙ ap (setFact v (e .fact)) b ∙ sym (k .1) in
+        q .after ∙ ap (λ (z : Step). setFact (z .was) (z .fact) (c .before)) ls ∙ ap (setFact v (e .fact)) b ∙ sym (k .1) in
         record {
           has = k .0;
           filled = refilled _ s hh c (k .0 .register) b af (k .0 .small);
@@ -203,7 +205,7 @@ module _ (n long : ℕ) (opened : Facts) where
     step-open (good r) d =
         let b = here w s h (open-passed (s .buffer) r d) in
         let e : cleared (s .buffer) r ≡ s .buffer =
-            ap₂ cleared (h .filled) b ∙ alone-cleared long (h .has .register) (h .has .small) ∙ sym (h .filled) in
+        ap₂ cleared (h .filled) b ∙ alone-cleared long (h .has .register) (h .has .small) ∙ sym (h .filled) in
         subst (λ (z : List ℕ). Held (told w opens) (record { buffer = z; log = s .log; count = 0 })) (sym e) kept-all
 
     step-keep : (a : Answer (Unit {0})) → Stepped (told w keeps) s (record { buffer = s .buffer; log = s .log; count = countAfter (s .count) (noSteps a) }) (noSteps a)

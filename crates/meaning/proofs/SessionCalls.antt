@@ -133,7 +133,7 @@ alone-rewritten long g h a b =
     let m = length (encode h) in
     let e : max l m ≡ l + (max l m - l) = omega arith in
     let d : drop (max l m) (alone long g) ≡ zeros (long - l - (max l m - l)) =
-        ap (λ (k : ℕ). drop k (alone long g)) e ∙ drop-append-add (encode g) (zeros (long - l)) (max l m - l) ∙ drop-zeros (max l m - l) (long - l) in
+    ap (λ (k : ℕ). drop k (alone long g)) e ∙ drop-append-add (encode g) (zeros (long - l)) (max l m - l) ∙ drop-zeros (max l m - l) (long - l) in
     let f : l - m + (long - l - (max l m - l)) ≡ long - m = omega arith in
     ap (λ (z : List ℕ). encode h ++ zeros (l - m) ++ z) d
     ∙ append-assoc (encode h) (zeros (l - m)) (zeros (long - l - (max l m - l)))

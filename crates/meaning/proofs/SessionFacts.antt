@@ -54,7 +54,7 @@ same-rising g h w v e s =
     let a = sets-equal (g .names) (h .names) e (λ i k. s (nameOn i k)) in
     let t = subst (λ (z : ℕ). T (linksOf z nowhere (g .links))) e w in
     let b = same-links (length (h .names)) nowhere nowhere (g .links) (h .links) t v
-        (λ x m. carry g h s x m) (λ x m. carry h g (λ f. sym (s f)) x m) in
+    (λ x m. carry g h s x m) (λ x m. carry h g (λ f. sym (s f)) x m) in
     λ i. record { names = a i; links = b i }
   where
     carry : (g h : Register) → ((f : Fact) → isFact g f ≡ isFact h f) → (x : Link) → List·Memᴰ x (g .links) → List·Memᴰ x (h .links)
