@@ -1,0 +1,457 @@
+// A session of trial edits: open, edit, undo and keep on a register image in a lent buffer.
+// The core (`edit_in`, `undo_in`) works on the buffer and never touches a log: it takes the log's length, the count in use and, for an undo, the last
+// step by value. Over it stands a first face, whose log is a lent slice of numbers, one for each step (`code` and `decode`).
+use fields;
+use meaning::Fact;
+use meaning::Refusal;
+use meaning::Side;
+use meaning::Step;
+use register::Reading;
+ghost use mathlib.Core.Path.{_≡_};
+ghost use mathlib.Core.Bool.{true};
+ghost use mathlib.Core.List.{_++_};
+ghost use Prim.Native.Nat.{_+_, _*_, _-_, _/_, _%_, _^_, _≤_, _<_};
+ghost use lib.Dec.{eqb};
+ghost use lib.ListN.{length, take};
+ghost use lib.Seq.{sets};
+ghost use Rattle.meaning.specs.Bytes.{bytes};
+ghost use Rattle.meaning.specs.Names.{has};
+ghost use Rattle.meaning.specs.Session.{withName, zeros};
+ghost use Rattle.session.specs.Moved.{movedUp, movedDown};
+
+// What a call hands back: the count of steps in use, or its refusal.
+pub enum Counted {
+    Good { count: usize },
+    Refused { refusal: Refusal },
+}
+
+// What the core answers to an edit: whether the fact was there before, and the count; or the refusal.
+pub enum Edited {
+    Accepted { was: bool, count: usize },
+    Refused { refusal: Refusal },
+}
+
+// Setting a fact: whether it was there before; or there is no place for a link.
+pub enum Setting {
+    Done { was: bool },
+    NoPlace,
+}
+
+// ---- bytes
+
+// The lowest byte of a number.
+fn low(n: usize) -> u8
+    ensures { λ r. ⌜ r ≡ n % 256 ⌝ }
+{
+    (n % 256) as u8
+}
+
+// Writes a number into so many bytes.
+fn put(s: &mut [u8], at: usize, width: usize, n: usize)
+    requires { ⌜ at + width ≤ length (now s) ⌝ }
+    ensures { λ _. ⌜ now (s .exit) ≡ sets (now (s .entry)) at (bytes width n) ⌝ }
+{
+    let mut i = width;
+    let mut rest = n;
+    while 0 < i {
+        i -= 1;
+        s[at + i] = low(rest);
+        rest = rest / 256;
+    }
+}
+
+// Zeros all from a place on.
+fn clear(s: &mut [u8], from: usize)
+    requires { ⌜ from ≤ length (now s) ⌝ }
+    ensures { λ _. ⌜ now (s .exit) ≡ take from (now (s .entry)) ++ zeros (length (now (s .entry)) - from) ⌝ }
+{
+    let n = s.len();
+    let mut i = from;
+    while i < n {
+        s[i] = 0;
+        i += 1;
+    }
+}
+
+// Moves what stands from `from` up to `end` five bytes up.
+fn move_up(s: &mut [u8], from: usize, end: usize)
+    requires { ⌜ (from ≤ end) × (end + 5 ≤ length (now s)) ⌝ }
+    ensures { λ _. ⌜ now (s .exit) ≡ movedUp (now (s .entry)) from end ⌝ }
+{
+    let mut i = end;
+    while from < i {
+        i -= 1;
+        s[i + 5] = s[i];
+    }
+}
+
+// Moves what stands behind the five bytes at `from`, up to `end`, five bytes down.
+fn move_down(s: &mut [u8], from: usize, end: usize)
+    requires { ⌜ (from + 5 ≤ end) × (end ≤ length (now s)) ⌝ }
+    ensures { λ _. ⌜ now (s .exit) ≡ movedDown (now (s .entry)) from end ⌝ }
+{
+    let mut i = from;
+    while i + 5 < end {
+        s[i] = s[i + 5];
+        i += 1;
+    }
+}
+
+// ---- names
+
+// Whether a name is in a set.
+fn has_name(names: u64, name: usize) -> bool
+    requires { ⌜ name < 64 ⌝ }
+    ensures { λ r. ⌜ r ≡ has names name ⌝ }
+{
+    (names >> name) % 2 == 1
+}
+
+// The set with a name or without it; `there`: whether it is in the set.
+fn with_name(names: u64, name: usize, there: bool, adds: bool) -> u64
+    requires { ⌜ (name < 64) × (there ≡ has names name) ⌝ }
+    ensures { λ r. ⌜ r ≡ withName adds name names ⌝ }
+{
+    if there {
+        if adds {
+            return names;
+        }
+        return names - (1u64 << name);
+    }
+    if adds {
+        return names + (1u64 << name);
+    }
+    names
+}
+
+// Sets a name of an item to there or not, and says whether it was there.
+fn set_name(s: &mut [u8], item: usize, name: usize, adds: bool) -> bool {
+    let names = register::names_of(s, item);
+    let there = has_name(names, name);
+    put(
+        s,
+        5 + 8 * item,
+        8,
+        with_name(names, name, there, adds) as usize,
+    );
+    there
+}
+
+// ---- links
+
+// A link's number, that of its five bytes: it rises with (from, role, to).
+fn number_of(from: usize, role: usize, to: usize) -> usize {
+    (from * 256 + role) * 65536 + to
+}
+
+// The number of the k-th link.
+fn link_number(s: &[u8], items: usize, k: usize) -> usize {
+    let from = register::from_of(s, items, k);
+    let role = register::role_of(s, items, k);
+    let to = register::to_of(s, items, k);
+    number_of(from, role, to)
+}
+
+// How many links stand below a number.
+fn place_of(s: &[u8], items: usize, links: usize, number: usize) -> usize {
+    let mut k = 0;
+    while k < links {
+        if number <= link_number(s, items, k) {
+            return k;
+        }
+        k += 1;
+    }
+    k
+}
+
+// Whether the link at that place has the number.
+fn stands_at(s: &[u8], items: usize, links: usize, k: usize, number: usize) -> bool {
+    if k < links {
+        return link_number(s, items, k) == number;
+    }
+    false
+}
+
+// Puts a link before the k-th.
+fn insert(s: &mut [u8], items: usize, links: usize, k: usize, number: usize) {
+    let start = 7 + 8 * items;
+    move_up(s, start + 5 * k, start + 5 * links);
+    put(s, start + 5 * k, 5, number);
+    put(s, start - 2, 2, links + 1);
+    put(s, 1, 2, start + 5 * links + 2);
+}
+
+// Takes the k-th link away.
+fn remove(s: &mut [u8], items: usize, links: usize, k: usize) {
+    let start = 7 + 8 * items;
+    move_down(s, start + 5 * k, start + 5 * links);
+    put(s, start + 5 * links - 5, 5, 0);
+    put(s, start - 2, 2, links - 1);
+    put(s, 1, 2, start + 5 * links - 8);
+}
+
+// Sets a link to there or not.
+fn set_link(s: &mut [u8], items: usize, links: usize, number: usize, adds: bool) -> Setting {
+    let k = place_of(s, items, links, number);
+    if stands_at(s, items, links, k, number) {
+        if adds {
+            return Setting::Done { was: true };
+        }
+        remove(s, items, links, k);
+        return Setting::Done { was: true };
+    }
+    if !adds {
+        return Setting::Done { was: false };
+    }
+    if 4096 <= links {
+        return Setting::NoPlace;
+    }
+    if s.len() < 12 + 8 * items + 5 * links {
+        return Setting::NoPlace;
+    }
+    insert(s, items, links, k, number);
+    Setting::Done { was: false }
+}
+
+// ---- the core
+
+// Sets a fact that is in range to there or not.
+fn set_fact(s: &mut [u8], items: usize, links: usize, fact: Fact, adds: bool) -> Setting {
+    match fact {
+        Fact::Name { item, name } => Setting::Done {
+            was: set_name(s, item, name, adds),
+        },
+        Fact::Link { from, role, to } => set_link(s, items, links, number_of(from, role, to), adds),
+    }
+}
+
+fn on_call(number: usize) -> Refusal {
+    Refusal {
+        side: Side::Call,
+        number,
+        place: 0,
+    }
+}
+
+// At most 64 steps are in use.
+fn room(log: usize) -> usize {
+    if log < 64 {
+        return log;
+    }
+    64
+}
+
+// 15 for a fact that is edited.
+fn out_of_range(items: usize, fact: Fact) -> bool {
+    match fact {
+        Fact::Name { item, name } => {
+            if items <= item {
+                return true;
+            }
+            63 < name
+        }
+        Fact::Link { from, role: _, to } => {
+            if items <= from {
+                return true;
+            }
+            items <= to
+        }
+    }
+}
+
+// 7 for a fact that is edited.
+fn role_above(fact: Fact) -> bool {
+    match fact {
+        Fact::Name { item: _, name: _ } => false,
+        Fact::Link {
+            from: _,
+            role,
+            to: _,
+        } => 31 < role,
+    }
+}
+
+// An edit of the image that the buffer begins with; the log has so many records, of which `count` are in use.
+pub fn edit_in(s: &mut [u8], log: usize, count: usize, fact: Fact, adds: bool) -> Edited {
+    let r = register::read(s, true);
+    match r {
+        Reading::Refused { refusal } => Edited::Refused { refusal },
+        Reading::Good { items, links } => edit_read(s, items, links, log, count, fact, adds),
+    }
+}
+
+fn edit_read(
+    s: &mut [u8],
+    items: usize,
+    links: usize,
+    log: usize,
+    count: usize,
+    fact: Fact,
+    adds: bool,
+) -> Edited {
+    if room(log) < count {
+        return Edited::Refused {
+            refusal: on_call(17),
+        };
+    }
+    if out_of_range(items, fact) {
+        return Edited::Refused {
+            refusal: on_call(15),
+        };
+    }
+    if role_above(fact) {
+        return Edited::Refused {
+            refusal: on_call(7),
+        };
+    }
+    if count == room(log) {
+        return Edited::Refused {
+            refusal: on_call(18),
+        };
+    }
+    let set = set_fact(s, items, links, fact, adds);
+    match set {
+        Setting::Done { was } => Edited::Accepted {
+            was,
+            count: count + 1,
+        },
+        Setting::NoPlace => Edited::Refused {
+            refusal: on_call(20),
+        },
+    }
+}
+
+// An undo of the last step in use.
+pub fn undo_in(s: &mut [u8], log: usize, count: usize, last: Step) -> Counted {
+    let r = register::read(s, true);
+    match r {
+        Reading::Refused { refusal } => Counted::Refused { refusal },
+        Reading::Good { items, links } => undo_read(s, items, links, log, count, last),
+    }
+}
+
+fn undo_read(
+    s: &mut [u8],
+    items: usize,
+    links: usize,
+    log: usize,
+    count: usize,
+    last: Step,
+) -> Counted {
+    if room(log) < count {
+        return Counted::Refused {
+            refusal: on_call(17),
+        };
+    }
+    if count == 0 {
+        return Counted::Refused {
+            refusal: on_call(19),
+        };
+    }
+    let fact = last.fact;
+    if out_of_range(items, fact) {
+        return Counted::Refused {
+            refusal: on_call(17),
+        };
+    }
+    if role_above(fact) {
+        return Counted::Refused {
+            refusal: on_call(17),
+        };
+    }
+    let set = set_fact(s, items, links, fact, last.was);
+    match set {
+        Setting::Done { was: _ } => Counted::Good { count: count - 1 },
+        Setting::NoPlace => Counted::Refused {
+            refusal: on_call(20),
+        },
+    }
+}
+
+// Opens the image that the buffer begins with: all behind it becomes zeros.
+pub fn open(s: &mut [u8]) -> Counted {
+    let r = register::read(s, true);
+    match r {
+        Reading::Refused { refusal } => Counted::Refused { refusal },
+        Reading::Good { items, links } => {
+            clear(s, 7 + 8 * items + 5 * links);
+            Counted::Good { count: 0 }
+        }
+    }
+}
+
+// Keeps all edits: none can be taken back any more.
+pub fn keep_in(s: &[u8], log: usize, count: usize) -> Counted {
+    let r = register::read(s, true);
+    match r {
+        Reading::Refused { refusal } => Counted::Refused { refusal },
+        Reading::Good { items: _, links: _ } => {
+            if room(log) < count {
+                return Counted::Refused {
+                    refusal: on_call(17),
+                };
+            }
+            Counted::Good { count: 0 }
+        }
+    }
+}
+
+// ---- the face whose log is a lent slice of numbers
+
+// A step in one number, lowest first: whether the fact was there (2), a name or a link (2), then item (65536) and name, or to (65536), role (256)
+// and from. Every number is the code of one step.
+fn code(fact: Fact, was: bool) -> u64 {
+    match fact {
+        Fact::Name { item, name } => (((name * 65536 + item) * 2) * 2 + was as usize) as u64,
+        Fact::Link { from, role, to } => ((number_of(from, role, to) * 2 + 1) * 2
+            + was as usize) as u64,
+    }
+}
+
+fn decode(n: u64) -> Step {
+    let was = n % 2 == 1;
+    let rest = (n / 4) as usize;
+    if n / 2 % 2 == 0 {
+        return Step {
+            fact: Fact::Name {
+                item: rest % 65536,
+                name: rest / 65536,
+            },
+            was,
+        };
+    }
+    Step {
+        fact: Fact::Link {
+            from: rest / 16777216,
+            role: rest / 65536 % 256,
+            to: rest % 65536,
+        },
+        was,
+    }
+}
+
+pub fn edit(s: &mut [u8], log: &mut [u64], count: usize, fact: Fact, adds: bool) -> Counted {
+    let r = edit_in(s, log.len(), count, fact, adds);
+    match r {
+        Edited::Refused { refusal } => Counted::Refused { refusal },
+        Edited::Accepted { was, count: next } => {
+            log[count] = code(fact, was);
+            Counted::Good { count: next }
+        }
+    }
+}
+
+pub fn undo(s: &mut [u8], log: &[u64], count: usize) -> Counted {
+    let n = log.len();
+    if 0 < count {
+        if count <= n {
+            let last = decode(log[count - 1]);
+            return undo_in(s, n, count, last);
+        }
+    }
+    undo_in(s, n, count, decode(0))
+}
+
+pub fn keep(s: &[u8], log: &[u64], count: usize) -> Counted {
+    keep_in(s, log.len(), count)
+}
