@@ -37,7 +37,7 @@ below-rises l m b = go (decLt (l .from) (m .from)) (decLt (l .role) (m .role))
 below-self : {l : Link} → Below l l → ⊥
 below-self b = omega (arith, b .to-lt refl refl)
 
-below-both : {l m : Link} → Below l m → Below m l → ⊥
+pub below-both : {l m : Link} → Below l m → Below m l → ⊥
 below-both b c = below-self (below-trans b c)
 
 -- of two links one stands below the other, unless they are the same

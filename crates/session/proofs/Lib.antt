@@ -1,1 +1,4 @@
 pub mod Stores
+pub mod Bits
+pub mod Place
+pub mod Parts

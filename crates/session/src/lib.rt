@@ -8,16 +8,27 @@ use meaning::Side;
 use meaning::Step;
 use register::Reading;
 ghost use mathlib.Core.Path.{_≡_};
-ghost use mathlib.Core.Bool.{true};
+ghost use mathlib.Core.Bool.{true, _&&_};
 ghost use mathlib.Core.List.{_++_};
 ghost use Prim.Native.Nat.{_+_, _*_, _-_, _/_, _%_, _^_, _≤_, _<_};
-ghost use lib.Dec.{eqb};
+ghost use lib.Dec.{eqb, ltb};
 ghost use lib.ListN.{length, take};
 ghost use lib.Seq.{sets};
 ghost use Rattle.meaning.specs.Bytes.{bytes};
 ghost use Rattle.meaning.specs.Names.{has};
 ghost use Rattle.meaning.specs.Session.{withName, zeros};
+ghost use Rattle.meaning.specs.declared.Fact.{Fact};
+ghost use Rattle.meaning.specs.declared.Step.{Step};
+ghost use Rattle.meaning.specs.Refusal.{onCall};
+ghost use Rattle.meaning.specs.Register.{isFact};
+ghost use Rattle.meaning.specs.Session.{link, setFact, rewritten};
+ghost use Rattle.meaning.specs.Session.{openCall, editCall, undoCall, keepCall, noSteps, counted, bufferOpened, bufferAfter};
+ghost use Rattle.register.specs.Image.{Asked, Image, linkNo};
+ghost use Rattle.register.specs.Reading.{key};
 ghost use Rattle.session.specs.Moved.{movedUp, movedDown};
+ghost use Rattle.session.specs.Setting.{PlaceOf, bufferInserted, bufferRemoved, Ranged, SettingOf};
+ghost use Rattle.session.specs.Coded.{codeOf, decoded};
+ghost use Rattle.session.specs.Calls.{paper, paperEdit, wasBefore, anEdit, numbersAfter};
 
 // What a call hands back: the count of steps in use, or its refusal.
 pub enum Counted {
@@ -125,7 +136,12 @@ fn with_name(names: u64, name: usize, there: bool, adds: bool) -> u64
 }
 
 // Sets a name of an item to there or not, and says whether it was there.
-fn set_name(s: &mut [u8], item: usize, name: usize, adds: bool) -> bool {
+fn set_name(s: &mut [u8], item: usize, name: usize, adds: bool) -> bool
+    requires { ⌜ Asked (now s) (λ g. item < length (g .names)) ⌝ }
+    requires { ⌜ (name < 64) × (13 + 8 * item ≤ length (now s)) ⌝ }
+    ensures { λ r. ⌜ Image (now (s .entry)) (λ g. r ≡ isFact g (Fact.Name item name)) ⌝ }
+    ensures { λ _. ⌜ Image (now (s .entry)) (λ g. now (s .exit) ≡ rewritten (now (s .entry)) g (setFact adds (Fact.Name item name) g)) ⌝ }
+{
     let names = register::names_of(s, item);
     let there = has_name(names, name);
     put(
@@ -140,12 +156,18 @@ fn set_name(s: &mut [u8], item: usize, name: usize, adds: bool) -> bool {
 // ---- links
 
 // A link's number, that of its five bytes: it rises with (from, role, to).
-fn number_of(from: usize, role: usize, to: usize) -> usize {
+fn number_of(from: usize, role: usize, to: usize) -> usize
+    requires { ⌜ (from < 65536) × (role < 256) × (to < 65536) ⌝ }
+    ensures { λ r. ⌜ r ≡ key (link from role to) ⌝ }
+{
     (from * 256 + role) * 65536 + to
 }
 
 // The number of the k-th link.
-fn link_number(s: &[u8], items: usize, k: usize) -> usize {
+fn link_number(s: &[u8], items: usize, k: usize) -> usize
+    requires { ⌜ Asked (now s) (λ g. (items ≡ length (g .names)) × (k < length (g .links))) ⌝ }
+    ensures { λ r. ⌜ Image (now (s .entry)) (λ g. r ≡ key (linkNo g k)) ⌝ }
+{
     let from = register::from_of(s, items, k);
     let role = register::role_of(s, items, k);
     let to = register::to_of(s, items, k);
@@ -153,7 +175,10 @@ fn link_number(s: &[u8], items: usize, k: usize) -> usize {
 }
 
 // How many links stand below a number.
-fn place_of(s: &[u8], items: usize, links: usize, number: usize) -> usize {
+fn place_of(s: &[u8], items: usize, links: usize, number: usize) -> usize
+    requires { ⌜ Asked (now s) (λ g. (items ≡ length (g .names)) × (links ≡ length (g .links))) ⌝ }
+    ensures { λ r. ⌜ Image (now (s .entry)) (λ g. PlaceOf (g .links) number r) ⌝ }
+{
     let mut k = 0;
     while k < links {
         if number <= link_number(s, items, k) {
@@ -165,7 +190,10 @@ fn place_of(s: &[u8], items: usize, links: usize, number: usize) -> usize {
 }
 
 // Whether the link at that place has the number.
-fn stands_at(s: &[u8], items: usize, links: usize, k: usize, number: usize) -> bool {
+fn stands_at(s: &[u8], items: usize, links: usize, k: usize, number: usize) -> bool
+    requires { ⌜ Asked (now s) (λ g. (items ≡ length (g .names)) × (links ≡ length (g .links))) ⌝ }
+    ensures { λ r. ⌜ Image (now (s .entry)) (λ g. r ≡ (ltb k (length (g .links)) && eqb (key (linkNo g k)) number)) ⌝ }
+{
     if k < links {
         return link_number(s, items, k) == number;
     }
@@ -173,25 +201,52 @@ fn stands_at(s: &[u8], items: usize, links: usize, k: usize, number: usize) -> b
 }
 
 // Puts a link before the k-th.
-fn insert(s: &mut [u8], items: usize, links: usize, k: usize, number: usize) {
+fn insert(s: &mut [u8], items: usize, links: usize, k: usize, from: usize, role: usize, to: usize)
+    requires { ⌜ Asked (now s) (λ g. (items ≡ length (g .names)) × (links ≡ length (g .links))) ⌝ }
+    requires { ⌜ (k ≤ links) × (links < 4096) × (12 + 8 * items + 5 * links ≤ length (now s)) ⌝ }
+    requires { ⌜ (from < 65536) × (role < 256) × (to < 65536) ⌝ }
+    ensures { λ _. ⌜ Image (now (s .entry)) (λ g. now (s .exit) ≡ bufferInserted (now (s .entry)) k (link from role to) g) ⌝ }
+{
+    let number = number_of(from, role, to);
     let start = 7 + 8 * items;
-    move_up(s, start + 5 * k, start + 5 * links);
-    put(s, start + 5 * k, 5, number);
+    let end = start + 5 * links;
+    let at = start + 5 * k;
+    move_up(s, at, end);
+    put(s, at, 5, number);
     put(s, start - 2, 2, links + 1);
-    put(s, 1, 2, start + 5 * links + 2);
+    put(s, 1, 2, end + 2);
 }
 
 // Takes the k-th link away.
-fn remove(s: &mut [u8], items: usize, links: usize, k: usize) {
+fn remove(s: &mut [u8], items: usize, links: usize, k: usize)
+    requires { ⌜ Asked (now s) (λ g. (items ≡ length (g .names)) × (links ≡ length (g .links))) ⌝ }
+    requires { ⌜ (k < links) × (links ≤ 4096) × (7 + 8 * items + 5 * links ≤ length (now s)) ⌝ }
+    ensures { λ _. ⌜ Image (now (s .entry)) (λ g. now (s .exit) ≡ bufferRemoved (now (s .entry)) k g) ⌝ }
+{
     let start = 7 + 8 * items;
-    move_down(s, start + 5 * k, start + 5 * links);
-    put(s, start + 5 * links - 5, 5, 0);
+    let end = start + 5 * links;
+    let at = start + 5 * k;
+    move_down(s, at, end);
+    put(s, end - 5, 5, 0);
     put(s, start - 2, 2, links - 1);
-    put(s, 1, 2, start + 5 * links - 8);
+    put(s, 1, 2, end - 8);
 }
 
 // Sets a link to there or not.
-fn set_link(s: &mut [u8], items: usize, links: usize, number: usize, adds: bool) -> Setting {
+fn set_link(
+    s: &mut [u8],
+    items: usize,
+    links: usize,
+    from: usize,
+    role: usize,
+    to: usize,
+    adds: bool,
+) -> Setting
+    requires { ⌜ Asked (now s) (λ g. (items ≡ length (g .names)) × (links ≡ length (g .links))) ⌝ }
+    requires { ⌜ (from < items) × (role ≤ 31) × (to < items) × (items ≤ 512) × (links ≤ 4096) × (7 + 8 * items + 5 * links ≤ length (now s)) ⌝ }
+    ensures { λ r. ⌜ SettingOf (now (s .entry)) (Fact.Link from role to) adds (now (s .exit)) r ⌝ }
+{
+    let number = number_of(from, role, to);
     let k = place_of(s, items, links, number);
     if stands_at(s, items, links, k, number) {
         if adds {
@@ -209,19 +264,24 @@ fn set_link(s: &mut [u8], items: usize, links: usize, number: usize, adds: bool)
     if s.len() < 12 + 8 * items + 5 * links {
         return Setting::NoPlace;
     }
-    insert(s, items, links, k, number);
+    insert(s, items, links, k, from, role, to);
     Setting::Done { was: false }
 }
 
 // ---- the core
 
 // Sets a fact that is in range to there or not.
-fn set_fact(s: &mut [u8], items: usize, links: usize, fact: Fact, adds: bool) -> Setting {
+fn set_fact(s: &mut [u8], items: usize, links: usize, fact: Fact, adds: bool) -> Setting
+    requires { ⌜ Asked (now s) (λ g. (items ≡ length (g .names)) × (links ≡ length (g .links))) ⌝ }
+    requires { ⌜ Ranged items fact ⌝ }
+    requires { ⌜ (items ≤ 512) × (links ≤ 4096) × (7 + 8 * items + 5 * links ≤ length (now s)) ⌝ }
+    ensures { λ r. ⌜ SettingOf (now (s .entry)) fact adds (now (s .exit)) r ⌝ }
+{
     match fact {
         Fact::Name { item, name } => Setting::Done {
             was: set_name(s, item, name, adds),
         },
-        Fact::Link { from, role, to } => set_link(s, items, links, number_of(from, role, to), adds),
+        Fact::Link { from, role, to } => set_link(s, items, links, from, role, to, adds),
     }
 }
 
