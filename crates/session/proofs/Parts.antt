@@ -20,7 +20,7 @@ use Rattle.session.specs.Setting.{insertedAt, removedAt, bufferInserted,
 
 -- ---- stores between parts
 
-splice : (p : ℕ) (a b c r : List ℕ) → length a ≡ p → length b ≡ length c → sets (a ++ (b ++ r)) p c ≡ a ++ (c ++ r)
+pub splice : (p : ℕ) (a b c r : List ℕ) → length a ≡ p → length b ≡ length c → sets (a ++ (b ++ r)) p c ≡ a ++ (c ++ r)
 splice p a b c r e d =
     let l : length (a ++ (b ++ r)) ≡ p + (length b + length r) = length-append a (b ++ r) ∙ omega (arith, length-append b r) in
     let n : p + length c ≡ length a + length b = omega arith in
@@ -64,14 +64,14 @@ moved-down a x y z p e la lx le =
 
 -- ---- the parts of an image
 
-abbrev version : List ℕ
+abbrev pub version : List ℕ
 version = 1 ∷ []
 
-abbrev items : List ℕ → List ℕ
+abbrev pub items : List ℕ → List ℕ
 items names = bytes 2 (length names) ++ itemsBytes names
 
 -- the image of so many items and links, whose body is so long, and what stands behind it
-abbrev parts : ℕ → List ℕ → ℕ → List ℕ → List ℕ → List ℕ
+abbrev pub parts : ℕ → List ℕ → ℕ → List ℕ → List ℕ → List ℕ
 parts len names m links r = version ++ (bytes 2 len ++ (items names ++ (bytes 2 m ++ (links ++ r))))
 
 headed-parts : (body : List ℕ) → headed body ≡ version ++ bytes 2 (length body) ++ body
@@ -81,7 +81,7 @@ headed-parts body = refl
 regroup : (v n a b c d r : List ℕ) → v ++ n ++ (a ++ b ++ c ++ d) ++ r ≡ v ++ (n ++ ((a ++ b) ++ (c ++ (d ++ r))))
 regroup v n a b c d r = simp append-assoc
 
-image-parts : (g : Register) (r : List ℕ)
+pub image-parts : (g : Register) (r : List ℕ)
     → encode g ++ r ≡ parts (4 + 8 * length (g .names) + 5 * length (g .links)) (g .names) (length (g .links)) (linksBytes (g .links)) r
 unfolding encode
 image-parts g r =
@@ -92,17 +92,17 @@ image-parts g r =
     ∙ regroup version (bytes 2 (4 + 8 * length (g .names) + 5 * length (g .links))) (bytes 2 (length (g .names))) (itemsBytes (g .names))
     (bytes 2 (length (g .links))) (linksBytes (g .links)) r
 
-items-append : (xs ys : List ℕ) → itemsBytes (xs ++ ys) ≡ itemsBytes xs ++ itemsBytes ys
+pub items-append : (xs ys : List ℕ) → itemsBytes (xs ++ ys) ≡ itemsBytes xs ++ itemsBytes ys
 unfolding itemsBytes
 items-append [] ys = refl
 items-append (x ∷ xs) ys = ap (λ (z : List ℕ). bytes 8 x ++ z) (items-append xs ys) ∙ sym (append-assoc (bytes 8 x) (itemsBytes xs) (itemsBytes ys))
 
-links-append : (xs ys : List Link) → linksBytes (xs ++ ys) ≡ linksBytes xs ++ linksBytes ys
+pub links-append : (xs ys : List Link) → linksBytes (xs ++ ys) ≡ linksBytes xs ++ linksBytes ys
 unfolding linksBytes
 links-append [] ys = refl
 links-append (x ∷ xs) ys = ap (λ (z : List ℕ). linkBytes x ++ z) (links-append xs ys) ∙ sym (append-assoc (linkBytes x) (linksBytes xs) (linksBytes ys))
 
-items-long : (names : List ℕ) → length (items names) ≡ 2 + 8 * length names
+pub items-long : (names : List ℕ) → length (items names) ≡ 2 + 8 * length names
 items-long names = length-append (bytes 2 (length names)) (itemsBytes names) ∙ omega (arith, bytes-length 2 (length names), items-length names)
 
 -- a link's five bytes are those of its number
@@ -139,7 +139,7 @@ module _ (n m k : ℕ) (a b c d d′ b′ : List ℕ) (la : length a ≡ 1) (lb 
         length-append (a ++ b ++ c ++ d) x
         ∙ omega (arith, length-append (a ++ b ++ c) d, length-append (a ++ b) c, length-append a b)
 
-    inserted : (w : List ℕ) → length w ≡ 5 → 5 ≤ length z
+    pub inserted : (w : List ℕ) → length w ≡ 5 → 5 ≤ length z
         → sets (sets (sets (movedUp (a ++ (b ++ (c ++ (d ++ ((x ++ y) ++ z))))) (7 + 8 * n + 5 * k) (7 + 8 * n + 5 * m)) (7 + 8 * n + 5 * k) w) (5 + 8 * n) d′) 1 b′
         ≡ a ++ (b′ ++ (c ++ (d′ ++ ((x ++ (w ++ y)) ++ drop 5 z))))
     inserted w lw lz =
@@ -155,7 +155,7 @@ module _ (n m k : ℕ) (a b c d d′ b′ : List ℕ) (la : length a ≡ 1) (lb 
         ∙ counts ((x ++ (w ++ y)) ++ drop 5 z)
 
   module _ (x o y z : List ℕ) (lx : length x ≡ 5 * k) (lo : length o ≡ 5) (ly : 5 * k + 5 + length y ≡ 5 * m) where
-    removed : (w : List ℕ) → length w ≡ 5
+    pub removed : (w : List ℕ) → length w ≡ 5
         → sets (sets (sets (movedDown (a ++ (b ++ (c ++ (d ++ ((x ++ (o ++ y)) ++ z))))) (7 + 8 * n + 5 * k) (7 + 8 * n + 5 * m)) (7 + 8 * n + 5 * m - 5) w) (5 + 8 * n) d′) 1 b′
         ≡ a ++ (b′ ++ (c ++ (d′ ++ ((x ++ y) ++ (w ++ z)))))
     removed w lw =
