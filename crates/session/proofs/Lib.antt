@@ -3,3 +3,4 @@ pub mod Bits
 pub mod Place
 pub mod Parts
 pub mod Changes
+pub mod Set
