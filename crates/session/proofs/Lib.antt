@@ -4,3 +4,4 @@ pub mod Place
 pub mod Parts
 pub mod Changes
 pub mod Set
+pub mod Chains
