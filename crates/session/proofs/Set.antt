@@ -6,7 +6,7 @@ use mathlib.Core.List.{List, [], _∷_, _++_, append-nil}
 use mathlib.Core.Option.{none as nowhere}
 use Prim.Native.Nat.{ℕ, suc, _+_, _*_, _-_, _≤_, _<_, max}
 use native.Mathlib.Omega.{arith}
-use lib.Dec.{T, ltb, leb, eqb}
+use lib.Dec.{T, ltb, leb, eqb, ltb→lt}
 use lib.ListN.{length, getD, set, take, drop, length-append, length-take, length-drop}
 use lib.Seq.{length-take-le}
 use Rattle.meaning.specs.declared.Fact.{Fact}
@@ -16,13 +16,14 @@ use Rattle.meaning.specs.Bytes.{Bytes}
 use Rattle.meaning.specs.Names.{has}
 use Rattle.meaning.specs.Register.{Link, Register, anyLink, isFact, mostLinks, encode, readBuffer, wellFormed}
 use Rattle.meaning.specs.Session.{link, zeros, withName, withLink, insert, without, setFact, rewritten, noPlace}
-use Rattle.meaning.proofs.Tests.{is-true, true-false, neither, or-right}
+use Rattle.meaning.proofs.Tests.{holds, is-true, true-false, neither, or-right, and-both}
 use Rattle.meaning.proofs.Reading.{good-inj, at-most, not-le, below, not-below}
 use Rattle.meaning.proofs.Image.{image-length, read-buffer, fits, image-fits}
 use Rattle.meaning.proofs.SessionFacts.{Sounds, set-same}
 use Rattle.meaning.proofs.SessionLinks.{among, Sound}
 use Rattle.register.specs.Image.{Asked, Image, noLink, linkNo}
 use Rattle.register.specs.Reading.{key}
+use Rattle.session.specs.declared.Setting.{Setting}
 use Rattle.session.specs.declared.Setting.the-variants.{Done, NoPlace}
 use Rattle.session.specs.Setting.{PlaceOf, insertedAt, removedAt, bufferInserted, bufferRemoved, SettingOf}
 use Rattle.session.proofs.Place.{place-among, place-insert, place-without}
@@ -151,3 +152,59 @@ name-was item name there r g d h = h ∙ ap (λ (z : ℕ). has z name) d
 pub name-placed : (s : List ℕ) (g : Register) (v : Bool) (i k : ℕ) → noPlace s g v (nameOn i k) ≡ false
 unfolding noPlace
 name-placed s g v i k = refl
+
+-- ---- a link, as the code comes to it
+
+module _ (s : List ℕ) (by : Bytes s) (a r c items links number k : ℕ) (there adds : Bool)
+    (pre : Asked s (λ g. (items ≡ length (g .names)) × (links ≡ length (g .links)))) (from : a < items) (role : r ≤ 31) (to : c < items)
+    (en : number ≡ key (link a r c)) (pl : Image s (λ g. PlaceOf (g .links) number k))
+    (st : Image s (λ g. there ≡ (ltb k (length (g .links)) && eqb (key (linkNo g k)) number))) where
+  sound : (g : Register) → readBuffer s ≡ good g → Sound (length (g .names)) (link a r c)
+  sound g e = let q = asked-is pre g e .0 in (omega arith, role, omega arith)
+
+  place : (g : Register) → readBuffer s ≡ good g → PlaceOf (g .links) (key (link a r c)) k
+  place g e = subst (λ (z : ℕ). PlaceOf (g .links) z k) en (pl g e)
+
+  at : (g : Register) → readBuffer s ≡ good g → At s by a r c g k ≡ there
+  at g e = sym (st g e ∙ ap (λ (z : ℕ). ltb k (length (g .links)) && eqb (key (linkNo g k)) z) en)
+
+  pub stands-within : there ≡ true → k < links
+  stands-within d =
+      let g = pre .register in
+      let e = pre .read in
+      let t = and-both (ltb k (length (g .links))) (eqb (key (linkNo g k)) (key (link a r c))) (holds (at g e ∙ d)) in
+      omega (arith, ltb→lt k (length (g .links)) (t .0), pre .holds .1)
+
+  pub place-within : k ≤ links
+  place-within = omega (arith, place (pre .register) (pre .read) .within, pre .holds .1)
+
+  pub set-stays : (v : Bool) → there ≡ v → adds ≡ v → SettingOf s (linkOf a r c) adds s (Done v)
+  set-stays v d i g e = stays s by a r c g e (sound g e) k (place g e) v adds (at g e ∙ d) i
+
+  pub set-goes : (t : List ℕ) → there ≡ true → adds ≡ false → Image s (λ g. t ≡ bufferRemoved s k g) → SettingOf s (linkOf a r c) adds t (Done true)
+  set-goes t d i b g e =
+      goes s by a r c g e (sound g e) k (place g e) adds t (at g e ∙ d) i (omega (arith, stands-within d, asked-is pre g e .1)) (b g e)
+
+  pub set-full : there ≡ false → adds ≡ true → 4096 ≤ links → SettingOf s (linkOf a r c) adds s NoPlace
+  set-full d i h g e = full s by a r c g e (sound g e) k (place g e) adds (at g e ∙ d) i (omega (arith, asked-is pre g e .1))
+
+  pub set-tight : there ≡ false → adds ≡ true → links < 4096 → length s < 12 + 8 * items + 5 * links → SettingOf s (linkOf a r c) adds s NoPlace
+  set-tight d i h room g e =
+      let q = asked-is pre g e in
+      tight s by a r c g e (sound g e) k (place g e) adds (at g e ∙ d) i (omega (arith, q .1)) (omega (arith, q .0, q .1))
+
+  pub set-comes : (t : List ℕ) → there ≡ false → adds ≡ true → links < 4096 → 12 + 8 * items + 5 * links ≤ length s
+      → Image s (λ g. t ≡ bufferInserted s k (link a r c) g) → SettingOf s (linkOf a r c) adds t (Done false)
+  set-comes t d i h room b g e =
+      let q = asked-is pre g e in
+      comes s by a r c g e (sound g e) k (place g e) adds t (at g e ∙ d) i (omega (arith, q .1)) (omega (arith, q .0, q .1)) (b g e)
+
+-- ---- either fact
+
+pub link-set : (s t : List ℕ) (f h : Fact) (v : Bool) (r : Setting) → f ≡ h → SettingOf s h v t r → SettingOf s f v t r
+link-set s t f h v r e = subst (λ (z : Fact). SettingOf s z v t r) (sym e)
+
+pub name-set : (s t : List ℕ) (f : Fact) (i k : ℕ) (v r : Bool) → f ≡ nameOn i k → Image s (λ g. r ≡ isFact g (nameOn i k))
+    → Image s (λ g. t ≡ rewritten s g (setFact v (nameOn i k) g)) → SettingOf s f v t (Done r)
+name-set s t f i k v r e was buffer =
+    subst (λ (z : Fact). SettingOf s z v t (Done r)) (sym e) (λ g d. (name-placed s g v i k, was g d, buffer g d))
