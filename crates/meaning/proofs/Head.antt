@@ -24,7 +24,7 @@ module _ (s body : List ℕ) where
   body-stands h =
       subst (λ (z : ℕ). Stands s z body) (omega (arith, bytes-length 2 (length body))) (stands-right s 0 (1 ∷ bytes 2 (length body)) body h)
 
-  length-stands : Stands s 0 (headed body) → Stands s 1 (bytes 2 (length body))
+  pub length-stands : Stands s 0 (headed body) → Stands s 1 (bytes 2 (length body))
   unfolding headed
   length-stands h = stands-right s 0 (1 ∷ []) (bytes 2 (length body)) (stands-left s 0 (1 ∷ bytes 2 (length body)) body h)
 

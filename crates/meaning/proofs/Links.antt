@@ -62,7 +62,7 @@ targets-links ls i r y = (target-link ls i r y, link-target ls i r y)
 
 -- ---- facts
 
-same-link : (l m : Link) → T (sameLink l m) → l ≡ m
+pub same-link : (l m : Link) → T (sameLink l m) → l ≡ m
 same-link l m t =
     let b = and-both (eqb (l .from) (m .from) && eqb (l .role) (m .role)) (eqb (l .to) (m .to)) t in
     let c = and-both (eqb (l .from) (m .from)) (eqb (l .role) (m .role)) (b .0) in
@@ -71,12 +71,12 @@ same-link l m t =
     let s = eqb→eq (l .to) (m .to) (b .1) in
     λ d. record { from = p d; role = q d; to = s d }
 
-link-same : (l : Link) → T (sameLink l l)
+pub link-same : (l : Link) → T (sameLink l l)
 link-same l =
     let q = both-and (eqb (l .from) (l .from)) (eqb (l .role) (l .role)) (eqb-refl (l .from)) (eqb-refl (l .role)) in
     both-and (eqb (l .from) (l .from) && eqb (l .role) (l .role)) (eqb (l .to) (l .to)) q (eqb-refl (l .to))
 
-any-link : (p : Link → Bool) (ls : List Link) → anyLink p ls ≡ any p ls
+pub any-link : (p : Link → Bool) (ls : List Link) → anyLink p ls ≡ any p ls
 unfolding anyLink any
 any-link p [] = refl
 any-link p (l ∷ ls) = ap (λ (b : Bool). p l || b) (any-link p ls)
@@ -95,12 +95,12 @@ fact-name g i k = refl
 -- ---- in a well-formed register they rise
 
 -- l stands before m
-record Below (l m : Link) : Type 0 where
-  from-le : l .from ≤ m .from
-  role-le : l .from ≡ m .from → l .role ≤ m .role
-  to-lt : l .from ≡ m .from → l .role ≡ m .role → l .to < m .to
+pub record Below (l m : Link) : Type 0 where
+  pub from-le : l .from ≤ m .from
+  pub role-le : l .from ≡ m .from → l .role ≤ m .role
+  pub to-lt : l .from ≡ m .from → l .role ≡ m .role → l .to < m .to
 
-below-trans : {l m n : Link} → Below l m → Below m n → Below l n
+pub below-trans : {l m n : Link} → Below l m → Below m n → Below l n
 below-trans p q = record {
   from-le = omega arith;
   role-le = λ e. omega (arith, p .role-le (omega arith), q .role-le (omega arith));
@@ -116,7 +116,7 @@ place a b c t = go (or-cases (ltb a b) (eqb a b && c) t)
     go (inl h) = let l = ltb→lt a b h in (omega arith, λ e. absurd (omega arith))
     go (inr h) = let p = and-both (eqb a b) c h in (le-of-eq (eqb→eq a b (p .0)), λ e. p .1)
 
-rises-below : (l m : Link) → T (rises l m) → Below l m
+pub rises-below : (l m : Link) → T (rises l m) → Below l m
 rises-below l m t = record { from-le = p .0; role-le = λ e. q e .0; to-lt = λ e d. ltb→lt (l .to) (m .to) (q e .1 d) }
   where
     p : (l .from ≤ m .from) × (l .from ≡ m .from → T (ltb (l .role) (m .role) || eqb (l .role) (m .role) && ltb (l .to) (m .to)))
@@ -126,14 +126,14 @@ rises-below l m t = record { from-le = p .0; role-le = λ e. q e .0; to-lt = λ 
     q e = place (l .role) (m .role) (ltb (l .to) (m .to)) (p .1 e)
 
 -- the links after l are above it
-rest : (n : ℕ) (before : Option Link) (l : Link) (ls : List Link) → T (linksOf n before (l ∷ ls)) → T (above before l) × T (linksOf n (some l) ls)
+pub rest : (n : ℕ) (before : Option Link) (l : Link) (ls : List Link) → T (linksOf n before (l ∷ ls)) → T (above before l) × T (linksOf n (some l) ls)
 unfolding linksOf
 rest n before l ls t =
     let e = ltb (l .from) n && leb (l .role) 31 && ltb (l .to) n in
     let p = and-both (e && above before l) (linksOf n (some l) ls) t in
     (and-both e (above before l) (p .0) .1, p .1)
 
-all-below : (n : ℕ) (l : Link) (ls : List Link) → T (linksOf n (some l) ls) → (m : Link) → List·Memᴰ m ls → Below l m
+pub all-below : (n : ℕ) (l : Link) (ls : List Link) → T (linksOf n (some l) ls) → (m : Link) → List·Memᴰ m ls → Below l m
 all-below n l [] t m d = elim d [ ]
 all-below n l (k ∷ ks) t m d =
     let p = rest n (some l) k ks t in

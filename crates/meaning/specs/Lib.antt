@@ -14,6 +14,8 @@ pub mod Message
 pub mod Shown
 pub mod InPlace
 pub mod Rows
+pub mod Session
 pub mod Calls
+pub mod Demand3
 pub mod Sheet
 pub mod Slips

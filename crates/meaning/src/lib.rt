@@ -20,3 +20,9 @@ pub enum Fact {
     Name { item: usize, name: usize },
     Link { from: usize, role: usize, to: usize },
 }
+
+// A step of a session: its fact, "and whether that fact was there before".
+pub struct Step {
+    pub fact: Fact,
+    pub was: bool,
+}

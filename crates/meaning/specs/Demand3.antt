@@ -1,0 +1,43 @@
+-- Demand 3: what a session shows after any history of calls from an opened register on. proofs/History.antt proves it of every history.
+-- It rules out an unchanging image, and a session that applies its first edit and only counts the rest: the facts are those of all accepted edits
+-- not taken back, each of which decides its fact (proofs/History.antt, `edit-shows`), and the register with these facts is the one in the buffer.
+-- Assumes nothing.
+use mathlib.Core.Path.{_≡_}
+use mathlib.Core.Bool.{Bool, true, false}
+use mathlib.Core.List.{List, _++_}
+use Prim.Native.Nat.{ℕ, _-_, _≤_, _<_}
+use lib.Dec.{T}
+use lib.ListN.{length}
+use Rattle.meaning.specs.declared.Fact.{Fact}
+use Rattle.meaning.specs.Refusal.{Answer, good}
+use Rattle.meaning.specs.Tree.{Concept, nodes}
+use Rattle.meaning.specs.Register.{Register, isFact, judged, wellFormed, encode}
+use Rattle.meaning.specs.Degree.{answered}
+use Rattle.meaning.specs.Requirement.{Requirement, member}
+use Rattle.meaning.specs.Message.{Part, readRequirement}
+use Rattle.meaning.specs.Shown.{degreeMap, yesMap}
+use Rattle.meaning.specs.Calls.{readPlain, degreeCall, memberCall, decide}
+use Rattle.meaning.specs.Session.{Facts, zeros, imageOf}
+
+-- a register of n items that has these facts
+pub record RegisterOf (n : ℕ) (facts : Facts) (g : Register) : Type 0 where
+  pub well : T (wellFormed g)
+  pub items : length (g .names) ≡ n
+  pub has : (f : Fact) → isFact g f ≡ facts f
+
+-- a buffer shows these facts of n items
+pub record Shows (n : ℕ) (facts : Facts) (buffer : List ℕ) : Type 0 where
+  pub register : Register
+  pub fits : RegisterOf n facts register
+  -- the image is the encoding of the register with these facts, of which there is one
+  pub image : imageOf buffer ≡ encode register
+  pub only : (g : Register) → RegisterOf n facts g → g ≡ register
+  -- behind it stand zeros: opening cleared them, an added link takes 5 of them, and one taken away gives them back
+  pub behind : buffer ≡ encode register ++ zeros (length buffer - length (encode register))
+  -- the degree, the yes or no, and the map asked of the image are those over these facts
+  pub degree : (message : List ℕ) (t : Concept) (item room : ℕ) → readPlain message ≡ good t → item < n → nodes t ≤ room
+      → degreeCall (imageOf buffer) message item room
+      ≡ good (record { degree = answered (judged register) t item; map = degreeMap (judged register) t item })
+  pub decision : (message : List ℕ) (q : Requirement) (parts : List Part) (item room : ℕ) → readRequirement message ≡ good (q, parts)
+      → item < n → nodes q ≤ room
+      → memberCall (imageOf buffer) message item room ≡ good (decide (member (judged register) q item) (yesMap (judged register) q item))
