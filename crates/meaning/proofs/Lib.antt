@@ -2,7 +2,6 @@
 pub mod Tests
 pub mod Names
 pub mod Rising
-
 -- Reading and writing: laws, register images, requirement messages
 pub mod Reading
 pub mod Head
@@ -10,7 +9,6 @@ pub mod Image
 pub mod MessageTree
 pub mod MessageLabel
 pub mod Message
-
 -- Whole maps, subsumption and the reduced form
 pub mod Whole
 pub mod Under
@@ -18,7 +16,6 @@ pub mod Subsumes
 pub mod Keep
 pub mod Reduced
 pub mod Apart
-
 -- The degree
 pub mod Best
 pub mod Fraction
@@ -33,10 +30,8 @@ pub mod Margin
 pub mod One
 pub mod Written
 pub mod InPlace
-
 -- Trees as rows
 pub mod Rows
-
 -- Registers as graphs, membership, and the maps shown
 pub mod Links
 pub mod Member
@@ -45,7 +40,6 @@ pub mod Picked
 pub mod Kept
 pub mod Shown
 pub mod YesShown
-
 -- Sessions, and demand 3
 pub mod SessionNames
 pub mod SessionLinks
@@ -53,7 +47,6 @@ pub mod SessionFacts
 pub mod SessionCalls
 pub mod History
 pub mod Demand3
-
 -- Examples
 pub mod Sheet
 pub mod Orders

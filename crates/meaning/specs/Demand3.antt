@@ -1,6 +1,6 @@
--- Demand 3: what a session shows after any history of calls from an opened register on. proofs/History.antt proves it of every history.
+-- Demand 3: what a session shows after any history of calls from an opened register on. proofs/Demand3.antt proves it of every history.
 -- It rules out an unchanging image, and a session that applies its first edit and only counts the rest: the facts are those of all accepted edits
--- not taken back, each of which decides its fact (proofs/History.antt, `edit-shows`), and the register with these facts is the one in the buffer.
+-- not taken back, each of which decides its fact (proofs/Demand3.antt, `edit-shows`), and the register with these facts is the one in the buffer.
 -- Assumes nothing.
 use mathlib.Core.Path.{_≡_}
 use mathlib.Core.Bool.{Bool, true, false}

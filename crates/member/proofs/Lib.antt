@@ -1,0 +1,10 @@
+pub mod Bits
+pub mod Fill
+pub mod Targets
+pub mod Search
+pub mod Inside
+pub mod Children
+pub mod Trail
+pub mod Cases
+pub mod Owners
+pub mod Messages

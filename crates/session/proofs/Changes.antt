@@ -1,0 +1,204 @@
+-- What the stores of the code make of a buffer that begins with an image: the image of the changed register.
+-- Assumes nothing.
+use mathlib.Core.Path.{_≡_, refl, sym, ap, ap₂, _∙_, subst}
+use mathlib.Core.List.{List, [], _∷_, _++_, append-assoc, append-nil}
+use Prim.Native.Nat.{ℕ, zero, suc, _+_, _*_, _-_, _≤_, _<_, max}
+use native.Mathlib.Omega.{arith}
+use lib.Dec.{T}
+use lib.ListN.{length, getD, set, take, drop, length-append, length-take, length-drop, length-set, length-replicate, take-append-drop}
+use lib.Seq.{sets, take-append-seam, drop-drop, drop-cons, length-take-le, set-split, split-at}
+use Rattle.meaning.specs.Refusal.{good}
+use Rattle.meaning.specs.Bytes.{number, bytes, Bytes}
+use Rattle.meaning.specs.Register.{Link, Register, linkBytes, itemsBytes, linksBytes, encode, readBuffer, wellFormed}
+use Rattle.meaning.specs.Session.{zeros, rewritten}
+use Rattle.meaning.proofs.Reading.{bytes-length, Stands, stands-taken}
+use Rattle.meaning.proofs.Image.{items-length, links-length, link-length, image-length, read-buffer, image-fits}
+use Rattle.register.specs.Image.{noLink}
+use Rattle.register.specs.Reading.{key}
+use Rattle.session.specs.Moved.{movedUp, movedDown}
+use Rattle.session.specs.Setting.{insertedAt, removedAt, bufferInserted, bufferRemoved}
+use Rattle.session.proofs.Parts.{version, items, parts, splice, image-parts, items-append, links-append, items-long, number-bytes, inserted, removed}
+
+-- one list of zeros
+zero-bytes : bytes 5 0 ≡ zeros 5
+unfolding bytes
+zero-bytes = refl
+
+module _ (s : List ℕ) (g : Register) (b : Bytes s) (e : readBuffer s ≡ good g) where
+  abbrev n : ℕ
+  n = length (g .names)
+
+  abbrev m : ℕ
+  m = length (g .links)
+
+  abbrev L : ℕ
+  L = length (encode g)
+
+  abbrev behind : List ℕ
+  behind = drop L s
+
+  pub image-first : s ≡ encode g ++ behind
+  image-first =
+      let q = read-buffer s g b e in
+      let t : take L s ≡ encode g = stands-taken s 0 (encode g) (q .1) (omega (arith, q .2)) in
+      sym (take-append-drop L s) ∙ ap (λ (z : List ℕ). z ++ behind) t
+
+  in-parts : s ≡ parts (4 + 8 * n + 5 * m) (g .names) m (linksBytes (g .links)) behind
+  in-parts = image-first ∙ image-parts g behind
+
+  -- nothing changes
+  pub unchanged : rewritten s g g ≡ s
+  unfolding rewritten
+  unchanged =
+      let d : 0 ≡ L - L = omega arith in
+      let f : L ≡ max L L = omega arith in
+      sym (image-first ∙ ap (λ (z : List ℕ). z ++ behind) (sym (append-nil (encode g)))
+      ∙ ap₂ (λ (i j : ℕ). encode g ++ zeros i ++ drop j s) d f)
+
+  -- ---- a link more
+
+  module _ (k : ℕ) (l : Link) (within : k ≤ m) where
+    abbrev X : List ℕ
+    X = linksBytes (take k (g .links))
+
+    abbrev Y : List ℕ
+    Y = linksBytes (drop k (g .links))
+
+    x-long : length X ≡ 5 * k
+    x-long = links-length (take k (g .links)) ∙ omega (arith, length-take-le k (g .links) within)
+
+    y-long : length Y ≡ 5 * (m - k)
+    y-long = links-length (drop k (g .links)) ∙ omega (arith, length-drop k (g .links))
+
+    x-y : linksBytes (g .links) ≡ X ++ Y
+    x-y = ap linksBytes (sym (take-append-drop k (g .links))) ∙ links-append (take k (g .links)) (drop k (g .links))
+
+    more-links : length (insertedAt k l g .links) ≡ m + 1
+    more-links =
+        length-append (take k (g .links)) (l ∷ drop k (g .links))
+        ∙ omega (arith, length-take-le k (g .links) within, length-drop k (g .links))
+
+    link-between : linksBytes (insertedAt k l g .links) ≡ X ++ (linkBytes l ++ Y)
+    unfolding linksBytes
+    link-between = links-append (take k (g .links)) (l ∷ drop k (g .links))
+
+    pub insert-law : (number q c len : ℕ) → number ≡ key l → l .role < 256 → l .to < 65536 → q ≡ 5 + 8 * n → c ≡ m + 1 → len ≡ 9 + 8 * n + 5 * m
+        → 12 + 8 * n + 5 * m ≤ length s
+        → sets (sets (sets (movedUp s (7 + 8 * n + 5 * k) (7 + 8 * n + 5 * m)) (7 + 8 * n + 5 * k) (bytes 5 number)) q (bytes 2 c)) 1 (bytes 2 len)
+        ≡ bufferInserted s k l g
+    insert-law number q c len en hr ht eq ec el room =
+        let d : c ≡ length (insertedAt k l g .links) = omega (arith, more-links) in
+        let f : len ≡ 4 + 8 * n + 5 * length (insertedAt k l g .links) = omega (arith, more-links) in
+        let i = image-length g in
+        let w : bytes 5 number ≡ linkBytes l = ap (bytes 5) en ∙ number-bytes l hr ht in
+        let start : s ≡ version ++ (bytes 2 (4 + 8 * n + 5 * m) ++ (items (g .names) ++ (bytes 2 m ++ ((X ++ Y) ++ behind)))) =
+        in-parts ∙ ap (λ (z : List ℕ). parts (4 + 8 * n + 5 * m) (g .names) m z behind) x-y in
+        let stored = inserted n m k version (bytes 2 (4 + 8 * n + 5 * m)) (items (g .names)) (bytes 2 m) (bytes 2 c) (bytes 2 len)
+        refl (bytes-length 2 (4 + 8 * n + 5 * m)) (bytes-length 2 len) (items-long (g .names)) (bytes-length 2 m) (bytes-length 2 c)
+        X Y behind x-long (omega (arith, y-long)) (linkBytes l) (link-length l) (omega (arith, length-drop L s)) in
+        let end : drop 5 behind ≡ drop (L + 5) s = drop-drop 5 L s in
+        ap₂ (λ (u : List ℕ) (v : ℕ). sets (sets (sets (movedUp s (7 + 8 * n + 5 * k) (7 + 8 * n + 5 * m)) (7 + 8 * n + 5 * k) u) v (bytes 2 c)) 1 (bytes 2 len)) w eq
+        ∙ ap (λ (u : List ℕ). sets (sets (sets (movedUp u (7 + 8 * n + 5 * k) (7 + 8 * n + 5 * m)) (7 + 8 * n + 5 * k) (linkBytes l)) (5 + 8 * n) (bytes 2 c)) 1 (bytes 2 len)) start
+        ∙ stored
+        ∙ ap₂ (λ (u v : ℕ). parts u (g .names) v (X ++ (linkBytes l ++ Y)) (drop 5 behind)) f d
+        ∙ ap₂ (λ (u v : List ℕ). parts (4 + 8 * n + 5 * length (insertedAt k l g .links)) (g .names) (length (insertedAt k l g .links)) u v) (sym link-between) end
+        ∙ sym (image-parts (insertedAt k l g) (drop (L + 5) s))
+
+  -- ---- a link fewer
+
+  module _ (k : ℕ) (within : k < m) where
+    abbrev U : List ℕ
+    U = linksBytes (take k (g .links))
+
+    abbrev W : List ℕ
+    W = linksBytes (drop (suc k) (g .links))
+
+    abbrev O : List ℕ
+    O = linkBytes (getD (g .links) k noLink)
+
+    u-long : length U ≡ 5 * k
+    u-long = links-length (take k (g .links)) ∙ omega (arith, length-take-le k (g .links) (omega arith))
+
+    v-long : length W ≡ 5 * (m - suc k)
+    v-long = links-length (drop (suc k) (g .links)) ∙ omega (arith, length-drop (suc k) (g .links))
+
+    u-o-v : linksBytes (g .links) ≡ U ++ (O ++ W)
+    unfolding linksBytes
+    u-o-v = ap linksBytes (split-at (g .links) k noLink within) ∙ links-append (take k (g .links)) (getD (g .links) k noLink ∷ drop (suc k) (g .links))
+
+    fewer-links : length (removedAt k g .links) ≡ m - 1
+    fewer-links =
+        length-append (take k (g .links)) (drop (suc k) (g .links))
+        ∙ omega (arith, length-take-le k (g .links) (omega arith), length-drop (suc k) (g .links))
+
+    pub remove-law : (p q c len : ℕ) → p ≡ 7 + 8 * n + 5 * m - 5 → q ≡ 5 + 8 * n → c ≡ m - 1 → len ≡ 4 + 8 * n + 5 * m - 5
+        → sets (sets (sets (movedDown s (7 + 8 * n + 5 * k) (7 + 8 * n + 5 * m)) p (bytes 5 0)) q (bytes 2 c)) 1 (bytes 2 len)
+        ≡ bufferRemoved s k g
+    remove-law p q c len ep eq ec el =
+        let d : c ≡ length (removedAt k g .links) = omega (arith, fewer-links) in
+        let f : len ≡ 4 + 8 * n + 5 * length (removedAt k g .links) = omega (arith, fewer-links) in
+        let start : s ≡ version ++ (bytes 2 (4 + 8 * n + 5 * m) ++ (items (g .names) ++ (bytes 2 m ++ ((U ++ (O ++ W)) ++ behind)))) =
+        in-parts ∙ ap (λ (z : List ℕ). parts (4 + 8 * n + 5 * m) (g .names) m z behind) u-o-v in
+        let stored = removed n m k version (bytes 2 (4 + 8 * n + 5 * m)) (items (g .names)) (bytes 2 m) (bytes 2 c) (bytes 2 len)
+        refl (bytes-length 2 (4 + 8 * n + 5 * m)) (bytes-length 2 len) (items-long (g .names)) (bytes-length 2 m) (bytes-length 2 c)
+        U O W behind u-long (link-length (getD (g .links) k noLink)) (omega (arith, v-long)) (zeros 5) (length-replicate {A = ℕ} 5 0) in
+        ap₂ (λ (u v : ℕ). sets (sets (sets (movedDown s (7 + 8 * n + 5 * k) (7 + 8 * n + 5 * m)) u (bytes 5 0)) v (bytes 2 c)) 1 (bytes 2 len)) ep eq
+        ∙ ap₂ (λ (u v : List ℕ). sets (sets (sets (movedDown u (7 + 8 * n + 5 * k) (7 + 8 * n + 5 * m)) (7 + 8 * n + 5 * m - 5) v) (5 + 8 * n) (bytes 2 c)) 1 (bytes 2 len)) start zero-bytes
+        ∙ stored
+        ∙ ap₂ (λ (u v : ℕ). parts u (g .names) v (U ++ W) (zeros 5 ++ behind)) f d
+        ∙ ap (λ (u : List ℕ). parts (4 + 8 * n + 5 * length (removedAt k g .links)) (g .names) (length (removedAt k g .links)) u (zeros 5 ++ behind))
+        (sym (links-append (take k (g .links)) (drop (suc k) (g .links))))
+        ∙ sym (image-parts (removedAt k g) (zeros 5 ++ behind)) ∙ sym (append-assoc (encode (removedAt k g)) (zeros 5) behind)
+
+  -- ---- another set of names
+
+  module _ (i w : ℕ) (within : i < n) where
+    abbrev renamed : Register
+    renamed = record { names = set (g .names) i w; links = g .links }
+
+    same-count : length (set (g .names) i w) ≡ n
+    same-count = length-set (g .names) i w
+
+    abbrev before : List ℕ
+    before = itemsBytes (take i (g .names))
+
+    abbrev after : List ℕ
+    after = itemsBytes (drop (suc i) (g .names))
+
+    old-items : itemsBytes (g .names) ≡ before ++ (bytes 8 (getD (g .names) i 0) ++ after)
+    unfolding itemsBytes
+    old-items = ap itemsBytes (split-at (g .names) i 0 within) ∙ items-append (take i (g .names)) (getD (g .names) i 0 ∷ drop (suc i) (g .names))
+
+    new-items : itemsBytes (set (g .names) i w) ≡ before ++ (bytes 8 w ++ after)
+    unfolding itemsBytes
+    new-items = ap itemsBytes (set-split (g .names) i w within) ∙ items-append (take i (g .names)) (w ∷ drop (suc i) (g .names))
+
+    store : (a b c d f h r : List ℕ) → length a ≡ 1 → length b ≡ 2 → length c ≡ 2 → length d ≡ 8 * i → length f ≡ 8 → length h ≡ 8 → (t : List ℕ)
+        → sets (a ++ (b ++ ((c ++ (d ++ (f ++ t))) ++ r))) (5 + 8 * i) h ≡ a ++ (b ++ ((c ++ (d ++ (h ++ t))) ++ r))
+    store a b c d f h r la lb lc ld lf lh t =
+        let x : a ++ (b ++ ((c ++ (d ++ (f ++ t))) ++ r)) ≡ (a ++ b ++ c ++ d) ++ (f ++ (t ++ r)) = simp append-assoc in
+        let y : (a ++ b ++ c ++ d) ++ (h ++ (t ++ r)) ≡ a ++ (b ++ ((c ++ (d ++ (h ++ t))) ++ r)) = simp append-assoc in
+        let l : length (a ++ b ++ c ++ d) ≡ 5 + 8 * i = length-append (a ++ b ++ c) d ∙ omega (arith, length-append (a ++ b) c, length-append a b) in
+        ap (λ (z : List ℕ). sets z (5 + 8 * i) h) x ∙ splice (5 + 8 * i) (a ++ b ++ c ++ d) f h (t ++ r) l (lf ∙ sym lh) ∙ y
+
+    renamed-long : length (encode renamed) ≡ L
+    renamed-long = image-length renamed ∙ omega (arith, image-length g, same-count)
+
+    pub name-law : sets s (5 + 8 * i) (bytes 8 w) ≡ rewritten s g renamed
+    unfolding rewritten
+    name-law =
+        let len = 4 + 8 * n + 5 * m in
+        let rest = bytes 2 m ++ (linksBytes (g .links) ++ behind) in
+        let lb : length before ≡ 8 * i = items-length (take i (g .names)) ∙ omega (arith, length-take-le i (g .names) (omega arith)) in
+        let d : 0 ≡ L - length (encode renamed) = omega (arith, renamed-long) in
+        let f : L ≡ max L (length (encode renamed)) = omega (arith, renamed-long) in
+        let new : encode renamed ++ behind ≡ version ++ (bytes 2 len ++ ((bytes 2 n ++ (before ++ (bytes 8 w ++ after))) ++ rest)) =
+        image-parts renamed behind
+        ∙ ap (λ (k : ℕ). version ++ (bytes 2 (4 + 8 * k + 5 * m) ++ ((bytes 2 k ++ itemsBytes (set (g .names) i w)) ++ rest))) same-count
+        ∙ ap (λ (z : List ℕ). version ++ (bytes 2 len ++ ((bytes 2 n ++ z) ++ rest))) new-items in
+        ap (λ (z : List ℕ). sets z (5 + 8 * i) (bytes 8 w)) (in-parts ∙ ap (λ (z : List ℕ). version ++ (bytes 2 len ++ ((bytes 2 n ++ z) ++ rest))) old-items)
+        ∙ store version (bytes 2 len) (bytes 2 n) before (bytes 8 (getD (g .names) i 0)) (bytes 8 w) rest
+        refl (bytes-length 2 len) (bytes-length 2 n) lb (bytes-length 8 (getD (g .names) i 0)) (bytes-length 8 w) after
+        ∙ sym new
+        ∙ ap (λ (z : List ℕ). z ++ behind) (sym (append-nil (encode renamed)))
+        ∙ ap₂ (λ (u v : ℕ). encode renamed ++ zeros u ++ drop v s) d f

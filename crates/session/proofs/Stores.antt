@@ -1,0 +1,173 @@
+-- Loops that store bytes: one turn of each, and its end.
+-- Assumes nothing.
+use mathlib.Core.Path.{_≡_, refl, sym, ap, ap₂, _∙_, subst}
+use mathlib.Core.List.{List, [], _∷_, _++_, append-assoc, append-nil}
+use Prim.Native.Nat.{ℕ, zero, suc, _+_, _-_, _/_, _%_, _≤_, _<_}
+use native.Mathlib.Nat.{add-zero}
+use native.Mathlib.Omega.{arith}
+use lib.ListN.{length, getD, set, take, drop, length-append, length-take, length-drop, length-set, length-replicate, replicate-append-replicate, take-append-drop}
+use lib.ListN.{List·getD-append as getD-append}
+use lib.Seq.{sets, slice, set-comm, set-at, take-suc, drop-cons, slice-cons, slice-empty, length-slice, drop-append-le, getD-take, getD-drop, getD-append-add, length-take-le}
+use Rattle.meaning.specs.Bytes.{bytes}
+use Rattle.meaning.specs.Session.{zeros}
+use Rattle.meaning.proofs.Reading.{bytes-length}
+use Rattle.session.specs.Moved.{movedUp, movedDown}
+
+-- ---- a number, from its lowest byte up
+
+sets-append : (l : List ℕ) (a : ℕ) (xs ys : List ℕ) → sets l a (xs ++ ys) ≡ sets (sets l a xs) (a + length xs) ys
+sets-append l a [] ys = ap (λ (z : ℕ). sets l z ys) (sym (add-zero a))
+sets-append l a (x ∷ xs) ys = sets-append (set l a x) (suc a) xs ys ∙ ap (λ (z : ℕ). sets (sets (set l a x) (suc a) xs) z ys) (omega arith)
+
+set-sets : (l : List ℕ) (a : ℕ) (xs : List ℕ) (j x : ℕ) → a + length xs ≤ j → set (sets l a xs) j x ≡ sets (set l j x) a xs
+set-sets l a [] j x h = refl
+set-sets l a (y ∷ ys) j x h =
+    set-sets (set l a y) (suc a) ys j x (omega arith)
+    ∙ ap (λ (z : List ℕ). sets z (suc a) ys) (set-comm l a j y x (λ e. let z : a ≡ j = e in omega arith))
+
+put-suc : (s : List ℕ) (at i rest : ℕ) → sets (set s (at + i) (rest % 256)) at (bytes i (rest / 256)) ≡ sets s at (bytes (suc i) rest)
+unfolding bytes
+put-suc s at i rest =
+    let l = bytes-length i (rest / 256) in
+    sym (sets-append s at (bytes i (rest / 256)) (rest % 256 ∷ [])
+    ∙ set-sets s at (bytes i (rest / 256)) (at + length (bytes i (rest / 256))) (rest % 256) (omega arith)
+    ∙ ap (λ (z : ℕ). sets (set s (at + z) (rest % 256)) at (bytes i (rest / 256))) l)
+
+pub put-more : (s : List ℕ) (at i rest x : ℕ) → 0 < i → x ≡ rest % 256 → sets (set s (at + (i - 1)) x) at (bytes (i - 1) (rest / 256)) ≡ sets s at (bytes i rest)
+put-more s at i rest x h e =
+    ap (λ (z : ℕ). sets (set s (at + (i - 1)) z) at (bytes (i - 1) (rest / 256))) e ∙ put-suc s at (i - 1) rest
+    ∙ ap (λ (z : ℕ). sets s at (bytes z rest)) (omega arith)
+
+pub put-all : (s t : List ℕ) (at i rest : ℕ) → i ≤ 0 → sets s at (bytes i rest) ≡ t → s ≡ t
+unfolding bytes
+put-all s t at i rest h e = sym (ap (λ (z : ℕ). sets s at (bytes z rest)) (let z : i ≡ 0 = omega arith in z)) ∙ e
+
+-- ---- zeros
+
+pub clear-none : (s : List ℕ) (from : ℕ) → s ≡ take from s ++ zeros (from - from) ++ drop from s
+clear-none s from =
+    let e : 0 ≡ from - from = omega arith in
+    sym (take-append-drop from s) ∙ ap (λ (z : List ℕ). z ++ drop from s) (sym (append-nil (take from s)))
+    ∙ ap (λ (z : ℕ). take from s ++ zeros z ++ drop from s) e
+
+pub clear-more : (s : List ℕ) (from i : ℕ) → from ≤ i → i < length s
+    → set (take from s ++ zeros (i - from) ++ drop i s) i 0 ≡ take from s ++ zeros (i + 1 - from) ++ drop (i + 1) s
+clear-more s from i h l =
+    let a = take from s in
+    let z = zeros (i - from) in
+    let la : length a ≡ from = length-take-le from s (omega arith) in
+    let lz : length z ≡ i - from = length-replicate {A = ℕ} (i - from) 0 in
+    let e : i - from + 1 ≡ i + 1 - from = omega arith in
+    let n : suc i ≡ i + 1 = omega arith in
+    ap (λ (r : List ℕ). set (a ++ z ++ r) i 0) (drop-cons s i 0 l)
+    ∙ set-at (a ++ z) (getD s i 0) (drop (suc i) s) 0 i (length-append a z ∙ omega arith)
+    ∙ sym (append-assoc (a ++ z) (0 ∷ []) (drop (suc i) s))
+    ∙ ap (λ (r : List ℕ). r ++ drop (suc i) s) (append-assoc a z (0 ∷ []) ∙ ap (λ (r : List ℕ). a ++ r) (replicate-append-replicate {A = ℕ} (i - from) 1 0 ∙ ap zeros e))
+    ∙ ap (λ (k : ℕ). a ++ zeros (i + 1 - from) ++ drop k s) n
+
+pub clear-all : (s t : List ℕ) (from i : ℕ) → i ≡ length s → t ≡ take from s ++ zeros (i - from) ++ drop i s → t ≡ take from s ++ zeros (length s - from)
+clear-all s t from i e d =
+    let n : drop (length s) s ≡ [] = drop-all s in
+    d ∙ ap (λ (k : ℕ). take from s ++ zeros (k - from) ++ drop k s) e ∙ ap (λ (r : List ℕ). take from s ++ zeros (length s - from) ++ r) n
+    ∙ append-nil (take from s ++ zeros (length s - from))
+  where
+    drop-all : (l : List ℕ) → drop (length l) l ≡ []
+    drop-all = lib.Seq.drop-length
+
+-- ---- up
+
+module _ (s : List ℕ) (end : ℕ) where
+  abbrev pub up : ℕ → List ℕ
+  up i = take (i + 5) s ++ slice i end s ++ drop (end + 5) s
+
+  pub up-none : up end ≡ s
+  up-none =
+      ap (λ (r : List ℕ). take (end + 5) s ++ r ++ drop (end + 5) s) (slice-empty end s)
+      ∙ ap (λ (r : List ℕ). r ++ drop (end + 5) s) (append-nil (take (end + 5) s)) ∙ take-append-drop (end + 5) s
+
+  module _ (j : ℕ) (h : j < end) (l : end + 5 ≤ length s) where
+    front : length (take (j + 1 + 5) s) ≡ j + 1 + 5
+    front = length-take-le (j + 1 + 5) s (omega arith)
+
+    up-read : getD (up (j + 1)) j 0 ≡ getD s j 0
+    up-read =
+        ap (λ (r : List ℕ). getD r j 0) (append-assoc (take (j + 1 + 5) s) (slice (j + 1) end s) (drop (end + 5) s))
+        ∙ getD-append (take (j + 1 + 5) s) (slice (j + 1) end s ++ drop (end + 5) s) 0 j (omega (arith, front))
+        ∙ getD-take (j + 1 + 5) s j 0 (omega arith)
+
+    up-one : set (up (j + 1)) (j + 5) (getD s j 0) ≡ up j
+    up-one =
+        let a = take (j + 5) s in
+        let x = getD s (j + 5) 0 in
+        let r = slice (j + 1) end s in
+        let d = drop (end + 5) s in
+        let la : length a ≡ j + 5 = length-take-le (j + 5) s (omega arith) in
+        let e : j + 1 + 5 ≡ suc (j + 5) = omega arith in
+        let n : j + 1 ≡ suc j = omega arith in
+        let t : take (j + 1 + 5) s ≡ a ++ (x ∷ []) = ap (λ (k : ℕ). take k s) e ∙ take-suc s (j + 5) 0 (omega arith) in
+        let c : slice j end s ≡ getD s j 0 ∷ r = slice-cons j end s 0 h (omega arith) ∙ ap (λ (k : ℕ). getD s j 0 ∷ slice k end s) (sym n) in
+        ap (λ (z : List ℕ). set (z ++ r ++ d) (j + 5) (getD s j 0)) t
+        ∙ ap (λ (z : List ℕ). set z (j + 5) (getD s j 0)) (append-assoc (a ++ (x ∷ [])) r d ∙ append-assoc a (x ∷ []) (r ++ d))
+        ∙ set-at a x (r ++ d) (getD s j 0) (j + 5) la
+        ∙ sym (append-assoc a (getD s j 0 ∷ r) d)
+        ∙ ap (λ (z : List ℕ). a ++ z ++ d) (sym c)
+
+  -- one turn: the list is t, and i is not yet moved
+  pub up-more : (t : List ℕ) (i : ℕ) → 0 < i → i ≤ end → end + 5 ≤ length s → t ≡ up i → set t (i - 1 + 5) (getD t (i - 1) 0) ≡ up (i - 1)
+  up-more t i h k l e =
+      let n : i ≡ i - 1 + 1 = omega arith in
+      let d : t ≡ up (i - 1 + 1) = e ∙ ap up n in
+      ap (λ (z : List ℕ). set z (i - 1 + 5) (getD z (i - 1) 0)) d
+      ∙ ap (λ (z : ℕ). set (up (i - 1 + 1)) (i - 1 + 5) z) (up-read (i - 1) (omega arith) l) ∙ up-one (i - 1) (omega arith) l
+
+-- ---- down
+
+module _ (s : List ℕ) (from : ℕ) where
+  abbrev pub down : ℕ → List ℕ
+  down i = take from s ++ slice (from + 5) (i + 5) s ++ drop i s
+
+  pub down-none : down from ≡ s
+  down-none =
+      ap (λ (r : List ℕ). take from s ++ r ++ drop from s) (slice-empty (from + 5) s)
+      ∙ ap (λ (r : List ℕ). r ++ drop from s) (append-nil (take from s)) ∙ take-append-drop from s
+
+  module _ (i : ℕ) (h : from ≤ i) (l : i + 5 < length s) where
+    abbrev front′ : List ℕ
+    front′ = take from s ++ slice (from + 5) (i + 5) s
+
+    long : length front′ ≡ i
+    long =
+        let a = length-take-le from s (omega arith) in
+        let b = length-slice (from + 5) (i + 5) s (omega arith) in
+        length-append (take from s) (slice (from + 5) (i + 5) s) ∙ omega arith
+
+    down-read : getD (down i) (i + 5) 0 ≡ getD s (i + 5) 0
+    down-read =
+        ap (λ (k : ℕ). getD (down i) k 0) (let e : i + 5 ≡ length front′ + 5 = omega (arith, long) in e)
+        ∙ getD-append-add front′ (drop i s) 5 0 ∙ getD-drop i s 5 0
+
+    slice-snoc : slice (from + 5) (i + 1 + 5) s ≡ slice (from + 5) (i + 5) s ++ (getD s (i + 5) 0 ∷ [])
+    slice-snoc =
+        let e : i + 1 + 5 ≡ suc (i + 5) = omega arith in
+        let t : take (i + 1 + 5) s ≡ take (i + 5) s ++ (getD s (i + 5) 0 ∷ []) = ap (λ (k : ℕ). take k s) e ∙ take-suc s (i + 5) 0 l in
+        ap (drop (from + 5)) t
+        ∙ drop-append-le (from + 5) (take (i + 5) s) (getD s (i + 5) 0 ∷ []) (omega (arith, length-take-le (i + 5) s (omega arith)))
+
+    down-one : set (down i) i (getD s (i + 5) 0) ≡ down (i + 1)
+    down-one =
+        let x = getD s (i + 5) 0 in
+        let n : suc i ≡ i + 1 = omega arith in
+        ap (λ (r : List ℕ). set (front′ ++ r) i x) (drop-cons s i 0 (omega arith))
+        ∙ set-at front′ (getD s i 0) (drop (suc i) s) x i long
+        ∙ sym (append-assoc front′ (x ∷ []) (drop (suc i) s))
+        ∙ ap (λ (z : List ℕ). z ++ drop (suc i) s) (append-assoc (take from s) (slice (from + 5) (i + 5) s) (x ∷ []) ∙ ap (λ (z : List ℕ). take from s ++ z) (sym slice-snoc))
+        ∙ ap (λ (k : ℕ). take from s ++ slice (from + 5) (i + 1 + 5) s ++ drop k s) n
+
+  pub down-more : (t : List ℕ) (i : ℕ) → from ≤ i → i + 5 < length s → t ≡ down i → set t i (getD t (i + 5) 0) ≡ down (i + 1)
+  down-more t i h l e =
+      ap (λ (z : List ℕ). set z i (getD z (i + 5) 0)) e ∙ ap (λ (z : ℕ). set (down i) i z) (down-read i h l) ∙ down-one i h l
+
+  pub down-all : (t : List ℕ) (i end : ℕ) → i + 5 ≡ end → t ≡ down i → t ≡ movedDown s from end
+  down-all t i end e d =
+      let n : i ≡ end - 5 = omega arith in
+      d ∙ ap₂ (λ (k m : ℕ). take from s ++ slice (from + 5) k s ++ drop m s) e n

@@ -1,0 +1,27 @@
+-- A step in one number below 2 ^ 64, and the step of each such number. Lowest first: whether the fact was there (2), whether it is a link (2);
+-- then for a name the item (65,536) and the name, for a link its end (65,536), its role (256) and where it leads from.
+-- Every number is the code of one step. So a number is a step in range, or an undo refuses it with 17.
+-- Assumes nothing.
+use mathlib.Core.Bool.{Bool, true, false, cond}
+use Prim.Native.Nat.{ℕ, _+_, _*_, _/_, _%_}
+use lib.Dec.{eqb}
+use Rattle.meaning.specs.declared.Fact.{Fact}
+use Rattle.meaning.specs.declared.Fact.the-variants.{Name as nameOn, Link as linkOf}
+use Rattle.meaning.specs.declared.Step.{Step}
+
+abbrev pub bit : Bool → ℕ
+bit true = 1
+bit false = 0
+
+abbrev pub codeOf : Step → ℕ
+codeOf s = coded (s .fact)
+  where
+    coded : Fact → ℕ
+    coded (nameOn i k) = (k * 65536 + i) * 2 * 2 + bit (s .was)
+    coded (linkOf a r b) = (((a * 256 + r) * 65536 + b) * 2 + 1) * 2 + bit (s .was)
+
+abbrev pub decoded : ℕ → Step
+decoded n = record {
+  fact = cond (eqb (n / 2 % 2) 0) (nameOn (n / 4 % 65536) (n / 4 / 65536)) (linkOf (n / 4 / 16777216) (n / 4 / 65536 % 256) (n / 4 % 65536));
+  was = eqb (n % 2) 1;
+}

@@ -1,0 +1,4 @@
+pub mod Moved
+pub mod Setting
+pub mod Coded
+pub mod Calls
