@@ -2,6 +2,7 @@
 //! run. `bench` prints every measurement; `bench once NAME` makes the library
 //! and the second program do one of them once, for counting instructions.
 
+mod message;
 mod read;
 
 use std::time::Instant;
@@ -23,7 +24,12 @@ const TIMES: u32 = 50;
 
 /// A further measurement is a module of its own and a line here.
 fn works() -> Vec<Work> {
-    vec![read::largest(), read::half()]
+    vec![
+        read::largest(),
+        read::half(),
+        message::longest(),
+        message::costly(),
+    ]
 }
 
 fn main() {
