@@ -28,7 +28,7 @@ insert-chain s by items links k a r c number t1 t2 t3 t4 g e ei h room hr hc en 
     let n = length (g .names) in
     let m = length (g .links) in
     let law = insert-law s g by e k (link a r c) (omega (arith, ei .1)) number (7 + 8 * items - 2) (links + 1) (7 + 8 * items + 5 * links + 2) en hr hc
-        (omega (arith, ei .0)) (omega (arith, ei .1)) (omega (arith, ei .0, ei .1)) (omega (arith, ei .0, ei .1)) in
+    (omega (arith, ei .0)) (omega (arith, ei .1)) (omega (arith, ei .0, ei .1)) (omega (arith, ei .0, ei .1)) in
     let f1 : t1 ≡ movedUp s (7 + 8 * n + 5 * k) (7 + 8 * n + 5 * m) = e1 ∙ ap₂ (λ (i j : ℕ). movedUp s (7 + 8 * i + 5 * k) (7 + 8 * i + 5 * j)) (ei .0) (ei .1) in
     let f2 : t2 ≡ sets t1 (7 + 8 * n + 5 * k) (bytes 5 number) = e2 ∙ ap (λ (i : ℕ). sets t1 (7 + 8 * i + 5 * k) (bytes 5 number)) (ei .0) in
     e4 ∙ ap (λ (z : List ℕ). sets z 1 (bytes 2 (7 + 8 * items + 5 * links + 2)))
@@ -42,7 +42,7 @@ remove-chain s by items links k t1 t2 t3 t4 g e ei h e1 e2 e3 e4 =
     let n = length (g .names) in
     let m = length (g .links) in
     let law = remove-law s g by e k (omega (arith, ei .1)) (7 + 8 * items + 5 * links - 5) (7 + 8 * items - 2) (links - 1) (7 + 8 * items + 5 * links - 8)
-        (omega (arith, ei .0, ei .1)) (omega (arith, ei .0)) (omega (arith, ei .1)) (omega (arith, ei .0, ei .1)) in
+    (omega (arith, ei .0, ei .1)) (omega (arith, ei .0)) (omega (arith, ei .1)) (omega (arith, ei .0, ei .1)) in
     let f1 : t1 ≡ movedDown s (7 + 8 * n + 5 * k) (7 + 8 * n + 5 * m) = e1 ∙ ap₂ (λ (i j : ℕ). movedDown s (7 + 8 * i + 5 * k) (7 + 8 * i + 5 * j)) (ei .0) (ei .1) in
     e4 ∙ ap (λ (z : List ℕ). sets z 1 (bytes 2 (7 + 8 * items + 5 * links - 8)))
     (e3 ∙ ap (λ (z : List ℕ). sets z (7 + 8 * items - 2) (bytes 2 (links - 1)))

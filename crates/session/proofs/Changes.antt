@@ -92,10 +92,10 @@ module _ (s : List ℕ) (g : Register) (b : Bytes s) (e : readBuffer s ≡ good 
         let i = image-length g in
         let w : bytes 5 number ≡ linkBytes l = ap (bytes 5) en ∙ number-bytes l hr ht in
         let start : s ≡ version ++ (bytes 2 (4 + 8 * n + 5 * m) ++ (items (g .names) ++ (bytes 2 m ++ ((X ++ Y) ++ behind)))) =
-            in-parts ∙ ap (λ (z : List ℕ). parts (4 + 8 * n + 5 * m) (g .names) m z behind) x-y in
+        in-parts ∙ ap (λ (z : List ℕ). parts (4 + 8 * n + 5 * m) (g .names) m z behind) x-y in
         let stored = inserted n m k version (bytes 2 (4 + 8 * n + 5 * m)) (items (g .names)) (bytes 2 m) (bytes 2 c) (bytes 2 len)
-            refl (bytes-length 2 (4 + 8 * n + 5 * m)) (bytes-length 2 len) (items-long (g .names)) (bytes-length 2 m) (bytes-length 2 c)
-            X Y behind x-long (omega (arith, y-long)) (linkBytes l) (link-length l) (omega (arith, length-drop L s)) in
+        refl (bytes-length 2 (4 + 8 * n + 5 * m)) (bytes-length 2 len) (items-long (g .names)) (bytes-length 2 m) (bytes-length 2 c)
+        X Y behind x-long (omega (arith, y-long)) (linkBytes l) (link-length l) (omega (arith, length-drop L s)) in
         let end : drop 5 behind ≡ drop (L + 5) s = drop-drop 5 L s in
         ap₂ (λ (u : List ℕ) (v : ℕ). sets (sets (sets (movedUp s (7 + 8 * n + 5 * k) (7 + 8 * n + 5 * m)) (7 + 8 * n + 5 * k) u) v (bytes 2 c)) 1 (bytes 2 len)) w eq
         ∙ ap (λ (u : List ℕ). sets (sets (sets (movedUp u (7 + 8 * n + 5 * k) (7 + 8 * n + 5 * m)) (7 + 8 * n + 5 * k) (linkBytes l)) (5 + 8 * n) (bytes 2 c)) 1 (bytes 2 len)) start
@@ -138,10 +138,10 @@ module _ (s : List ℕ) (g : Register) (b : Bytes s) (e : readBuffer s ≡ good 
         let d : c ≡ length (removedAt k g .links) = omega (arith, fewer-links) in
         let f : len ≡ 4 + 8 * n + 5 * length (removedAt k g .links) = omega (arith, fewer-links) in
         let start : s ≡ version ++ (bytes 2 (4 + 8 * n + 5 * m) ++ (items (g .names) ++ (bytes 2 m ++ ((U ++ (O ++ W)) ++ behind)))) =
-            in-parts ∙ ap (λ (z : List ℕ). parts (4 + 8 * n + 5 * m) (g .names) m z behind) u-o-v in
+        in-parts ∙ ap (λ (z : List ℕ). parts (4 + 8 * n + 5 * m) (g .names) m z behind) u-o-v in
         let stored = removed n m k version (bytes 2 (4 + 8 * n + 5 * m)) (items (g .names)) (bytes 2 m) (bytes 2 c) (bytes 2 len)
-            refl (bytes-length 2 (4 + 8 * n + 5 * m)) (bytes-length 2 len) (items-long (g .names)) (bytes-length 2 m) (bytes-length 2 c)
-            U O W behind u-long (link-length (getD (g .links) k noLink)) (omega (arith, v-long)) (zeros 5) (length-replicate {A = ℕ} 5 0) in
+        refl (bytes-length 2 (4 + 8 * n + 5 * m)) (bytes-length 2 len) (items-long (g .names)) (bytes-length 2 m) (bytes-length 2 c)
+        U O W behind u-long (link-length (getD (g .links) k noLink)) (omega (arith, v-long)) (zeros 5) (length-replicate {A = ℕ} 5 0) in
         ap₂ (λ (u v : ℕ). sets (sets (sets (movedDown s (7 + 8 * n + 5 * k) (7 + 8 * n + 5 * m)) u (bytes 5 0)) v (bytes 2 c)) 1 (bytes 2 len)) ep eq
         ∙ ap₂ (λ (u v : List ℕ). sets (sets (sets (movedDown u (7 + 8 * n + 5 * k) (7 + 8 * n + 5 * m)) (7 + 8 * n + 5 * m - 5) v) (5 + 8 * n) (bytes 2 c)) 1 (bytes 2 len)) start zero-bytes
         ∙ stored
@@ -193,9 +193,9 @@ module _ (s : List ℕ) (g : Register) (b : Bytes s) (e : readBuffer s ≡ good 
         let d : 0 ≡ L - length (encode renamed) = omega (arith, renamed-long) in
         let f : L ≡ max L (length (encode renamed)) = omega (arith, renamed-long) in
         let new : encode renamed ++ behind ≡ version ++ (bytes 2 len ++ ((bytes 2 n ++ (before ++ (bytes 8 w ++ after))) ++ rest)) =
-            image-parts renamed behind
-            ∙ ap (λ (k : ℕ). version ++ (bytes 2 (4 + 8 * k + 5 * m) ++ ((bytes 2 k ++ itemsBytes (set (g .names) i w)) ++ rest))) same-count
-            ∙ ap (λ (z : List ℕ). version ++ (bytes 2 len ++ ((bytes 2 n ++ z) ++ rest))) new-items in
+        image-parts renamed behind
+        ∙ ap (λ (k : ℕ). version ++ (bytes 2 (4 + 8 * k + 5 * m) ++ ((bytes 2 k ++ itemsBytes (set (g .names) i w)) ++ rest))) same-count
+        ∙ ap (λ (z : List ℕ). version ++ (bytes 2 len ++ ((bytes 2 n ++ z) ++ rest))) new-items in
         ap (λ (z : List ℕ). sets z (5 + 8 * i) (bytes 8 w)) (in-parts ∙ ap (λ (z : List ℕ). version ++ (bytes 2 len ++ ((bytes 2 n ++ z) ++ rest))) old-items)
         ∙ store version (bytes 2 len) (bytes 2 n) before (bytes 8 (getD (g .names) i 0)) (bytes 8 w) rest
         refl (bytes-length 2 len) (bytes-length 2 n) lb (bytes-length 8 (getD (g .names) i 0)) (bytes-length 8 w) after

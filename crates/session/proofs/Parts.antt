@@ -25,7 +25,7 @@ splice p a b c r e d =
     let l : length (a ++ (b ++ r)) ≡ p + (length b + length r) = length-append a (b ++ r) ∙ omega (arith, length-append b r) in
     let n : p + length c ≡ length a + length b = omega arith in
     let dr : drop (p + length c) (a ++ (b ++ r)) ≡ r =
-        ap (λ (k : ℕ). drop k (a ++ (b ++ r))) n ∙ drop-append-add a (b ++ r) (length b) ∙ drop-at b r (length b) refl in
+    ap (λ (k : ℕ). drop k (a ++ (b ++ r))) n ∙ drop-append-add a (b ++ r) (length b) ∙ drop-at b r (length b) refl in
     sets-eq c (a ++ (b ++ r)) p (omega arith)
     ∙ ap₂ (λ (x y : List ℕ). x ++ c ++ y) (take-at a (b ++ r) p e) dr ∙ append-assoc a c r
 
@@ -56,8 +56,8 @@ moved-down a x y z p e la lx le =
     let t : take e s ≡ (a ++ x) ++ y = ap₂ (λ (i : ℕ) (r : List ℕ). take i r) n q ∙ take-append-add (a ++ x) (y ++ z) (length y) ∙ ap (λ (r : List ℕ). a ++ x ++ r) (take-append-seam y z) in
     let b : slice (p + 5) e s ≡ y = ap (drop (p + 5)) t ∙ drop-at (a ++ x) y (p + 5) (omega arith) in
     let d : drop (e - 5) s ≡ drop (length y) (x ++ y) ++ z =
-        ap (λ (i : ℕ). drop i s) m ∙ drop-append-add a (x ++ (y ++ z)) (length y)
-        ∙ ap (drop (length y)) (sym (append-assoc x y z)) ∙ lib.Seq.drop-append-le (length y) (x ++ y) z (omega (arith, length-append x y)) in
+    ap (λ (i : ℕ). drop i s) m ∙ drop-append-add a (x ++ (y ++ z)) (length y)
+    ∙ ap (drop (length y)) (sym (append-assoc x y z)) ∙ lib.Seq.drop-append-le (length y) (x ++ y) z (omega (arith, length-append x y)) in
     ap₂ (λ (u v : List ℕ). u ++ slice (p + 5) e s ++ v) (take-at a (x ++ (y ++ z)) p la) d
     ∙ ap (λ (r : List ℕ). a ++ r ++ (drop (length y) (x ++ y) ++ z)) b
     ∙ append-assoc a y (drop (length y) (x ++ y) ++ z)
@@ -87,7 +87,7 @@ unfolding encode
 image-parts g r =
     let body = bytes 2 (length (g .names)) ++ itemsBytes (g .names) ++ bytes 2 (length (g .links)) ++ linksBytes (g .links) in
     let e : length body ≡ 4 + 8 * length (g .names) + 5 * length (g .links) =
-        omega (arith, image-length g, headed-length body) in
+    omega (arith, image-length g, headed-length body) in
     ap (λ (z : List ℕ). z ++ r) (headed-parts body) ∙ ap (λ (k : ℕ). version ++ bytes 2 k ++ body ++ r) e
     ∙ regroup version (bytes 2 (4 + 8 * length (g .names) + 5 * length (g .links))) (bytes 2 (length (g .names))) (itemsBytes (g .names))
     (bytes 2 (length (g .links))) (linksBytes (g .links)) r
@@ -165,7 +165,7 @@ module _ (n m k : ℕ) (a b c d d′ b′ : List ℕ) (la : length a ≡ 1) (lb 
         let t = drop (length y) (o ++ y) in
         let lt : length t ≡ 5 = length-drop (length y) (o ++ y) ∙ omega (arith, length-append o y) in
         let fl : length fr ≡ p =
-            length-append (a ++ b ++ c ++ d) x ∙ omega (arith, length-append (a ++ b ++ c) d, length-append (a ++ b) c, length-append a b) in
+        length-append (a ++ b ++ c ++ d) x ∙ omega (arith, length-append (a ++ b ++ c) d, length-append (a ++ b) c, length-append a b) in
         let f : a ++ (b ++ (c ++ (d ++ ((x ++ (o ++ y)) ++ z)))) ≡ fr ++ (o ++ (y ++ z)) = simp append-assoc in
         let i : fr ++ (y ++ (t ++ z)) ≡ (fr ++ y) ++ (t ++ z) = sym (append-assoc fr y (t ++ z)) in
         let h : (fr ++ y) ++ (w ++ z) ≡ a ++ (b ++ (c ++ (d ++ ((x ++ y) ++ (w ++ z))))) = simp append-assoc in

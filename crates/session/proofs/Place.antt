@@ -82,9 +82,10 @@ module _ (n : ℕ) (few : n ≤ 512) (l : Link) (s : Small l) where
 
   first-passed : (before : Option Link) (m : Link) (ms : List Link) → T (linksOf n before (m ∷ ms)) → key m < key l → (rises l m ≡ false) × (sameLink l m ≡ false)
   first-passed before m ms t h =
-      let b = small before m ms t in
-      (rises-key l m s b ∙ not-le (key l + 1) (key m) (omega arith),
-      same-key l m s b ∙ is-false (eqb (key l) (key m)) (λ u. let e = eqb→eq (key l) (key m) u in omega arith))
+      let b = small before m ms t in (
+        rises-key l m s b ∙ not-le (key l + 1) (key m) (omega arith),
+        same-key l m s b ∙ is-false (eqb (key l) (key m)) (λ u. let e = eqb→eq (key l) (key m) u in omega arith),
+      )
 
   pub place-among : (before : Option Link) (ls : List Link) (k : ℕ) → T (linksOf n before ls) → PlaceOf ls (key l) k → among l ls ≡ At ls k
   unfolding anyLink

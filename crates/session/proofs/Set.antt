@@ -89,10 +89,10 @@ module _ (s : List ℕ) (by : Bytes s) (a r c : ℕ) where
     goes adds t d i w b =
         let h = is-there ∙ d in
         let m : setFact false f g ≡ removedAt k g =
-            ap (λ (z : List Link). record { names = g .names; links = z })
-            (place-without (length (g .names)) few l (o .1, omega (arith, o .2, few)) nowhere (g .links) k (image-fits s g by e .0 .rising) p d) in
+        ap (λ (z : List Link). record { names = g .names; links = z })
+        (place-without (length (g .names)) few l (o .1, omega (arith, o .2, few)) nowhere (g .links) k (image-fits s g by e .0 .rising) p d) in
         let n : length (removedAt k g .links) + 1 ≡ length (g .links) =
-            length-links ∙ omega arith in
+        length-links ∙ omega arith in
         let q : length (encode (removedAt k g)) + 5 ≡ length (encode g) = omega (arith, image-length g, image-length (removedAt k g)) in
         subst (λ (v : Bool). (noPlace s g v f ≡ false) × (true ≡ isFact g f) × (t ≡ rewritten s g (setFact v f g))) (sym i)
         (refl, sym h, b ∙ shorter s g (removedAt k g) q ∙ ap (rewritten s g) (sym m))
@@ -107,14 +107,14 @@ module _ (s : List ℕ) (by : Bytes s) (a r c : ℕ) where
     comes adds t d i w room b =
         let h = is-there ∙ d in
         let m : setFact true f g ≡ insertedAt k l g =
-            ap (λ (z : List Link). record { names = g .names; links = z })
-            (place-insert (length (g .names)) few l (o .1, omega (arith, o .2, few)) nowhere (g .links) k (image-fits s g by e .0 .rising) p d) in
+        ap (λ (z : List Link). record { names = g .names; links = z })
+        (place-insert (length (g .names)) few l (o .1, omega (arith, o .2, few)) nowhere (g .links) k (image-fits s g by e .0 .rising) p d) in
         let n : length (insertedAt k l g .links) ≡ length (g .links) + 1 =
-            omega (arith, length-append (take k (g .links)) (l ∷ drop k (g .links)), length-take-le k (g .links) (p .within), length-drop k (g .links), p .within) in
+        omega (arith, length-append (take k (g .links)) (l ∷ drop k (g .links)), length-take-le k (g .links) (p .within), length-drop k (g .links), p .within) in
         let q : length (encode (insertedAt k l g)) ≡ length (encode g) + 5 = omega (arith, image-length g, image-length (insertedAt k l g)) in
         let z : (leb mostLinks (length (g .links)) || ltb (length s) (length (encode g) + 5)) ≡ false =
-            neither (leb mostLinks (length (g .links))) (ltb (length s) (length (encode g) + 5)) (not-le mostLinks (length (g .links)) w)
-            (not-below (length s) (length (encode g) + 5) (omega (arith, image-length g))) in
+        neither (leb mostLinks (length (g .links))) (ltb (length s) (length (encode g) + 5)) (not-le mostLinks (length (g .links)) w)
+        (not-below (length s) (length (encode g) + 5) (omega (arith, image-length g))) in
         subst (λ (v : Bool). (noPlace s g v f ≡ false) × (false ≡ isFact g f) × (t ≡ rewritten s g (setFact v f g))) (sym i)
         (ap₂ (λ (x y : Bool). true && not x && y) h z, sym h, b ∙ longer s g (insertedAt k l g) q ∙ ap (rewritten s g) (sym m))
 
@@ -125,14 +125,14 @@ module _ (s : List ℕ) (by : Bytes s) (a r c : ℕ) where
     pub full : (adds : Bool) → At g k ≡ false → adds ≡ true → 4096 ≤ length (g .links) → (noPlace s g adds f ≡ true) × (s ≡ s)
     full adds d i w =
         let z : (leb mostLinks (length (g .links)) || ltb (length s) (length (encode g) + 5)) ≡ true =
-            ap (λ (x : Bool). x || ltb (length s) (length (encode g) + 5)) (at-most mostLinks (length (g .links)) w) in
+        ap (λ (x : Bool). x || ltb (length s) (length (encode g) + 5)) (at-most mostLinks (length (g .links)) w) in
         (ap (λ (v : Bool). noPlace s g v f) i ∙ no-room z d, refl)
 
     pub tight : (adds : Bool) → At g k ≡ false → adds ≡ true → length (g .links) < 4096 → length s < 12 + 8 * length (g .names) + 5 * length (g .links)
         → (noPlace s g adds f ≡ true) × (s ≡ s)
     tight adds d i w room =
         let z : (leb mostLinks (length (g .links)) || ltb (length s) (length (encode g) + 5)) ≡ true =
-            ap₂ _||_ (not-le mostLinks (length (g .links)) w) (below (length s) (length (encode g) + 5) (omega (arith, image-length g))) in
+        ap₂ _||_ (not-le mostLinks (length (g .links)) w) (below (length s) (length (encode g) + 5) (omega (arith, image-length g))) in
         (ap (λ (v : Bool). noPlace s g v f) i ∙ no-room z d, refl)
 
 -- ---- a name
