@@ -5,3 +5,5 @@ pub mod Parts
 pub mod Changes
 pub mod Set
 pub mod Chains
+pub mod Answered
+pub mod Codes

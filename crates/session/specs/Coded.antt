@@ -13,12 +13,12 @@ abbrev pub bit : Bool → ℕ
 bit true = 1
 bit false = 0
 
+abbrev pub coded : Bool → Fact → ℕ
+coded was (nameOn i k) = (k * 65536 + i) * 2 * 2 + bit was
+coded was (linkOf a r b) = (((a * 256 + r) * 65536 + b) * 2 + 1) * 2 + bit was
+
 abbrev pub codeOf : Step → ℕ
-codeOf s = coded (s .fact)
-  where
-    coded : Fact → ℕ
-    coded (nameOn i k) = (k * 65536 + i) * 2 * 2 + bit (s .was)
-    coded (linkOf a r b) = (((a * 256 + r) * 65536 + b) * 2 + 1) * 2 + bit (s .was)
+codeOf s = coded (s .was) (s .fact)
 
 abbrev pub decoded : ℕ → Step
 decoded n = record {

@@ -1,7 +1,7 @@
+-- `session::clear` meets its contract. The invariant: from `from` up to i the bytes are zeros.
+-- Assumes nothing.
 use Rattle.session.proofs.clear.Statement.{statement}
 use Rattle.session.proofs.clear.Tie as tie
-use Rattle.session.proofs.clear.Reads as reads
-use Rattle.session.proofs.clear.Lts as lts
 use mathlib.Core.Path.{_≡_, refl, sym, ap, _∙_}
 use mathlib.Core.List.{List, _++_}
 use Prim.Native.Nat.{ℕ, _≤_, _+_, _-_}
@@ -19,35 +19,28 @@ abbrev μ-loop : tie.MeasureT-loop
 μ-loop s₀ from n i₀ s i =
     length s₀ - i
 
--- src/lib.rt:70:5
 loop-holds : tie.Need-loop-holds Inv-loop μ-loop
 loop-holds c =
     (omega arith, omega arith, refl, clear-none (c .args .s .now) (c .args .from))
 
--- src/lib.rt:71:9
 slice-write-s : tie.Need-slice-write-s Inv-loop μ-loop
 slice-write-s c =
     omega (arith, c .before .loop .inv .2, c .loop-test .taken)
 
--- src/lib.rt:72:9
 add-i : tie.Need-add-i Inv-loop μ-loop
 add-i c = search needs
 
--- src/lib.rt:70:5
 loop-less : tie.Need-loop-less Inv-loop μ-loop
 loop-less c = search needs
 
--- src/lib.rt:70:5
 loop-again : tie.Need-loop-again Inv-loop μ-loop
 loop-again c =
     (omega arith, omega arith, length-set (c .before .loop .s) _ _ ∙ c .before .loop .inv .2, ap (λ (z : List ℕ). set z (c .before .loop .i) 0) (c .before .loop .inv .3) ∙ clear-more (c .before .before .args .s .now) (c .before .before .args .from) (c .before .loop .i) (c .before .loop .inv .0) (c .loop-test .taken))
 
--- src/lib.rt:64:1
 same-length : tie.Need-same-length Inv-loop μ-loop
 same-length c =
     c .before .loop .inv .2
 
--- src/lib.rt:64:1
 returns : tie.Need-returns Inv-loop μ-loop
 returns c =
     clear-all (c .before .before .args .s .now) (c .before .loop .s) (c .before .before .args .from) (c .before .loop .i) (omega (arith, c .loop-test .left, c .before .loop .inv .1)) (c .before .loop .inv .3)

@@ -1,31 +1,23 @@
+-- `session::link_number` meets its contract.
+-- Assumes nothing.
 use borrow.Author.Needs.{needs}
 use Rattle.session.proofs.link_number.Statement.{statement}
 use Rattle.session.proofs.link_number.Tie as tie
-use Rattle.session.proofs.link_number.Reads as reads
-use Rattle.session.proofs.link_number.Lts as lts
-use Rattle.register.proofs.from_of.Reads as from-of-reads
-use Rattle.register.proofs.role_of.Reads as role-of-reads
-use Rattle.register.proofs.to_of.Reads as to-of-reads
-use Rattle.session.proofs.number_of.Reads as number-of-reads
 use mathlib.Core.Path.{_≡_, refl, sym, ap, ap₂, _∙_}
 use Prim.Native.Nat.{ℕ, _+_, _*_}
 use native.Mathlib.Omega.{arith}
 use Rattle.meaning.proofs.Image.{image-fits}
 use Rattle.fields.proofs.Known.{bytes-known}
 
--- src/lib.rt:171:9
 from-of-requires : tie.Need-from-of-requires
 from-of-requires c κs = search needs
 
--- src/lib.rt:172:9
 role-of-requires : tie.Need-role-of-requires
 role-of-requires c κs = search needs
 
--- src/lib.rt:173:9
 to-of-requires : tie.Need-to-of-requires
 to-of-requires c κs = search needs
 
--- src/lib.rt:174:5
 number-of-requires : tie.Need-number-of-requires
 number-of-requires c κs =
     let f = image-fits (c .before .before .before .before .args .s .now) (c .before .before .before .before .pre .register) (bytes-known (c .before .before .before .before .args .s .now) (c .before .before .before .shared-slice-known .given)) (c .before .before .before .before .pre .read) .0 .items in
@@ -34,7 +26,6 @@ number-of-requires c κs =
     let d = c .to-of .ensures (c .before .before .before .before .pre .register) (c .before .before .before .before .pre .read) .1 in
     (omega arith, omega arith, omega arith)
 
--- src/lib.rt:167:1
 returns : tie.Need-returns
 returns c =
     λ g e.

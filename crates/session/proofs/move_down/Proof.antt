@@ -1,7 +1,7 @@
+-- `session::move_down` meets its contract. The invariant: what is to stand before i is moved.
+-- Assumes nothing.
 use Rattle.session.proofs.move_down.Statement.{statement}
 use Rattle.session.proofs.move_down.Tie as tie
-use Rattle.session.proofs.move_down.Reads as reads
-use Rattle.session.proofs.move_down.Lts as lts
 use mathlib.Core.Path.{_≡_, refl, sym, ap, _∙_}
 use Prim.Native.Nat.{ℕ, _≤_, _+_, _-_}
 use native.Mathlib.Omega.{arith}
@@ -17,48 +17,38 @@ abbrev μ-loop : tie.MeasureT-loop
 μ-loop s₀ from end i₀ s i =
     end - i
 
--- src/lib.rt:94:5
 loop-holds : tie.Need-loop-holds Inv-loop μ-loop
 loop-holds c =
     (omega arith, c .pre .0, refl, sym (down-none (c .args .s .now) (c .args .from)))
 
--- src/lib.rt:94:11
 add-loop : tie.Need-add-loop Inv-loop μ-loop
 add-loop c = search needs
 
--- src/lib.rt:95:18
 add-s : tie.Need-add-s Inv-loop μ-loop
 add-s c = search needs
 
--- src/lib.rt:95:16
 slice-read-s : tie.Need-slice-read-s Inv-loop μ-loop
 slice-read-s c =
     omega (arith, c .before .loop-test .taken, c .before .before .loop .inv .2, c .before .before .before .pre .1)
 
--- src/lib.rt:95:9
 slice-write-s : tie.Need-slice-write-s Inv-loop μ-loop
 slice-write-s c =
     omega (arith, c .before .loop-test .taken, c .before .before .loop .inv .2, c .before .before .before .pre .1)
 
--- src/lib.rt:96:9
 add-i : tie.Need-add-i Inv-loop μ-loop
 add-i c = search needs
 
--- src/lib.rt:94:5
 loop-less : tie.Need-loop-less Inv-loop μ-loop
 loop-less c = search needs
 
--- src/lib.rt:94:5
 loop-again : tie.Need-loop-again Inv-loop μ-loop
 loop-again c =
     (omega arith, omega arith, length-set (c .before .before .loop .s) _ _ ∙ c .before .before .loop .inv .2, down-more (c .before .before .before .args .s .now) (c .before .before .before .args .from) (c .before .before .loop .s) (c .before .before .loop .i) (c .before .before .loop .inv .0) (omega (arith, c .before .loop-test .taken, c .before .before .before .pre .1)) (c .before .before .loop .inv .3))
 
--- src/lib.rt:89:1
 same-length : tie.Need-same-length Inv-loop μ-loop
 same-length c =
     c .before .loop .inv .2
 
--- src/lib.rt:89:1
 returns : tie.Need-returns Inv-loop μ-loop
 returns c =
     down-all (c .before .before .args .s .now) (c .before .before .args .from) (c .before .loop .s) (c .before .loop .i) (c .before .before .args .end) (omega (arith, c .before .loop .inv .1, c .loop-test .left)) (c .before .loop .inv .3)

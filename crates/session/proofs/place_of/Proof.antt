@@ -1,8 +1,7 @@
+-- `session::place_of` meets its contract. The invariant: the links passed stand below the number.
+-- Assumes nothing.
 use Rattle.session.proofs.place_of.Statement.{statement}
 use Rattle.session.proofs.place_of.Tie as tie
-use Rattle.session.proofs.place_of.Reads as reads
-use Rattle.session.proofs.place_of.Lts as lts
-use Rattle.session.proofs.link_number.Reads as link-number-reads
 use Prim.Native.Nat.{ℕ, _≤_, _-_}
 use native.Mathlib.Omega.{arith}
 use borrow.Author.Needs.{needs}
@@ -17,35 +16,28 @@ abbrev μ-loop : tie.MeasureT-loop
 μ-loop s items links number k₀ k =
     links - k
 
--- src/lib.rt:183:5
 loop-holds : tie.Need-loop-holds Inv-loop μ-loop
 loop-holds c =
     (omega arith, passed-none (c .before .args .s .now) (c .before .args .number))
 
--- src/lib.rt:184:22
 link-number-requires : tie.Need-link-number-requires Inv-loop μ-loop
 link-number-requires c κs =
     record { register = c .before .before .before .pre .register; read = c .before .before .before .pre .read; holds = (c .before .before .before .pre .holds .0, omega (arith, c .before .before .before .pre .holds .1, c .loop-test .taken)) }
 
--- src/lib.rt:185:13
 returns : tie.Need-returns Inv-loop μ-loop
 returns c =
     found-place (c .before .before .before .before .before .args .s .now) (c .before .before .before .before .before .args .links) (c .before .before .before .before .before .args .number) (c .before .before .before .loop .k) (c .before .link-number .result) (c .before .before .before .loop .inv .1) (c .before .link-number .ensures) (c .if1 .taken) (c .before .before .before .loop .inv .0) (λ g e. asked-is (c .before .before .before .before .before .pre) g e .1)
 
--- src/lib.rt:187:9
 add-k : tie.Need-add-k Inv-loop μ-loop
 add-k c = search needs
 
--- src/lib.rt:183:5
 loop-less : tie.Need-loop-less Inv-loop μ-loop
 loop-less c = search needs
 
--- src/lib.rt:183:5
 loop-again : tie.Need-loop-again Inv-loop μ-loop
 loop-again c =
     (omega arith, passed-more (c .before .before .before .before .before .args .s .now) (c .before .before .before .before .before .args .number) (c .before .before .before .loop .k) (c .before .link-number .result) (c .before .before .before .loop .inv .1) (c .before .link-number .ensures) (omega (arith, c .if1 .left)))
 
--- src/lib.rt:178:1
 returns-2 : tie.Need-returns-2 Inv-loop μ-loop
 returns-2 c =
     last-place (c .before .before .before .args .s .now) (c .before .before .before .args .links) (c .before .before .before .args .number) (c .before .loop .k) (c .before .loop .inv .1) (omega (arith, c .before .loop .inv .0, c .loop-test .left)) (λ g e. asked-is (c .before .before .before .pre) g e .1)

@@ -1,10 +1,8 @@
+-- `session::set_fact` meets its contract.
+-- Assumes nothing.
 use borrow.Author.Needs.{needs}
 use Rattle.session.proofs.set_fact.Statement.{statement}
 use Rattle.session.proofs.set_fact.Tie as tie
-use Rattle.session.proofs.set_fact.Reads as reads
-use Rattle.session.proofs.set_fact.Lts as lts
-use Rattle.session.proofs.set_link.Reads as set-link-reads
-use Rattle.session.proofs.set_name.Reads as set-name-reads
 use mathlib.Core.Path.{_≡_, refl, sym, ap, subst, _∙_}
 use native.Mathlib.Omega.{arith}
 use Rattle.meaning.specs.declared.Fact.{Fact}
@@ -12,40 +10,32 @@ use Rattle.session.specs.declared.Setting.the-variants.{Done}
 use Rattle.session.specs.Setting.{Ranged, SettingOf}
 use Rattle.session.proofs.Set.{name-set, link-set}
 
--- src/lib.rt:281:22
 enum-known-fact : tie.Need-enum-known-fact
 enum-known-fact c = search needs
 
--- src/lib.rt:282:18
 set-name-requires : tie.Need-set-name-requires
 set-name-requires c κs =
     let q = subst (λ (z : Fact). Ranged (c .before .before .before .before .before .args .items) z) (c .before .before .fact .given .1) (c .before .before .before .before .before .pre .1 .0) in
     (record { register = c .before .before .before .before .before .pre .0 .register; read = c .before .before .before .before .before .pre .0 .read; holds = omega (arith, c .before .before .before .before .before .pre .0 .holds .0, q .0) }, (q .1, omega (arith, q .0, c .before .before .before .before .before .pre .1 .1 .2)))
 
--- src/lib.rt:284:22
 enum-known-fact-2 : tie.Need-enum-known-fact-2
 enum-known-fact-2 c = search needs
 
--- src/lib.rt:284:42
 set-link-requires : tie.Need-set-link-requires
 set-link-requires c κs =
     let q = subst (λ (z : Fact). Ranged (c .before .before .before .before .before .args .items) z) (c .before .before .fact2 .given .1) (c .before .before .before .before .before .pre .1 .0) in
     (c .before .before .before .before .before .pre .0, (q .0, q .1, q .2, c .before .before .before .before .before .pre .1 .1 .0, c .before .before .before .before .before .pre .1 .1 .1, c .before .before .before .before .before .pre .1 .1 .2))
 
--- src/lib.rt:274:1
 same-length : tie.Need-same-length
 same-length c = search needs
 
--- src/lib.rt:274:1
 returns : tie.Need-returns
 returns c =
     name-set (c .before .before .before .before .before .before .before .before .args .s .now) _ (c .before .before .before .before .before .before .before .before .args .fact) _ _ (c .before .before .before .before .before .before .before .before .args .adds) (c .before .before .set-name .result) (c .before .before .before .before .before .fact .given .1) (c .before .before .set-name .ensures .0) (c .before .before .set-name .ensures .1)
 
--- src/lib.rt:274:1
 same-length-2 : tie.Need-same-length-2
 same-length-2 c = search needs
 
--- src/lib.rt:274:1
 returns-2 : tie.Need-returns-2
 returns-2 c =
     link-set (c .before .before .before .before .before .before .before .before .args .s .now) _ (c .before .before .before .before .before .before .before .before .args .fact) _ (c .before .before .before .before .before .before .before .before .args .adds) (c .before .before .set-link .result) (c .before .before .before .before .before .fact2 .given .1) (c .before .before .set-link .ensures)

@@ -1,47 +1,35 @@
+-- `session::set_name` meets its contract.
+-- Assumes nothing.
 use borrow.Author.Needs.{needs}
 use Rattle.session.proofs.set_name.Statement.{statement}
 use Rattle.session.proofs.set_name.Tie as tie
-use Rattle.session.proofs.set_name.Reads as reads
-use Rattle.session.proofs.set_name.Lts as lts
-use Rattle.register.proofs.names_of.Reads as names-of-reads
-use Rattle.session.proofs.has_name.Reads as has-name-reads
-use Rattle.session.proofs.put.Reads as put-reads
-use Rattle.session.proofs.with_name.Reads as with-name-reads
 use mathlib.Core.Path.{_≡_, refl, sym, ap, _∙_}
 use Prim.Native.Nat.{ℕ, _≤_, _-_}
 use native.Mathlib.Omega.{arith}
 use Rattle.fields.proofs.Known.{bytes-known}
 use Rattle.session.proofs.Set.{asked-is, renames, name-was}
 
--- src/lib.rt:145:9
 names-of-requires : tie.Need-names-of-requires
 names-of-requires c κs = search needs
 
--- src/lib.rt:146:9
 has-name-requires : tie.Need-has-name-requires
 has-name-requires c κs = search needs
 
--- src/lib.rt:149:13
 mul-put : tie.Need-mul-put
 mul-put c = search needs
 
--- src/lib.rt:149:9
 add-put : tie.Need-add-put
 add-put c = search needs
 
--- src/lib.rt:151:9
 with-name-requires : tie.Need-with-name-requires
 with-name-requires c κs = search needs
 
--- src/lib.rt:147:5
 put-requires : tie.Need-put-requires
 put-requires c κs = search needs
 
--- src/lib.rt:139:1
 same-length : tie.Need-same-length
 same-length c = search needs
 
--- src/lib.rt:139:1
 returns : tie.Need-returns
 returns c = (
   λ g e. name-was (c .before .before .before .before .before .before .before .before .before .args .item) (c .before .before .before .before .before .before .before .before .before .args .name) (c .before .before .before .before .before .before .names-of .result) (c .before .before .before .before .before .has-name .result) g (c .before .before .before .before .before .before .names-of .ensures g e) (c .before .before .before .before .before .has-name .ensures),

@@ -1,45 +1,37 @@
+-- `session::with_name` meets its contract.
+-- Assumes nothing.
 use borrow.Author.Needs.{needs}
 use Rattle.session.proofs.with_name.Statement.{statement}
 use Rattle.session.proofs.with_name.Tie as tie
-use Rattle.session.proofs.with_name.Reads as reads
-use Rattle.session.proofs.with_name.Lts as lts
 use Prim.Native.Nat.{_≤_, _+_, _-_}
 use native.Mathlib.Omega.{arith}
 use Rattle.session.proofs.Bits.{off-le, name-off, name-on, on-fits}
 
--- src/lib.rt:128:13
 returns : tie.Need-returns
 returns c = search needs
 
--- src/lib.rt:130:25
 shl-result : tie.Need-shl-result
 shl-result c = search needs
 
--- src/lib.rt:130:16
 sub-result : tie.Need-sub-result
 sub-result c =
     off-le (c .before .before .args .names) (c .before .before .args .name) (c .before .before .args .there) (c .before .before .args .adds) (c .before .before .pre .0) (c .before .before .pre .1) (c .before .if1 .taken)
 
--- src/lib.rt:130:9
 returns-2 : tie.Need-returns-2
 returns-2 c =
     name-off (c .before .before .args .names) (c .before .before .args .name) (c .before .before .args .there) (c .before .before .args .adds) (c .before .before .pre .0) (c .before .before .pre .1) (c .before .if1 .taken) (c .if2 .left)
 
--- src/lib.rt:133:25
 shl-result-2 : tie.Need-shl-result-2
 shl-result-2 c = search needs
 
--- src/lib.rt:133:16
 add-result : tie.Need-add-result
 add-result c =
     record { fits = on-fits (c .before .before .args .names) (c .before .before .args .name) (c .before .before .args .there) (c .before .before .args .adds) (c .before .before .pre .0) (c .before .before .pre .1) (c .before .if1 .left) (c .before .before .fits .names .fits) }
 
--- src/lib.rt:133:9
 returns-3 : tie.Need-returns-3
 returns-3 c =
     name-on (c .before .before .args .names) (c .before .before .args .name) (c .before .before .args .there) (c .before .before .args .adds) (c .before .before .pre .0) (c .before .before .pre .1) (c .before .if1 .left) (c .if3 .taken)
 
--- src/lib.rt:122:1
 returns-4 : tie.Need-returns-4
 returns-4 c = search needs
 
