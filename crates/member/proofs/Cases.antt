@@ -1,26 +1,28 @@
 -- What is asked at a child, from what is asked at its parent.
 -- Assumes nothing.
-use mathlib.Core.Path.{_≡_, sym, ap, subst, _∙_}
-use mathlib.Core.Bool.{Bool, _&&_}
+use mathlib.Core.Path.{_≡_, refl, sym, ap, subst, _∙_}
+use mathlib.Core.Bool.{Bool, true, false, _&&_, not}
 use mathlib.Core.List.{List}
 use Prim.Native.Nat.{ℕ, _-_, _+_, _≤_, _<_}
 use native.Mathlib.Nat.{le-trans, le-refl}
 use native.Mathlib.Omega.{arith}
-use lib.ListN.{getD, set}
+use lib.Dec.{T}
+use lib.ListN.{length, getD, set, replicate, length-replicate}
 use lib.Seq.{sets}
+use borrow.Author.Tests.{not-true, not-false}
 use Rattle.meaning.specs.Bytes.{Bytes}
 use Rattle.meaning.specs.Names.{within}
 use Rattle.meaning.specs.Tree.{children}
 use Rattle.meaning.specs.Register.{judged, targets}
 use Rattle.meaning.specs.Whole.{any}
-use Rattle.meaning.specs.Requirement.{bare, fulfils}
+use Rattle.meaning.specs.Requirement.{bare, fulfils, member}
 use Rattle.meaning.specs.Shown.{first, yesByF, yesMap}
 use Rattle.meaning.proofs.Rows.{Opened, opened}
 use Rattle.member.specs.declared.Hit.{Hit}
 use Rattle.member.specs.Table.{cell, placeOf, Rowed, ruledAt}
-use Rattle.member.specs.Case.{Case, Outside, Done, Walk, Sought}
+use Rattle.member.specs.Case.{Case, Outside, Done, Walk, Sought, Settled}
 use Rattle.member.proofs.Inside.{closed}
-use Rattle.member.proofs.Children.{Rest, Child, rest-start, rest-child, rest-step, rest-whole, outside-none, outside-row, outside-part}
+use Rattle.member.proofs.Children.{Rest, Child, rest-start, rest-child, rest-step, rest-whole, outside-none, outside-row, outside-part, met-row}
 use Rattle.member.proofs.Trail.{Trail, Next, trail-start, trail-next, trail-end, whole-map}
 
 module _ {s : List ℕ} {items links : ℕ} {names roles ends owners : List ℕ} {parts : ℕ} {table : List ℕ} {node left : ℕ}
@@ -136,3 +138,39 @@ module _ {s : List ℕ} {items links : ℕ} {names roles ends met : List ℕ} {n
       inside = rw e (next .item);
       yes = rw e (next .yes);
     }
+
+-- ---- the answer for one item
+
+abbrev pub zeros : List ℕ
+zeros = replicate 512 0
+
+pub zeros-length : length zeros ≡ 512
+zeros-length = length-replicate {A = ℕ} 512 0
+
+module _ {s : List ℕ} {items links : ℕ} {names roles ends owners : List ℕ} {parts : ℕ} {table : List ℕ} {node left : ℕ}
+    (k : Case s items links names roles ends owners parts table node left) (m₀ m : List ℕ) (item : ℕ) (b : Bool)
+    (d : Done items ends (judged (k .register)) (k .tree) node m₀ m) (l : item < items) (e : b ≡ cell m node item) where
+  pub says : b ≡ member (judged (k .register)) (k .tree) item
+  says = e ∙ met-row names roles ends items (judged (k .register)) m (k .tree) node (d .met) item l
+
+  pub settled-no : not b ≡ true → (map : List ℕ) → Settled (k .register) (k .tree) item map map false
+  settled-no n map = record { answer = sym (not-true b n) ∙ says; map = refl }
+
+  abbrev pub walk-case : not b ≡ false → Walk s items links names roles ends m node left item
+  walk-case n = record {
+    register = k .register;
+    read = k .read;
+    items-are = k .items-are;
+    links-are = k .links-are;
+    most = k .most;
+    tree = k .tree;
+    held = k .held;
+    few = k .few;
+    rows = d .met;
+    inside = l;
+    yes = subst T (sym (not-false b n) ∙ says) tt;
+  }
+
+  pub settled-yes : not b ≡ false → (old new : List ℕ) → new ≡ sets old 0 (yesMap (judged (k .register)) (k .tree) item)
+      → Settled (k .register) (k .tree) item old new true
+  settled-yes n old new q = record { answer = sym (not-false b n) ∙ says; map = q }

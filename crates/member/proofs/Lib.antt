@@ -8,3 +8,5 @@ pub mod Trail
 pub mod Cases
 pub mod Owners
 pub mod Messages
+pub mod Compare
+pub mod Promise

@@ -1,18 +1,19 @@
 -- What is asked of: a register image that was read, rows that hold a requirement's tree, and the tables.
 -- Assumes nothing.
 use mathlib.Core.Path.{_≡_}
-use mathlib.Core.Bool.{Bool}
+use mathlib.Core.Bool.{Bool, cond}
 use mathlib.Core.List.{List}
 use mathlib.Core.Option.{some}
 use Prim.Native.Nat.{ℕ, _+_, _≤_, _<_}
 use lib.Dec.{T}
 use lib.ListN.{length, getD}
+use lib.Seq.{sets}
 use Rattle.meaning.specs.Refusal.{good}
 use Rattle.meaning.specs.Graph.{Graph}
 use Rattle.meaning.specs.Register.{Register, judged, targets, readBuffer}
 use Rattle.meaning.specs.Requirement.{Requirement, bare, member}
 use Rattle.meaning.specs.Rows.{Holds}
-use Rattle.meaning.specs.Shown.{first}
+use Rattle.meaning.specs.Shown.{first, yesMap}
 use Rattle.register.specs.Image.{Begins}
 use Rattle.member.specs.declared.Hit.{Hit}
 use Rattle.member.specs.Table.{cell, Ruled, Met, placeOf}
@@ -59,3 +60,8 @@ pub record Sought (g : Register) (item role : ℕ) (p : ℕ → Bool) (h : Hit) 
   pub found : h .item ≡ placeOf (first p (targets (g .links) item role))
   pub inside : (y : ℕ) → first p (targets (g .links) item role) ≡ some y → y < length (g .names)
   pub next : Begins (g .links) (item + 1) (h .next)
+
+-- whether an item meets the requirement; a yes writes the map from the first place on, a no writes nothing
+pub record Settled (g : Register) (t : Requirement) (item : ℕ) (old new : List ℕ) (r : Bool) : Type 0 where
+  pub answer : r ≡ member (judged g) t item
+  pub map : new ≡ cond r (sets old 0 (yesMap (judged g) t item)) old

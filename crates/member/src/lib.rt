@@ -7,12 +7,14 @@ ghost use lib.Dec.{eqb};
 ghost use lib.ListN.{length, getD};
 ghost use lib.Seq.{sets};
 ghost use Rattle.meaning.specs.Names.{has, within};
+ghost use Rattle.meaning.specs.Fraction.{_//_, compares};
+ghost use Rattle.meaning.specs.Message.{comparison};
 ghost use Rattle.meaning.specs.Register.{judged, targets};
 ghost use Rattle.meaning.specs.Whole.{any};
 ghost use Rattle.meaning.specs.Shown.{yesMap};
 ghost use Rattle.register.specs.Image.{Asked, Image, Begins};
 ghost use Rattle.member.specs.Table.{cell, withBit, Rowed, ruledAt};
-ghost use Rattle.member.specs.Case.{Case, Done, Walk, Sought};
+ghost use Rattle.member.specs.Case.{Case, Done, Walk, Sought, Settled};
 
 // Of an item's links under a role: the lowest-numbered end that meets a node (65535 where there is none), and where the links of the
 // next item begin.
@@ -281,4 +283,92 @@ pub fn walk(
             map,
         );
     }
+}
+
+fn broad(x: u32) -> u64
+    ensures { λ r. ⌜ r ≡ x ⌝ }
+    ensures { λ r. ⌜ r < 4294967296 ⌝ }
+{
+    x as u64
+}
+
+// Whether number / scale satisfies a comparison with p / q, by cross-multiplication: 0 is <, 1 is ≤, 2 is >, 3 is ≥.
+fn satisfies(how: u8, number: u64, scale: u64, p: u64, q: u64) -> bool
+    requires { ⌜ (number < 4294967296) × (scale < 4294967296) × (p ≤ 1000) × (q ≤ 1000) ⌝ }
+    ensures { λ r. ⌜ r ≡ compares (comparison how) (number // scale) (p // q) ⌝ }
+{
+    let own = number * q;
+    let limit = p * scale;
+    if how == 0 {
+        return own < limit;
+    }
+    if how == 1 {
+        return own <= limit;
+    }
+    if how == 2 {
+        return limit < own;
+    }
+    limit <= own
+}
+
+// The row of the k-th threshold, from the degrees of all items in its inner concept.
+pub fn judge(
+    items: usize,
+    values: &[u32],
+    scale: u64,
+    how: u8,
+    p: u64,
+    q: u64,
+    k: usize,
+    table: &mut [u64],
+)
+    requires { ⌜ (items ≤ length (now values)) × (items ≤ length (now table)) × (k < 64) × (scale < 4294967296) × (p ≤ 1000) × (q ≤ 1000) ⌝ }
+    ensures { λ _. ⌜ Rowed (λ x. compares (comparison how) (getD (now (values .entry)) x 0 // scale) (p // q)) k (now (table .entry)) (now (table .exit)) items ⌝ }
+{
+    let mut i = 0;
+    while i < items {
+        table[i] = marked(table[i], k, satisfies(how, broad(values[i]), scale, p, q));
+        i += 1;
+    }
+}
+
+// Whether an item meets the requirement; for a yes the map is written.
+pub fn settle(
+    s: &[u8],
+    items: usize,
+    links: usize,
+    names: &[u64; 64],
+    roles: &[u8; 64],
+    ends: &[u8; 64],
+    owners: &[u8; 16],
+    parts: usize,
+    table: &[u64],
+    item: usize,
+    map: &mut [u16],
+) -> bool
+    requires { ⌜ Case (now s) items links (now names) (now roles) (now ends) (now owners) parts (now table) 0 17 ⌝ }
+    requires { ⌜ (parts ≤ 16) × (items ≤ length (now table)) × (item < items) × (getD (now ends) 0 0 ≤ length (now map)) ⌝ }
+    ensures { λ r. ⌜ ((k : Case (now (s .entry)) items links (now (names .entry)) (now (roles .entry)) (now (ends .entry)) (now (owners .entry)) parts (now (table .entry)) 0 17)
+        → Settled (k .register) (k .tree) item (now (map .entry)) (now (map .exit)) r) ⌝ }
+{
+    let mut met = [0u64; 512];
+    meet(
+        s,
+        items,
+        links,
+        names,
+        roles,
+        ends,
+        owners,
+        parts,
+        table,
+        0,
+        17,
+        &mut met,
+    );
+    if !on(met[item], 0) {
+        return false;
+    }
+    walk(s, items, links, names, roles, ends, &met, 0, 17, item, map);
+    true
 }

@@ -1,3 +1,4 @@
+-- `member::meet` meets its contract. Assumes nothing.
 use Prim.Native.Nat.{ℕ, _<_}
 use borrow.Fn.Kinds.{In}
 use borrow.Fn.PlainCycle.{Measures, is, falls, and}
@@ -40,7 +41,6 @@ abbrev meet-μ-loop : meet-lts.MeasureT-loop
 meet-μ-loop s items links names roles ends owners parts table node left met₀ e c₀ met c =
     e - c
 
--- src/lib.rt:210:19
 meet-mul-own : (t : ℕ) → meet-lts.Need-mul-own (
   own-reads.Asked,
   own-reads.Learnt,
@@ -56,7 +56,6 @@ meet-mul-own : (t : ℕ) → meet-lts.Need-mul-own (
 meet-mul-own t c =
     omega (arith, here (c .before .before .before .pre .1 .0) .1, here (c .before .before .before .pre .1 .0) .2)
 
--- src/lib.rt:210:19
 meet-element-copy-out-own : (t : ℕ) → meet-lts.Need-element-copy-out-own (
   own-reads.Asked,
   own-reads.Learnt,
@@ -72,7 +71,6 @@ meet-element-copy-out-own : (t : ℕ) → meet-lts.Need-element-copy-out-own (
 meet-element-copy-out-own t c =
     omega (arith, here (c .before .before .before .pre .1 .0) .1, here (c .before .before .before .pre .1 .0) .2)
 
--- src/lib.rt:210:5
 meet-own-requires : (t : ℕ) → meet-lts.Need-own-requires (
   own-reads.Asked,
   own-reads.Learnt,
@@ -88,7 +86,6 @@ meet-own-requires : (t : ℕ) → meet-lts.Need-own-requires (
 meet-own-requires t c κs =
     (record { register = c .before .before .before .before .before .pre .1 .0 .register; read = c .before .before .before .before .before .pre .1 .0 .read; holds = c .before .before .before .before .before .pre .1 .0 .items-are }, (omega (arith, here (c .before .before .before .before .before .pre .1 .0) .1, here (c .before .before .before .before .before .pre .1 .0) .2), c .before .before .before .before .before .pre .1 .1 .1))
 
--- src/lib.rt:211:5
 meet-keep-all-requires : (t : ℕ) → meet-lts.Need-keep-all-requires (
   own-reads.Asked,
   own-reads.Learnt,
@@ -104,7 +101,6 @@ meet-keep-all-requires : (t : ℕ) → meet-lts.Need-keep-all-requires (
 meet-keep-all-requires t c κs =
     (omega (arith, here (c .before .before .before .before .before .before .before .before .before .pre .1 .0) .1, here (c .before .before .before .before .before .before .before .before .before .pre .1 .0) .2), c .before .before .before .before .before .before .before .before .before .pre .1 .1 .0, omega (arith, c .before .before .before .before .before .before .before .before .before .pre .1 .1 .1, c .before .before .before .own .ensures (c .before .before .before .before .before .before .before .before .before .pre .1 .0 .register) (c .before .before .before .before .before .before .before .before .before .pre .1 .0 .read) .size), c .before .before .before .before .before .before .before .before .before .pre .1 .1 .2)
 
--- src/lib.rt:212:18
 meet-element-copy-out-wide : (t : ℕ) → meet-lts.Need-element-copy-out-wide (
   own-reads.Asked,
   own-reads.Learnt,
@@ -120,7 +116,6 @@ meet-element-copy-out-wide : (t : ℕ) → meet-lts.Need-element-copy-out-wide (
 meet-element-copy-out-wide t c =
     omega (arith, here (c .before .before .before .before .before .before .before .before .before .before .before .before .pre .1 .0) .1, here (c .before .before .before .before .before .before .before .before .before .before .before .before .pre .1 .0) .2)
 
--- src/lib.rt:212:9
 meet-wide-requires : (t : ℕ) → meet-lts.Need-wide-requires (
   own-reads.Asked,
   own-reads.Learnt,
@@ -135,7 +130,6 @@ meet-wide-requires : (t : ℕ) → meet-lts.Need-wide-requires (
 ) (meet-at t) meet.Post meet-Inv-loop meet-μ-loop
 meet-wide-requires t c κs = search needs
 
--- src/lib.rt:213:17
 meet-add-c : (t : ℕ) → meet-lts.Need-add-c (
   own-reads.Asked,
   own-reads.Learnt,
@@ -151,7 +145,6 @@ meet-add-c : (t : ℕ) → meet-lts.Need-add-c (
 meet-add-c t c =
     omega (arith, here (c .before .before .before .before .before .before .before .before .before .before .before .before .before .before .pre .1 .0) .1, here (c .before .before .before .before .before .before .before .before .before .before .before .before .before .before .pre .1 .0) .2)
 
--- src/lib.rt:214:5
 meet-loop-holds : (t : ℕ) → meet-lts.Need-loop-holds (
   own-reads.Asked,
   own-reads.Learnt,
@@ -167,7 +160,6 @@ meet-loop-holds : (t : ℕ) → meet-lts.Need-loop-holds (
 meet-loop-holds t c =
     (omega arith, refl, outside-none _ _ _, λ k. left-start k _ _ _ (c .before .before .before .before .before .before .before .before .own .ensures (k .register) (k .read)) (c .before .before .before .before .keep-all .ensures))
 
--- src/lib.rt:216:18
 meet-element-copy-out-wide-2 : (t : ℕ) → meet-lts.Need-element-copy-out-wide-2 (
   own-reads.Asked,
   own-reads.Learnt,
@@ -183,7 +175,6 @@ meet-element-copy-out-wide-2 : (t : ℕ) → meet-lts.Need-element-copy-out-wide
 meet-element-copy-out-wide-2 t c =
     omega (arith, c .loop-test .taken, c .before .before .wide .ensures .0, here (c .before .before .before .before .before .before .before .before .before .before .before .before .before .before .before .before .pre .1 .0) .1, here (c .before .before .before .before .before .before .before .before .before .before .before .before .before .before .before .before .pre .1 .0) .2)
 
--- src/lib.rt:216:9
 meet-wide-requires-2 : (t : ℕ) → meet-lts.Need-wide-requires-2 (
   own-reads.Asked,
   own-reads.Learnt,
@@ -198,7 +189,6 @@ meet-wide-requires-2 : (t : ℕ) → meet-lts.Need-wide-requires-2 (
 ) (meet-at t) meet.Post meet-Inv-loop meet-μ-loop
 meet-wide-requires-2 t c κs = search needs
 
--- src/lib.rt:228:13
 meet-sub-meet : (t : ℕ) → meet-lts.Need-sub-meet (
   own-reads.Asked,
   own-reads.Learnt,
@@ -214,7 +204,6 @@ meet-sub-meet : (t : ℕ) → meet-lts.Need-sub-meet (
 meet-sub-meet t c =
     omega (arith, here (c .before .before .before .before .before .before .before .before .before .before .before .before .before .before .before .before .before .before .pre .1 .0) .0)
 
--- src/lib.rt:217:9
 meet-meet-requires : (t : ℕ) → meet-lts.Need-meet-requires (
   own-reads.Asked,
   own-reads.Learnt,
@@ -230,7 +219,6 @@ meet-meet-requires : (t : ℕ) → meet-lts.Need-meet-requires (
 meet-meet-requires t c κs =
     (omega (arith, here (c .before .before .before .before .before .before .before .before .before .before .before .before .before .before .before .before .before .before .before .pre .1 .0) .0, c .before .before .before .before .before .before .before .before .before .before .before .before .before .before .before .before .before .before .before .pre .0), ((child-case (c .before .before .before .before .before .before .before .before .before .before .before .before .before .before .before .before .before .before .before .pre .1 .0) _ _ (c .before .before .before .before .loop .inv .3 (c .before .before .before .before .before .before .before .before .before .before .before .before .before .before .before .before .before .before .before .pre .1 .0)) (c .before .before .before .before .loop .inv .0) (omega (arith, c .before .before .before .loop-test .taken, c .before .before .before .before .before .wide .ensures .0))), (c .before .before .before .before .before .before .before .before .before .before .before .before .before .before .before .before .before .before .before .pre .1 .1 .0, omega (arith, c .before .before .before .before .before .before .before .before .before .before .before .before .before .before .before .before .before .before .before .pre .1 .1 .1, c .before .before .before .before .loop .inv .1, c .before .before .before .before .before .before .before .before .before .keep-all .ensures .size, c .before .before .before .before .before .before .before .before .before .before .before .before .before .own .ensures (c .before .before .before .before .before .before .before .before .before .before .before .before .before .before .before .before .before .before .before .pre .1 .0 .register) (c .before .before .before .before .before .before .before .before .before .before .before .before .before .before .before .before .before .before .before .pre .1 .0 .read) .size), c .before .before .before .before .before .before .before .before .before .before .before .before .before .before .before .before .before .before .before .pre .1 .1 .2)))
 
--- src/lib.rt:231:36
 meet-element-copy-out-wide-3 : (t : ℕ) → meet-lts.Need-element-copy-out-wide-3 (
   own-reads.Asked,
   own-reads.Learnt,
@@ -246,7 +234,6 @@ meet-element-copy-out-wide-3 : (t : ℕ) → meet-lts.Need-element-copy-out-wide
 meet-element-copy-out-wide-3 t c =
     omega (arith, c .before .before .before .before .before .before .loop-test .taken, c .before .before .before .before .before .before .before .before .wide .ensures .0, here (c .before .before .before .before .before .before .before .before .before .before .before .before .before .before .before .before .before .before .before .before .before .before .pre .1 .0) .1, here (c .before .before .before .before .before .before .before .before .before .before .before .before .before .before .before .before .before .before .before .before .before .before .pre .1 .0) .2)
 
--- src/lib.rt:231:31
 meet-wide-requires-3 : (t : ℕ) → meet-lts.Need-wide-requires-3 (
   own-reads.Asked,
   own-reads.Learnt,
@@ -261,7 +248,6 @@ meet-wide-requires-3 : (t : ℕ) → meet-lts.Need-wide-requires-3 (
 ) (meet-at t) meet.Post meet-Inv-loop meet-μ-loop
 meet-wide-requires-3 t c κs = search needs
 
--- src/lib.rt:231:9
 meet-fold-requires : (t : ℕ) → meet-lts.Need-fold-requires (
   own-reads.Asked,
   own-reads.Learnt,
@@ -277,7 +263,6 @@ meet-fold-requires : (t : ℕ) → meet-lts.Need-fold-requires (
 meet-fold-requires t c κs =
     (record { register = c .before .before .before .before .before .before .before .before .before .before .before .before .before .before .before .before .before .before .before .before .before .before .before .before .before .pre .1 .0 .register; read = c .before .before .before .before .before .before .before .before .before .before .before .before .before .before .before .before .before .before .before .before .before .before .before .before .before .pre .1 .0 .read; holds = (c .before .before .before .before .before .before .before .before .before .before .before .before .before .before .before .before .before .before .before .before .before .before .before .before .before .pre .1 .0 .items-are, c .before .before .before .before .before .before .before .before .before .before .before .before .before .before .before .before .before .before .before .before .before .before .before .before .before .pre .1 .0 .links-are) }, (c .before .before .before .before .before .before .before .before .before .before .before .before .before .before .before .before .before .before .before .before .before .before .before .before .before .pre .1 .0 .most, omega (arith, c .before .before .before .before .before .before .before .before .before .before .before .before .before .before .before .before .before .before .before .before .before .before .before .before .before .pre .1 .1 .1, c .before .before .before .before .before .meet .kept .1 .1 .1 .1 .1 .1 .1 .1 .1 .1 .1 .0, c .before .before .before .before .before .before .before .before .before .before .loop .inv .1, c .before .before .before .before .before .before .before .before .before .before .before .before .before .before .before .keep-all .ensures .size, c .before .before .before .before .before .before .before .before .before .before .before .before .before .before .before .before .before .before .before .own .ensures (c .before .before .before .before .before .before .before .before .before .before .before .before .before .before .before .before .before .before .before .before .before .before .before .before .before .pre .1 .0 .register) (c .before .before .before .before .before .before .before .before .before .before .before .before .before .before .before .before .before .before .before .before .before .before .before .before .before .pre .1 .0 .read) .size), c .before .before .before .before .before .before .before .before .before .before .loop .inv .0, omega (arith, c .before .before .before .before .before .before .before .before .before .loop-test .taken, c .before .before .before .before .before .before .before .before .before .before .before .wide .ensures .0, here (c .before .before .before .before .before .before .before .before .before .before .before .before .before .before .before .before .before .before .before .before .before .before .before .before .before .pre .1 .0) .1, here (c .before .before .before .before .before .before .before .before .before .before .before .before .before .before .before .before .before .before .before .before .before .before .before .before .before .pre .1 .0) .2)))
 
--- src/lib.rt:214:5
 meet-loop-less : (t : ℕ) → meet-lts.Need-loop-less (
   own-reads.Asked,
   own-reads.Learnt,
@@ -293,7 +278,6 @@ meet-loop-less : (t : ℕ) → meet-lts.Need-loop-less (
 meet-loop-less t c =
     omega (arith, c .before .before .before .before .before .before .before .before .before .before .before .before .loop-test .taken, c .before .before .before .before .before .before .before .before .before .before .before .before .before .before .wide .ensures .0, c .before .before .before .before .before .before .before .before .before .before .wide2 .ensures .0, child (c .before .before .before .before .before .before .before .before .before .before .before .before .before .before .before .before .before .before .before .before .before .before .before .before .before .before .before .before .pre .1 .0) _ _ (c .before .before .before .before .before .before .before .before .before .before .before .before .before .loop .inv .3 (c .before .before .before .before .before .before .before .before .before .before .before .before .before .before .before .before .before .before .before .before .before .before .before .before .before .before .before .before .pre .1 .0)) (c .before .before .before .before .before .before .before .before .before .before .before .before .before .loop .inv .0) (omega (arith, c .before .before .before .before .before .before .before .before .before .before .before .before .loop-test .taken, c .before .before .before .before .before .before .before .before .before .before .before .before .before .before .wide .ensures .0)) .inside)
 
--- src/lib.rt:214:5
 meet-loop-again : (t : ℕ) → meet-lts.Need-loop-again (
   own-reads.Asked,
   own-reads.Learnt,
@@ -309,7 +293,6 @@ meet-loop-again : (t : ℕ) → meet-lts.Need-loop-again (
 meet-loop-again t c =
     (omega (arith, c .before .before .before .before .before .before .before .before .before .before .before .before .before .loop .inv .0, c .before .before .before .before .before .before .before .before .before .before .wide2 .ensures .0, child (c .before .before .before .before .before .before .before .before .before .before .before .before .before .before .before .before .before .before .before .before .before .before .before .before .before .before .before .before .pre .1 .0) _ _ (c .before .before .before .before .before .before .before .before .before .before .before .before .before .loop .inv .3 (c .before .before .before .before .before .before .before .before .before .before .before .before .before .before .before .before .before .before .before .before .before .before .before .before .before .before .before .before .pre .1 .0)) (c .before .before .before .before .before .before .before .before .before .before .before .before .before .loop .inv .0) (omega (arith, c .before .before .before .before .before .before .before .before .before .before .before .before .loop-test .taken, c .before .before .before .before .before .before .before .before .before .before .before .before .before .before .wide .ensures .0)) .inside), c .before .before .fold .kept .1 .1 .1 .1 .1 .1 .0 ∙ c .before .before .before .before .before .before .before .before .meet .kept .1 .1 .1 .1 .1 .1 .1 .1 .1 .1 .1 .0 ∙ c .before .before .before .before .before .before .before .before .before .before .before .before .before .loop .inv .1, outside-row _ _ _ _ _ _ _ (here (c .before .before .before .before .before .before .before .before .before .before .before .before .before .before .before .before .before .before .before .before .before .before .before .before .before .before .before .before .pre .1 .0) .1) (outside-part _ _ _ _ _ _ _ (omega (arith, c .before .before .before .before .before .before .before .before .before .before .before .before .before .loop .inv .0)) (child (c .before .before .before .before .before .before .before .before .before .before .before .before .before .before .before .before .before .before .before .before .before .before .before .before .before .before .before .before .pre .1 .0) _ _ (c .before .before .before .before .before .before .before .before .before .before .before .before .before .loop .inv .3 (c .before .before .before .before .before .before .before .before .before .before .before .before .before .before .before .before .before .before .before .before .before .before .before .before .before .before .before .before .pre .1 .0)) (c .before .before .before .before .before .before .before .before .before .before .before .before .before .loop .inv .0) (omega (arith, c .before .before .before .before .before .before .before .before .before .before .before .before .loop-test .taken, c .before .before .before .before .before .before .before .before .before .before .before .before .before .before .wide .ensures .0)) .within) (c .before .before .before .before .before .before .before .before .before .before .before .before .before .loop .inv .2) (c .before .before .before .before .before .before .before .before .meet .ensures (child-case (c .before .before .before .before .before .before .before .before .before .before .before .before .before .before .before .before .before .before .before .before .before .before .before .before .before .before .before .before .pre .1 .0) _ _ (c .before .before .before .before .before .before .before .before .before .before .before .before .before .loop .inv .3 (c .before .before .before .before .before .before .before .before .before .before .before .before .before .before .before .before .before .before .before .before .before .before .before .before .before .before .before .before .pre .1 .0)) (c .before .before .before .before .before .before .before .before .before .before .before .before .before .loop .inv .0) (omega (arith, c .before .before .before .before .before .before .before .before .before .before .before .before .loop-test .taken, c .before .before .before .before .before .before .before .before .before .before .before .before .before .before .wide .ensures .0))) .outside)) (c .before .before .fold .ensures (c .before .before .before .before .before .before .before .before .before .before .before .before .before .before .before .before .before .before .before .before .before .before .before .before .before .before .before .before .pre .1 .0 .register) (c .before .before .before .before .before .before .before .before .before .before .before .before .before .before .before .before .before .before .before .before .before .before .before .before .before .before .before .before .pre .1 .0 .read)), λ k. next-left k (bytes-known (c .before .before .before .before .before .before .before .before .before .before .before .before .before .before .before .before .before .before .before .before .before .before .before .before .before .before .before .before .args .s .now) (c .before .before .before .before .before .before .before .before .before .before .before .before .before .before .before .before .before .before .before .before .before .before .before .before .before .before .before .shared-slice-known .given)) _ _ _ _ (c .before .before .before .before .before .before .before .before .before .before .before .before .before .loop .inv .3 k) (c .before .before .before .before .before .before .before .before .before .before .before .before .before .loop .inv .0) (omega (arith, c .before .before .before .before .before .before .before .before .before .before .before .before .loop-test .taken, c .before .before .before .before .before .before .before .before .before .before .before .before .before .before .wide .ensures .0)) _ _ (c .before .before .before .before .wide3 .ensures .0) (c .before .before .before .before .before .before .before .before .before .before .wide2 .ensures .0) (c .before .before .before .before .before .before .before .before .meet .ensures (child-case k _ _ (c .before .before .before .before .before .before .before .before .before .before .before .before .before .loop .inv .3 k) (c .before .before .before .before .before .before .before .before .before .before .before .before .before .loop .inv .0) (omega (arith, c .before .before .before .before .before .before .before .before .before .before .before .before .loop-test .taken, c .before .before .before .before .before .before .before .before .before .before .before .before .before .before .wide .ensures .0)))) (c .before .before .fold .ensures (k .register) (k .read)))
 
--- src/lib.rt:191:1
 meet-same-length : (t : ℕ) → meet-lts.Need-same-length (
   own-reads.Asked,
   own-reads.Learnt,
@@ -325,7 +308,6 @@ meet-same-length : (t : ℕ) → meet-lts.Need-same-length (
 meet-same-length t c =
     c .before .loop .inv .1 ∙ c .before .before .before .before .before .before .keep-all .ensures .size ∙ c .before .before .before .before .before .before .before .before .before .before .own .ensures (c .before .before .before .before .before .before .before .before .before .before .before .before .before .before .before .before .pre .1 .0 .register) (c .before .before .before .before .before .before .before .before .before .before .before .before .before .before .before .before .pre .1 .0 .read) .size
 
--- src/lib.rt:191:1
 meet-returns : (t : ℕ) → meet-lts.Need-returns (
   own-reads.Asked,
   own-reads.Learnt,

@@ -1,3 +1,4 @@
+-- `member::walk` meets its contract. Assumes nothing.
 use Prim.Native.Nat.{ℕ, _<_}
 use borrow.Fn.Kinds.{In}
 use borrow.Fn.PlainCycle.{Measures, is, falls, and}
@@ -37,7 +38,6 @@ abbrev walk-μ-loop : walk-lts.MeasureT-loop
 walk-μ-loop s items links names roles ends met node left item map₀ first e c₀ map c =
     e - c
 
--- src/lib.rt:255:17
 walk-cast-map : (t : ℕ) → walk-lts.Need-cast-map (
   first-link-reads.Asked,
   first-link-reads.Learnt,
@@ -51,7 +51,6 @@ walk-cast-map : (t : ℕ) → walk-lts.Need-cast-map (
 walk-cast-map t c =
     omega (arith, c .before .before .before .pre .1 .0 .inside, c .before .before .before .pre .1 .0 .most)
 
--- src/lib.rt:255:5
 walk-mul-map : (t : ℕ) → walk-lts.Need-mul-map (
   first-link-reads.Asked,
   first-link-reads.Learnt,
@@ -65,7 +64,6 @@ walk-mul-map : (t : ℕ) → walk-lts.Need-mul-map (
 walk-mul-map t c =
     omega (arith, there (c .before .before .before .pre .1 .0) .1, there (c .before .before .before .pre .1 .0) .2)
 
--- src/lib.rt:255:5
 walk-slice-write-map : (t : ℕ) → walk-lts.Need-slice-write-map (
   first-link-reads.Asked,
   first-link-reads.Learnt,
@@ -79,7 +77,6 @@ walk-slice-write-map : (t : ℕ) → walk-lts.Need-slice-write-map (
 walk-slice-write-map t c =
     omega (arith, there (c .before .before .before .pre .1 .0) .1, there (c .before .before .before .pre .1 .0) .2, c .before .before .before .pre .1 .1 .0)
 
--- src/lib.rt:256:9
 walk-first-link-requires : (t : ℕ) → walk-lts.Need-first-link-requires (
   first-link-reads.Asked,
   first-link-reads.Learnt,
@@ -93,7 +90,6 @@ walk-first-link-requires : (t : ℕ) → walk-lts.Need-first-link-requires (
 walk-first-link-requires t c κs =
     record { register = c .before .before .before .pre .1 .0 .register; read = c .before .before .before .pre .1 .0 .read; holds = (c .before .before .before .pre .1 .0 .items-are, c .before .before .before .pre .1 .0 .links-are) }
 
--- src/lib.rt:257:18
 walk-element-copy-out-wide : (t : ℕ) → walk-lts.Need-element-copy-out-wide (
   first-link-reads.Asked,
   first-link-reads.Learnt,
@@ -107,7 +103,6 @@ walk-element-copy-out-wide : (t : ℕ) → walk-lts.Need-element-copy-out-wide (
 walk-element-copy-out-wide t c =
     omega (arith, there (c .before .before .before .before .pre .1 .0) .1, there (c .before .before .before .before .pre .1 .0) .2)
 
--- src/lib.rt:257:9
 walk-wide-requires : (t : ℕ) → walk-lts.Need-wide-requires (
   first-link-reads.Asked,
   first-link-reads.Learnt,
@@ -120,7 +115,6 @@ walk-wide-requires : (t : ℕ) → walk-lts.Need-wide-requires (
 ) (walk-at t) walk.Post walk-Inv-loop walk-μ-loop
 walk-wide-requires t c κs = search needs
 
--- src/lib.rt:258:17
 walk-add-c : (t : ℕ) → walk-lts.Need-add-c (
   first-link-reads.Asked,
   first-link-reads.Learnt,
@@ -134,7 +128,6 @@ walk-add-c : (t : ℕ) → walk-lts.Need-add-c (
 walk-add-c t c =
     omega (arith, there (c .before .before .before .before .before .before .pre .1 .0) .1, there (c .before .before .before .before .before .before .pre .1 .0) .2)
 
--- src/lib.rt:259:5
 walk-loop-holds : (t : ℕ) → walk-lts.Need-loop-holds (
   first-link-reads.Asked,
   first-link-reads.Learnt,
@@ -148,7 +141,6 @@ walk-loop-holds : (t : ℕ) → walk-lts.Need-loop-holds (
 walk-loop-holds t c =
     (refl, λ k. ahead-start k _)
 
--- src/lib.rt:261:18
 walk-element-copy-out-wide-2 : (t : ℕ) → walk-lts.Need-element-copy-out-wide-2 (
   first-link-reads.Asked,
   first-link-reads.Learnt,
@@ -162,7 +154,6 @@ walk-element-copy-out-wide-2 : (t : ℕ) → walk-lts.Need-element-copy-out-wide
 walk-element-copy-out-wide-2 t c =
     omega (arith, c .loop-test .taken, c .before .before .wide .ensures .0, there (c .before .before .before .before .before .before .before .before .pre .1 .0) .1, there (c .before .before .before .before .before .before .before .before .pre .1 .0) .2)
 
--- src/lib.rt:261:9
 walk-wide-requires-2 : (t : ℕ) → walk-lts.Need-wide-requires-2 (
   first-link-reads.Asked,
   first-link-reads.Learnt,
@@ -175,7 +166,6 @@ walk-wide-requires-2 : (t : ℕ) → walk-lts.Need-wide-requires-2 (
 ) (walk-at t) walk.Post walk-Inv-loop walk-μ-loop
 walk-wide-requires-2 t c κs = search needs
 
--- src/lib.rt:262:57
 walk-element-copy-out-wide-3 : (t : ℕ) → walk-lts.Need-element-copy-out-wide-3 (
   first-link-reads.Asked,
   first-link-reads.Learnt,
@@ -189,7 +179,6 @@ walk-element-copy-out-wide-3 : (t : ℕ) → walk-lts.Need-element-copy-out-wide
 walk-element-copy-out-wide-3 t c =
     omega (arith, c .before .before .loop-test .taken, c .before .before .before .before .wide .ensures .0, there (c .before .before .before .before .before .before .before .before .before .before .pre .1 .0) .1, there (c .before .before .before .before .before .before .before .before .before .before .pre .1 .0) .2)
 
--- src/lib.rt:262:52
 walk-wide-requires-3 : (t : ℕ) → walk-lts.Need-wide-requires-3 (
   first-link-reads.Asked,
   first-link-reads.Learnt,
@@ -202,7 +191,6 @@ walk-wide-requires-3 : (t : ℕ) → walk-lts.Need-wide-requires-3 (
 ) (walk-at t) walk.Post walk-Inv-loop walk-μ-loop
 walk-wide-requires-3 t c κs = search needs
 
--- src/lib.rt:262:13
 walk-seek-requires : (t : ℕ) → walk-lts.Need-seek-requires (
   first-link-reads.Asked,
   first-link-reads.Learnt,
@@ -216,7 +204,6 @@ walk-seek-requires : (t : ℕ) → walk-lts.Need-seek-requires (
 walk-seek-requires t c κs =
     (record { register = c .before .before .before .before .before .before .before .before .before .before .before .before .pre .1 .0 .register; read = c .before .before .before .before .before .before .before .before .before .before .before .before .pre .1 .0 .read; holds = (c .before .before .before .before .before .before .before .before .before .before .before .before .pre .1 .0 .items-are, c .before .before .before .before .before .before .before .before .before .before .before .before .pre .1 .0 .links-are, c .before .before .before .before .before .before .before .before .first-link .ensures (c .before .before .before .before .before .before .before .before .before .before .before .before .pre .1 .0 .register) (c .before .before .before .before .before .before .before .before .before .before .before .before .pre .1 .0 .read)) }, (c .before .before .before .before .before .before .before .before .before .before .before .before .pre .1 .0 .most, c .before .before .before .before .before .before .before .before .before .before .before .before .pre .1 .1 .1, omega (arith, c .before .before .before .before .loop-test .taken, c .before .before .before .before .before .before .wide .ensures .0, there (c .before .before .before .before .before .before .before .before .before .before .before .before .pre .1 .0) .1, there (c .before .before .before .before .before .before .before .before .before .before .before .before .pre .1 .0) .2)))
 
--- src/lib.rt:272:13
 walk-sub-walk : (t : ℕ) → walk-lts.Need-sub-walk (
   first-link-reads.Asked,
   first-link-reads.Learnt,
@@ -230,7 +217,6 @@ walk-sub-walk : (t : ℕ) → walk-lts.Need-sub-walk (
 walk-sub-walk t c =
     omega (arith, there (c .before .before .before .before .before .before .before .before .before .before .before .before .before .pre .1 .0) .0)
 
--- src/lib.rt:263:9
 walk-walk-requires : (t : ℕ) → walk-lts.Need-walk-requires (
   first-link-reads.Asked,
   first-link-reads.Learnt,
@@ -244,7 +230,6 @@ walk-walk-requires : (t : ℕ) → walk-lts.Need-walk-requires (
 walk-walk-requires t c κs =
     (omega (arith, there (c .before .before .before .before .before .before .before .before .before .before .before .before .before .before .pre .1 .0) .0, c .before .before .before .before .before .before .before .before .before .before .before .before .before .before .pre .0), (next-walk (c .before .before .before .before .before .before .before .before .before .before .before .before .before .before .pre .1 .0) (bytes-known (c .before .before .before .before .before .before .before .before .before .before .before .before .before .before .args .s .now) (c .before .before .before .before .before .before .before .before .before .before .before .before .before .shared-slice-known .given)) _ _ _ (c .before .before .before .before .before .before .before .loop .inv .1 (c .before .before .before .before .before .before .before .before .before .before .before .before .before .before .pre .1 .0)) (omega (arith, c .before .before .before .before .before .before .loop-test .taken, c .before .before .before .before .before .before .before .before .wide .ensures .0)) _ (goes (c .before .before .before .before .before .before .before .before .before .before .before .before .before .before .pre .1 .0) (bytes-known (c .before .before .before .before .before .before .before .before .before .before .before .before .before .before .args .s .now) (c .before .before .before .before .before .before .before .before .before .before .before .before .before .shared-slice-known .given)) _ _ _ (c .before .before .before .before .before .before .before .loop .inv .1 (c .before .before .before .before .before .before .before .before .before .before .before .before .before .before .pre .1 .0)) (omega (arith, c .before .before .before .before .before .before .loop-test .taken, c .before .before .before .before .before .before .before .before .wide .ensures .0)) _ _ (c .before .before .wide3 .ensures .0) (c .before .seek .ensures ((c .before .before .before .before .before .before .before .before .before .before .before .before .before .before .pre .1 .0) .register) ((c .before .before .before .before .before .before .before .before .before .before .before .before .before .before .pre .1 .0) .read))), (omega (arith, c .before .before .before .before .before .before .before .before .before .before .before .before .before .before .pre .1 .1 .0, c .before .before .before .before .before .before .before .loop .inv .0, length-set (c .before .before .before .before .before .before .before .before .before .before .before .before .before .before .args .map .now) (c .before .before .before .before .before .before .before .before .before .before .before .before .before .before .args .node) (c .before .before .before .before .before .before .before .before .before .before .before .before .before .before .args .item), next (c .before .before .before .before .before .before .before .before .before .before .before .before .before .before .pre .1 .0) (bytes-known (c .before .before .before .before .before .before .before .before .before .before .before .before .before .before .args .s .now) (c .before .before .before .before .before .before .before .before .before .before .before .before .before .shared-slice-known .given)) _ _ _ (c .before .before .before .before .before .before .before .loop .inv .1 (c .before .before .before .before .before .before .before .before .before .before .before .before .before .before .pre .1 .0)) (omega (arith, c .before .before .before .before .before .before .loop-test .taken, c .before .before .before .before .before .before .before .before .wide .ensures .0)) .within), c .before .before .before .before .before .before .before .before .before .before .before .before .before .before .pre .1 .1 .1)))
 
--- src/lib.rt:259:5
 walk-loop-less : (t : ℕ) → walk-lts.Need-loop-less (
   first-link-reads.Asked,
   first-link-reads.Learnt,
@@ -258,7 +243,6 @@ walk-loop-less : (t : ℕ) → walk-lts.Need-loop-less (
 walk-loop-less t c =
     omega (arith, c .before .before .before .before .before .before .before .before .before .loop-test .taken, c .before .before .before .before .before .before .before .before .before .before .before .wide .ensures .0, c .before .before .before .before .before .before .before .wide2 .ensures .0, next (c .before .before .before .before .before .before .before .before .before .before .before .before .before .before .before .before .before .pre .1 .0) (bytes-known (c .before .before .before .before .before .before .before .before .before .before .before .before .before .before .before .before .before .args .s .now) (c .before .before .before .before .before .before .before .before .before .before .before .before .before .before .before .before .shared-slice-known .given)) _ _ _ (c .before .before .before .before .before .before .before .before .before .before .loop .inv .1 (c .before .before .before .before .before .before .before .before .before .before .before .before .before .before .before .before .before .pre .1 .0)) (omega (arith, c .before .before .before .before .before .before .before .before .before .loop-test .taken, c .before .before .before .before .before .before .before .before .before .before .before .wide .ensures .0)) .inside)
 
--- src/lib.rt:259:5
 walk-loop-again : (t : ℕ) → walk-lts.Need-loop-again (
   first-link-reads.Asked,
   first-link-reads.Learnt,
@@ -272,7 +256,6 @@ walk-loop-again : (t : ℕ) → walk-lts.Need-loop-again (
 walk-loop-again t c =
     (c .before .before .walk .kept .1 .1 .1 .1 .1 .1 .1 .1 .1 .1 .0 ∙ c .before .before .before .before .before .before .before .before .before .before .loop .inv .0, λ k. next-ahead k (bytes-known (c .before .before .before .before .before .before .before .before .before .before .before .before .before .before .before .before .before .args .s .now) (c .before .before .before .before .before .before .before .before .before .before .before .before .before .before .before .before .shared-slice-known .given)) _ _ _ (c .before .before .before .before .before .before .before .before .before .before .loop .inv .1 k) (omega (arith, c .before .before .before .before .before .before .before .before .before .loop-test .taken, c .before .before .before .before .before .before .before .before .before .before .before .wide .ensures .0)) _ _ _ (goes k (bytes-known (c .before .before .before .before .before .before .before .before .before .before .before .before .before .before .before .before .before .args .s .now) (c .before .before .before .before .before .before .before .before .before .before .before .before .before .before .before .before .shared-slice-known .given)) _ _ _ (c .before .before .before .before .before .before .before .before .before .before .loop .inv .1 k) (omega (arith, c .before .before .before .before .before .before .before .before .before .loop-test .taken, c .before .before .before .before .before .before .before .before .before .before .before .wide .ensures .0)) _ _ (c .before .before .before .before .before .wide3 .ensures .0) (c .before .before .before .before .seek .ensures (k .register) (k .read))) (c .before .before .before .before .before .before .before .wide2 .ensures .0) (c .before .before .walk .ensures (next-walk k (bytes-known (c .before .before .before .before .before .before .before .before .before .before .before .before .before .before .before .before .before .args .s .now) (c .before .before .before .before .before .before .before .before .before .before .before .before .before .before .before .before .shared-slice-known .given)) _ _ _ (c .before .before .before .before .before .before .before .before .before .before .loop .inv .1 k) (omega (arith, c .before .before .before .before .before .before .before .before .before .loop-test .taken, c .before .before .before .before .before .before .before .before .before .before .before .wide .ensures .0)) _ (goes k (bytes-known (c .before .before .before .before .before .before .before .before .before .before .before .before .before .before .before .before .before .args .s .now) (c .before .before .before .before .before .before .before .before .before .before .before .before .before .before .before .before .shared-slice-known .given)) _ _ _ (c .before .before .before .before .before .before .before .before .before .before .loop .inv .1 k) (omega (arith, c .before .before .before .before .before .before .before .before .before .loop-test .taken, c .before .before .before .before .before .before .before .before .before .before .before .wide .ensures .0)) _ _ (c .before .before .before .before .before .wide3 .ensures .0) (c .before .before .before .before .seek .ensures (k .register) (k .read))))))
 
--- src/lib.rt:237:1
 walk-same-length : (t : ℕ) → walk-lts.Need-same-length (
   first-link-reads.Asked,
   first-link-reads.Learnt,
@@ -286,7 +269,6 @@ walk-same-length : (t : ℕ) → walk-lts.Need-same-length (
 walk-same-length t c =
     c .before .loop .inv .0 ∙ length-set (c .before .before .before .before .before .before .before .before .args .map .now) (c .before .before .before .before .before .before .before .before .args .node) (c .before .before .before .before .before .before .before .before .args .item)
 
--- src/lib.rt:237:1
 walk-returns : (t : ℕ) → walk-lts.Need-returns (
   first-link-reads.Asked,
   first-link-reads.Learnt,

@@ -1,11 +1,6 @@
+-- `member::fold` meets its contract. Assumes nothing.
 use Rattle.member.proofs.fold.Statement.{statement}
 use Rattle.member.proofs.fold.Tie as tie
-use Rattle.member.proofs.fold.Reads as reads
-use Rattle.member.proofs.fold.Lts as lts
-use Rattle.member.proofs.both.Reads as both-reads
-use Rattle.member.proofs.marked.Reads as marked-reads
-use Rattle.member.proofs.on.Reads as on-reads
-use Rattle.member.proofs.seek.Reads as seek-reads
 use Prim.Native.Nat.{_-_, _≤_, ℕ}
 use native.Mathlib.Omega.{arith}
 use native.Mathlib.Nat.{le-refl}
@@ -29,71 +24,55 @@ abbrev μ-loop : tie.MeasureT-loop
 μ-loop s items links role child node met₀ i₀ k₀ met i k =
     items - i
 
--- src/lib.rt:182:5
 loop-holds : tie.Need-loop-holds Inv-loop μ-loop
 loop-holds c =
     (λ g h. (rowed-none _ _ _, begins-first (g .links)), refl, omega arith)
 
--- src/lib.rt:183:13
 seek-requires : tie.Need-seek-requires Inv-loop μ-loop
 seek-requires c κs =
     (record { register = c .before .before .before .before .before .pre .0 .register; read = c .before .before .before .before .before .pre .0 .read; holds = (c .before .before .before .before .before .pre .0 .holds .0, c .before .before .before .before .before .pre .0 .holds .1, c .before .before .loop .inv .0 (c .before .before .before .before .before .pre .0 .register) (c .before .before .before .before .before .pre .0 .read) .1) }, (c .before .before .before .before .before .pre .1 .0, omega (arith, c .before .before .loop .inv .1, c .before .before .before .before .before .pre .1 .1), c .before .before .before .before .before .pre .1 .3))
 
--- src/lib.rt:184:25
 mul-marked : tie.Need-mul-marked Inv-loop μ-loop
 mul-marked c = search needs
 
--- src/lib.rt:184:25
 slice-read-marked : tie.Need-slice-read-marked Inv-loop μ-loop
 slice-read-marked c = search needs
 
--- src/lib.rt:184:47
 mul-on : tie.Need-mul-on Inv-loop μ-loop
 mul-on c = search needs
 
--- src/lib.rt:184:47
 slice-read-on : tie.Need-slice-read-on Inv-loop μ-loop
 slice-read-on c = search needs
 
--- src/lib.rt:184:44
 on-requires : tie.Need-on-requires Inv-loop μ-loop
 on-requires c κs = search needs
 
--- src/lib.rt:184:39
 both-requires : tie.Need-both-requires Inv-loop μ-loop
 both-requires c κs = search needs
 
--- src/lib.rt:184:18
 marked-requires : tie.Need-marked-requires Inv-loop μ-loop
 marked-requires c κs = search needs
 
--- src/lib.rt:184:9
 mul-met : tie.Need-mul-met Inv-loop μ-loop
 mul-met c = search needs
 
--- src/lib.rt:184:9
 slice-write-met : tie.Need-slice-write-met Inv-loop μ-loop
 slice-write-met c = search needs
 
--- src/lib.rt:186:9
 add-i : tie.Need-add-i Inv-loop μ-loop
 add-i c = search needs
 
--- src/lib.rt:182:5
 loop-less : tie.Need-loop-less Inv-loop μ-loop
 loop-less c = search needs
 
--- src/lib.rt:182:5
 loop-again : tie.Need-loop-again Inv-loop μ-loop
 loop-again c =
     (λ g h. (rowed-more _ _ _ _ _ _ _ (c .before .before .before .before .before .before .before .before .before .loop .inv .0 g h .0) (omega (arith, c .before .before .before .before .before .before .before .before .before .loop .inv .1, c .before .before .before .before .before .before .before .before .before .before .before .before .pre .1 .1)) (c .marked .ensures) (c .before .both .ensures ∙ ap₂ _&&_ (c .before .before .before .on .ensures ∙ c .before .before .before .before .before .before .before .before .before .loop .inv .0 g h .0 .rest _ (le-refl _)) (sought-any g (omega (arith, asked-image (c .before .before .before .before .before .before .before .before .before .before .before .before .pre .0) g h .0, c .before .before .before .before .before .before .before .before .before .before .before .before .pre .1 .0)) _ _ _ _ _ (c .before .before .before .before .before .before .seek .ensures g h) (λ y. c .before .before .before .before .before .before .before .before .before .loop .inv .0 g h .0 .other _ y (λ e. let z : c .before .before .before .before .before .before .before .before .before .before .before .before .args .child ≡ c .before .before .before .before .before .before .before .before .before .before .before .before .args .node = e in omega (arith, c .before .before .before .before .before .before .before .before .before .before .before .before .pre .1 .2))))), c .before .before .before .before .before .before .seek .ensures g h .next), simp length-set (c .before .before .before .before .before .before .before .before .before .loop .inv .1), omega arith)
 
--- src/lib.rt:166:1
 same-length : tie.Need-same-length Inv-loop μ-loop
 same-length c =
     c .before .loop .inv .1
 
--- src/lib.rt:166:1
 returns : tie.Need-returns Inv-loop μ-loop
 returns c =
     λ g h. rowed-all _ _ _ _ _ _ (c .before .loop .inv .0 g h .0) (c .before .loop .inv .2) (omega arith)

@@ -1,10 +1,6 @@
+-- `member::keep` meets its contract. Assumes nothing.
 use Rattle.member.proofs.keep.Statement.{statement}
 use Rattle.member.proofs.keep.Tie as tie
-use Rattle.member.proofs.keep.Reads as reads
-use Rattle.member.proofs.keep.Lts as lts
-use Rattle.member.proofs.both.Reads as both-reads
-use Rattle.member.proofs.marked.Reads as marked-reads
-use Rattle.member.proofs.on.Reads as on-reads
 use Prim.Native.Nat.{_-_, _≤_, ℕ}
 use native.Mathlib.Omega.{arith}
 use native.Mathlib.Nat.{le-refl}
@@ -23,78 +19,60 @@ abbrev μ-loop : tie.MeasureT-loop
 μ-loop items table k node met₀ i₀ met i =
     items - i
 
--- src/lib.rt:91:5
 loop-holds : tie.Need-loop-holds Inv-loop μ-loop
 loop-holds c =
     (rowed-none _ _ _, refl, omega arith)
 
--- src/lib.rt:92:25
 mul-marked : tie.Need-mul-marked Inv-loop μ-loop
 mul-marked c = search needs
 
--- src/lib.rt:92:25
 slice-read-marked : tie.Need-slice-read-marked Inv-loop μ-loop
 slice-read-marked c = search needs
 
--- src/lib.rt:92:47
 mul-on : tie.Need-mul-on Inv-loop μ-loop
 mul-on c = search needs
 
--- src/lib.rt:92:47
 slice-read-on : tie.Need-slice-read-on Inv-loop μ-loop
 slice-read-on c = search needs
 
--- src/lib.rt:92:44
 on-requires : tie.Need-on-requires Inv-loop μ-loop
 on-requires c κs = search needs
 
--- src/lib.rt:92:65
 mul-on-2 : tie.Need-mul-on-2 Inv-loop μ-loop
 mul-on-2 c = search needs
 
--- src/lib.rt:92:65
 shared-slice-read-on : tie.Need-shared-slice-read-on Inv-loop μ-loop
 shared-slice-read-on c = search needs
 
--- src/lib.rt:92:62
 on-requires-2 : tie.Need-on-requires-2 Inv-loop μ-loop
 on-requires-2 c κs = search needs
 
--- src/lib.rt:92:39
 both-requires : tie.Need-both-requires Inv-loop μ-loop
 both-requires c κs = search needs
 
--- src/lib.rt:92:18
 marked-requires : tie.Need-marked-requires Inv-loop μ-loop
 marked-requires c κs = search needs
 
--- src/lib.rt:92:9
 mul-met : tie.Need-mul-met Inv-loop μ-loop
 mul-met c = search needs
 
--- src/lib.rt:92:9
 slice-write-met : tie.Need-slice-write-met Inv-loop μ-loop
 slice-write-met c = search needs
 
--- src/lib.rt:93:9
 add-i : tie.Need-add-i Inv-loop μ-loop
 add-i c = search needs
 
--- src/lib.rt:91:5
 loop-less : tie.Need-loop-less Inv-loop μ-loop
 loop-less c = search needs
 
--- src/lib.rt:91:5
 loop-again : tie.Need-loop-again Inv-loop μ-loop
 loop-again c =
     (rowed-more _ _ _ _ _ _ _ (c .before .before .before .before .before .before .before .before .loop .inv .0) (omega (arith, c .before .before .before .before .before .before .before .before .loop .inv .1, c .before .before .before .before .before .before .before .before .before .before .before .pre .2)) (c .marked .ensures) (c .before .both .ensures ∙ ap₂ _&&_ (c .before .before .before .before .on .ensures ∙ c .before .before .before .before .before .before .before .before .loop .inv .0 .rest _ (le-refl _)) (c .before .before .on2 .ensures)), simp length-set (c .before .before .before .before .before .before .before .before .loop .inv .1), omega arith)
 
--- src/lib.rt:86:1
 same-length : tie.Need-same-length Inv-loop μ-loop
 same-length c =
     c .before .loop .inv .1
 
--- src/lib.rt:86:1
 returns : tie.Need-returns Inv-loop μ-loop
 returns c =
     rowed-all _ _ _ _ _ _ (c .before .loop .inv .0) (c .before .loop .inv .2) (omega arith)

@@ -1,9 +1,6 @@
+-- `member::keep_all` meets its contract. Assumes nothing.
 use Rattle.member.proofs.keep_all.Statement.{statement}
 use Rattle.member.proofs.keep_all.Tie as tie
-use Rattle.member.proofs.keep_all.Reads as reads
-use Rattle.member.proofs.keep_all.Lts as lts
-use Rattle.member.proofs.keep.Reads as keep-reads
-use Rattle.member.proofs.wide.Reads as wide-reads
 use Prim.Native.Nat.{_-_, _≤_, ℕ}
 use native.Mathlib.Omega.{arith}
 use mathlib.Core.Path.{_≡_, _∙_, sym, refl, ap}
@@ -19,52 +16,41 @@ abbrev μ-loop : tie.MeasureT-loop
 μ-loop items owners parts table node met₀ k₀ met k =
     parts - k
 
--- src/lib.rt:103:5
 loop-holds : tie.Need-loop-holds Inv-loop μ-loop
 loop-holds c =
     (through-none _ _ _ _ _, refl, omega arith)
 
--- src/lib.rt:105:9
 add-k : tie.Need-add-k Inv-loop μ-loop
 add-k c = search needs
 
--- src/lib.rt:106:17
 element-copy-out-wide : tie.Need-element-copy-out-wide Inv-loop μ-loop
 element-copy-out-wide c = search needs
 
--- src/lib.rt:106:12
 wide-requires : tie.Need-wide-requires Inv-loop μ-loop
 wide-requires c κs = search needs
 
--- src/lib.rt:103:5
 loop-less : tie.Need-loop-less Inv-loop μ-loop
 loop-less c = search needs
 
--- src/lib.rt:103:5
 loop-again : tie.Need-loop-again Inv-loop μ-loop
 loop-again c =
     (through-pass _ _ _ _ _ _ _ _ (c .before .before .before .before .loop .inv .0) (c .before .wide .ensures .0) (c .if1 .taken), c .before .before .before .before .loop .inv .1, omega arith)
 
--- src/lib.rt:109:9
 keep-requires : tie.Need-keep-requires Inv-loop μ-loop
 keep-requires c κs =
     (c .before .before .before .before .before .before .before .before .pre .0, omega (arith, c .before .before .before .before .before .before .before .before .pre .1), omega (arith, c .before .before .before .before .before .loop .inv .1, c .before .before .before .before .before .before .before .before .pre .2), c .before .before .before .before .before .before .before .before .pre .3)
 
--- src/lib.rt:103:5
 loop-less-2 : tie.Need-loop-less-2 Inv-loop μ-loop
 loop-less-2 c = search needs
 
--- src/lib.rt:103:5
 loop-again-2 : tie.Need-loop-again-2 Inv-loop μ-loop
 loop-again-2 c =
     (through-take _ _ _ _ _ _ _ _ _ (c .before .before .before .before .before .before .before .before .loop .inv .0) (c .before .before .before .before .before .wide .ensures .0) (c .before .before .before .before .if1 .left) (c .before .before .keep .ensures), c .before .before .keep .ensures .size ∙ c .before .before .before .before .before .before .before .before .loop .inv .1, omega arith)
 
--- src/lib.rt:98:1
 same-length : tie.Need-same-length Inv-loop μ-loop
 same-length c =
     c .before .loop .inv .1
 
--- src/lib.rt:98:1
 returns : tie.Need-returns Inv-loop μ-loop
 returns c =
     let e : c .before .loop .k ≡ c .before .before .before .before .args .parts = omega arith in rw e at (c .before .loop .inv .0)

@@ -1,9 +1,6 @@
+-- `member::own` meets its contract. Assumes nothing.
 use Rattle.member.proofs.own.Statement.{statement}
 use Rattle.member.proofs.own.Tie as tie
-use Rattle.member.proofs.own.Reads as reads
-use Rattle.member.proofs.own.Lts as lts
-use Rattle.member.proofs.marked.Reads as marked-reads
-use Rattle.register.proofs.names_of.Reads as names-of-reads
 use Prim.Native.Nat.{_-_, _≤_, ℕ}
 use native.Mathlib.Omega.{arith}
 use mathlib.Core.Path.{_≡_, _∙_, sym, refl, ap}
@@ -26,55 +23,43 @@ abbrev μ-loop : tie.MeasureT-loop
 μ-loop s items names node met₀ i₀ met i =
     items - i
 
--- src/lib.rt:79:5
 loop-holds : tie.Need-loop-holds Inv-loop μ-loop
 loop-holds c =
     (λ g h. rowed-none _ _ _, refl, omega arith)
 
--- src/lib.rt:80:25
 mul-marked : tie.Need-mul-marked Inv-loop μ-loop
 mul-marked c = search needs
 
--- src/lib.rt:80:25
 slice-read-marked : tie.Need-slice-read-marked Inv-loop μ-loop
 slice-read-marked c = search needs
 
--- src/lib.rt:80:47
 names-of-requires : tie.Need-names-of-requires Inv-loop μ-loop
 names-of-requires c κs =
     record { register = c .before .before .before .before .before .pre .0 .register; read = c .before .before .before .before .before .pre .0 .read; holds = omega (arith, c .before .before .before .before .before .pre .0 .holds) }
 
--- src/lib.rt:80:18
 marked-requires : tie.Need-marked-requires Inv-loop μ-loop
 marked-requires c κs = search needs
 
--- src/lib.rt:80:9
 mul-met : tie.Need-mul-met Inv-loop μ-loop
 mul-met c = search needs
 
--- src/lib.rt:80:9
 slice-write-met : tie.Need-slice-write-met Inv-loop μ-loop
 slice-write-met c = search needs
 
--- src/lib.rt:81:9
 add-i : tie.Need-add-i Inv-loop μ-loop
 add-i c = search needs
 
--- src/lib.rt:79:5
 loop-less : tie.Need-loop-less Inv-loop μ-loop
 loop-less c = search needs
 
--- src/lib.rt:79:5
 loop-again : tie.Need-loop-again Inv-loop μ-loop
 loop-again c =
     (λ g h. rowed-more _ _ _ _ _ _ _ (c .before .before .before .before .loop .inv .0 g h) (omega (arith, c .before .before .before .before .loop .inv .1, c .before .before .before .before .before .before .before .pre .1 .1)) (c .marked .ensures) (ap (λ (z : ℕ). eqb (bitAnd (c .before .before .before .before .before .before .before .args .names) z) (c .before .before .before .before .before .before .before .args .names)) (c .before .names-of .ensures g h)), simp length-set (c .before .before .before .before .loop .inv .1), omega arith)
 
--- src/lib.rt:73:1
 same-length : tie.Need-same-length Inv-loop μ-loop
 same-length c =
     c .before .loop .inv .1
 
--- src/lib.rt:73:1
 returns : tie.Need-returns Inv-loop μ-loop
 returns c =
     λ g h. rowed-all _ _ _ _ _ _ (c .before .loop .inv .0 g h) (c .before .loop .inv .2) (omega arith)

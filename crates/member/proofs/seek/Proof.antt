@@ -1,12 +1,6 @@
+-- `member::seek` meets its contract. Assumes nothing.
 use Rattle.member.proofs.seek.Statement.{statement}
 use Rattle.member.proofs.seek.Tie as tie
-use Rattle.member.proofs.seek.Reads as reads
-use Rattle.member.proofs.seek.Lts as lts
-use Rattle.member.proofs.on.Reads as on-reads
-use Rattle.member.proofs.taken.Reads as taken-reads
-use Rattle.register.proofs.from_of.Reads as from-of-reads
-use Rattle.register.proofs.role_of.Reads as role-of-reads
-use Rattle.register.proofs.to_of.Reads as to-of-reads
 use Prim.Native.Nat.{_-_, _≤_, ℕ}
 use native.Mathlib.Omega.{arith}
 use mathlib.Core.Path.{_∙_, sym, refl}
@@ -26,72 +20,57 @@ abbrev μ-loop : tie.MeasureT-loop
 μ-loop s items links item first role child met found₀ k₀ found k =
     links - k
 
--- src/lib.rt:143:5
 loop-holds : tie.Need-loop-holds Inv-loop μ-loop
 loop-holds c =
     (omega arith, omega (arith, c .before .before .pre .0 .holds .2 .within, c .before .before .pre .0 .holds .1), λ g h. scan-start _ _ (g .links) _ _ _ (asked-image (c .before .before .pre .0) g h .2))
 
--- src/lib.rt:144:12
 from-of-requires : tie.Need-from-of-requires Inv-loop μ-loop
 from-of-requires c κs =
     record { register = c .before .before .before .before .pre .0 .register; read = c .before .before .before .before .pre .0 .read; holds = (c .before .before .before .before .pre .0 .holds .0, omega (arith, c .before .before .before .before .pre .0 .holds .1)) }
 
--- src/lib.rt:145:13
 returns : tie.Need-returns Inv-loop μ-loop
 returns c =
     λ g h. scan-end _ g _ _ _ (c .before .before .before .loop .inv .2 g h) (past (c .before .before .before .before .before .before .args .s .now) (bytes-known (c .before .before .before .before .before .before .args .s .now) (c .before .before .before .before .before .shared-slice-known .given)) g h _ _ _ _ (asked-image (c .before .before .before .before .before .before .pre .0) g h .2) (c .before .before .before .loop .inv .0) (omega (arith, asked-image (c .before .before .before .before .before .before .pre .0) g h .1)) (c .before .from-of .ensures g h .0) (c .if1 .taken))
 
--- src/lib.rt:150:20
 role-of-requires : tie.Need-role-of-requires Inv-loop μ-loop
 role-of-requires c κs =
     record { register = c .before .before .before .before .before .before .pre .0 .register; read = c .before .before .before .before .before .before .pre .0 .read; holds = (c .before .before .before .before .before .before .pre .0 .holds .0, omega (arith, c .before .before .before .before .before .before .pre .0 .holds .1)) }
 
--- src/lib.rt:151:13
 to-of-requires : tie.Need-to-of-requires Inv-loop μ-loop
 to-of-requires c κs =
     record { register = c .before .before .before .before .before .before .before .pre .0 .register; read = c .before .before .before .before .before .before .before .pre .0 .read; holds = (c .before .before .before .before .before .before .before .pre .0 .holds .0, omega (arith, c .before .before .before .before .before .before .before .pre .0 .holds .1)) }
 
--- src/lib.rt:152:9
 add-k : tie.Need-add-k Inv-loop μ-loop
 add-k c = search needs
 
--- src/lib.rt:153:35
 mul-on : tie.Need-mul-on Inv-loop μ-loop
 mul-on c =
     omega (arith, c .to-of .ensures (c .before .before .before .before .before .before .before .before .pre .0 .register) (c .before .before .before .before .before .before .before .before .pre .0 .read) .1, c .before .before .before .before .before .before .before .before .pre .0 .holds .0)
 
--- src/lib.rt:153:35
 shared-slice-read-on : tie.Need-shared-slice-read-on Inv-loop μ-loop
 shared-slice-read-on c =
     omega (arith, c .before .to-of .ensures (c .before .before .before .before .before .before .before .before .before .pre .0 .register) (c .before .before .before .before .before .before .before .before .before .pre .0 .read) .1, c .before .before .before .before .before .before .before .before .before .pre .0 .holds .0)
 
--- src/lib.rt:153:32
 on-requires : tie.Need-on-requires Inv-loop μ-loop
 on-requires c κs = search needs
 
--- src/lib.rt:153:13
 taken-requires : tie.Need-taken-requires Inv-loop μ-loop
 taken-requires c κs = search needs
 
--- src/lib.rt:143:5
 loop-less : tie.Need-loop-less Inv-loop μ-loop
 loop-less c = search needs
 
--- src/lib.rt:143:5
 loop-again : tie.Need-loop-again Inv-loop μ-loop
 loop-again c =
     (omega arith, omega arith, λ g h. scan-pass _ _ (g .links) _ _ _ _ _ _ _ (c .before .before .before .before .before .before .before .before .before .loop .inv .2 g h) (omega (arith, asked-image (c .before .before .before .before .before .before .before .before .before .before .before .before .pre .0) g h .1)) (c .before .before .before .before .before .before .before .from-of .ensures g h .0) (c .before .before .before .before .before .role-of .ensures g h .0) (c .before .before .before .before .to-of .ensures g h .0) (c .before .before .before .before .before .before .if1 .left) _ (c .before .before .on .ensures) (omega (arith, asked-image (c .before .before .before .before .before .before .before .before .before .before .before .before .pre .0) g h .0, c .before .before .before .before .before .before .before .before .before .before .before .before .pre .1 .0)) _ (c .before .taken .ensures) (c .if2 .taken))
 
--- src/lib.rt:143:5
 loop-less-2 : tie.Need-loop-less-2 Inv-loop μ-loop
 loop-less-2 c = search needs
 
--- src/lib.rt:143:5
 loop-again-2 : tie.Need-loop-again-2 Inv-loop μ-loop
 loop-again-2 c =
     (omega arith, omega arith, λ g h. scan-take _ _ (g .links) _ _ _ _ _ _ _ (c .before .before .before .before .before .before .before .before .before .loop .inv .2 g h) (omega (arith, asked-image (c .before .before .before .before .before .before .before .before .before .before .before .before .pre .0) g h .1)) (c .before .before .before .before .before .before .before .from-of .ensures g h .0) (c .before .before .before .before .before .role-of .ensures g h .0) (c .before .before .before .before .to-of .ensures g h .0) (c .before .before .before .before .before .before .if1 .left) _ (c .before .before .on .ensures) (omega (arith, asked-image (c .before .before .before .before .before .before .before .before .before .before .before .before .pre .0) g h .0, c .before .before .before .before .before .before .before .before .before .before .before .before .pre .1 .0)) _ (c .before .taken .ensures) (c .if2 .left) (c .before .before .before .before .to-of .ensures g h .1))
 
--- src/lib.rt:127:1
 returns-2 : tie.Need-returns-2 Inv-loop μ-loop
 returns-2 c =
     λ g h. scan-end _ g _ _ _ (c .before .loop .inv .2 g h) (λ j l m. absurd (omega (arith, asked-image (c .before .before .before .before .pre .0) g h .1)))

@@ -1,20 +1,16 @@
+-- `member::taken` meets its contract. Assumes nothing.
 use Rattle.member.proofs.taken.Statement.{statement}
 use Rattle.member.proofs.taken.Tie as tie
-use Rattle.member.proofs.taken.Reads as reads
-use Rattle.member.proofs.taken.Lts as lts
 use borrow.Author.Tests.{eq-eqb, ne-eqb, not-true, not-false}
 
--- src/lib.rt:118:9
 returns : tie.Need-returns
 returns c =
     rw (not-true (c .before .args .same) (c .if1 .taken))
 
--- src/lib.rt:121:9
 returns-2 : tie.Need-returns-2
 returns-2 c =
     rw (not-false (c .before .before .args .same) (c .before .if1 .left), eq-eqb (c .before .before .args .found) 65535 (c .if2 .taken))
 
--- src/lib.rt:114:1
 returns-3 : tie.Need-returns-3
 returns-3 c =
     rw (not-false (c .before .before .args .same) (c .before .if1 .left), ne-eqb (c .before .before .args .found) 65535 (c .if2 .left))

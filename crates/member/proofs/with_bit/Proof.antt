@@ -1,45 +1,36 @@
+-- `member::with_bit` meets its contract. Assumes nothing.
 use borrow.Author.Needs.{needs}
 use Rattle.member.proofs.with_bit.Statement.{statement}
 use Rattle.member.proofs.with_bit.Tie as tie
-use Rattle.member.proofs.with_bit.Reads as reads
-use Rattle.member.proofs.with_bit.Lts as lts
 use Prim.Native.Nat.{_≤_, _+_, _-_}
 use native.Mathlib.Omega.{arith}
 use Rattle.member.proofs.Bits.{off-le, bit-off, bit-on, on-fits}
 
--- src/lib.rt:55:13
 returns : tie.Need-returns
 returns c = search needs
 
--- src/lib.rt:57:23
 shl-result : tie.Need-shl-result
 shl-result c = search needs
 
--- src/lib.rt:57:16
 sub-result : tie.Need-sub-result
 sub-result c =
     off-le (c .before .before .args .set) (c .before .before .args .k) (c .before .before .args .there) (c .before .before .args .yes) (c .before .before .pre .0) (c .before .before .pre .1) (c .before .if1 .taken)
 
--- src/lib.rt:57:9
 returns-2 : tie.Need-returns-2
 returns-2 c =
     bit-off (c .before .before .args .set) (c .before .before .args .k) (c .before .before .args .there) (c .before .before .args .yes) (c .before .before .pre .0) (c .before .before .pre .1) (c .before .if1 .taken) (c .if2 .left)
 
--- src/lib.rt:60:23
 shl-result-2 : tie.Need-shl-result-2
 shl-result-2 c = search needs
 
--- src/lib.rt:60:16
 add-result : tie.Need-add-result
 add-result c =
     record { fits = on-fits (c .before .before .args .set) (c .before .before .args .k) (c .before .before .args .there) (c .before .before .args .yes) (c .before .before .pre .0) (c .before .before .pre .1) (c .before .if1 .left) (c .before .before .fits .set .fits) }
 
--- src/lib.rt:60:9
 returns-3 : tie.Need-returns-3
 returns-3 c =
     bit-on (c .before .before .args .set) (c .before .before .args .k) (c .before .before .args .there) (c .before .before .args .yes) (c .before .before .pre .0) (c .before .before .pre .1) (c .before .if1 .left) (c .if3 .taken)
 
--- src/lib.rt:49:1
 returns-4 : tie.Need-returns-4
 returns-4 c = search needs
 
