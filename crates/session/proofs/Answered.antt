@@ -75,7 +75,7 @@ read-sizes s items links r e d =
     let z = good-inj (q .2) in
     record { register = q .0; read = q .1; holds = (ap (λ (c : Counts). c .items) (sym z), ap (λ (c : Counts). c .links) (sym z)) }
 
-refused-inj : {A : Type 0} {x y : Refusal} → _≡_ {A = Answer A} (refused x) (refused y) → x ≡ y
+pub refused-inj : {A : Type 0} {x y : Refusal} → _≡_ {A = Answer A} (refused x) (refused y) → x ≡ y
 refused-inj e = cc
 
 pub read-refused : (s : List ℕ) (x : Refusal) (r : Reading) → r ≡ RefusedReading x → paperReading r ≡ sized (readRegisterBy (wrongIn true) s) → readBuffer s ≡ refused x
@@ -277,6 +277,17 @@ sizes-fit s by items links a =
     let q = image-fits s (a .register) by (a .read) in
     (omega (arith, q .0 .items, a .holds .0), omega (arith, q .0 .few, a .holds .1), omega (arith, q .1, a .holds .0, a .holds .1))
 
+-- ---- what an accepted edit says
+
+pub accepted : (f : Fact) (a : Answer Changed) (was : Bool) (next : ℕ) (r : Edited) → r ≡ Accepted was next → paperEdit r ≡ wasBefore f a
+    → (c : Changed) × (a ≡ good c) × (was ≡ isFact (c .before) f) × (next ≡ c .count)
+accepted f a was next r e d = go a refl (sym (ap paperEdit e) ∙ d)
+  where
+    go : (z : Answer Changed) → a ≡ z → good (record { was = was; count = next }) ≡ wasBefore f z
+        → (c : Changed) × (a ≡ good c) × (was ≡ isFact (c .before) f) × (next ≡ c .count)
+    go (good c) i h = let z = good-inj h in (c, i, ap (λ (w : Was). w .was) z, ap (λ (w : Was). w .count) z)
+    go (refused y) i h = let z : _≡_ {A = ℕ} 0 1 = cc in absurd (omega arith)
+
 -- ---- the log of numbers after an edit
 
 module _ (s log : List ℕ) (count : ℕ) (f : Fact) (v : Bool) where
@@ -293,19 +304,10 @@ module _ (s log : List ℕ) (count : ℕ) (f : Fact) (v : Bool) where
       go (good c) h b = let z : _≡_ {A = ℕ} 0 1 = cc in absurd (omega arith)
       go (refused y) h b = (ap refused (refused-inj h), (b, refl))
 
-  accepted : (was : Bool) (next : ℕ) (r : Edited) → r ≡ Accepted was next → paperEdit r ≡ wasBefore f edited
-      → (c : Changed) × (edited ≡ good c) × (was ≡ isFact (c .before) f) × (next ≡ c .count)
-  accepted was next r e d = go edited refl (sym (ap paperEdit e) ∙ d)
-    where
-      go : (a : Answer Changed) → edited ≡ a → good (record { was = was; count = next }) ≡ wasBefore f a
-          → (c : Changed) × (edited ≡ good c) × (was ≡ isFact (c .before) f) × (next ≡ c .count)
-      go (good c) i h = let z = good-inj h in (c, i, ap (λ (w : Was). w .was) z, ap (λ (w : Was). w .count) z)
-      go (refused y) i h = let z : _≡_ {A = ℕ} 0 1 = cc in absurd (omega arith)
-
   -- the step can be written, and coded
   pub face-room : (by : Bytes s) (was : Bool) (next : ℕ) (r : Edited) → r ≡ Accepted was next → paperEdit r ≡ wasBefore f edited → (count < length log) × Ranged 512 f
   face-room by was next r e d =
-      let q = accepted was next r e d in
+      let q = accepted f edited was next r e d in
       let p = edit-passed s (length log) count (anEdit f v) (q .0) (q .1) in
       let few = image-fits s (q .0 .before) by (p .read) .0 .items in
       (omega (arith, p .steps), go f few (sounds (length (q .0 .before .names)) f (p .range) (p .role)))
@@ -319,7 +321,7 @@ module _ (s log : List ℕ) (count : ℕ) (f : Fact) (v : Bool) where
       → (paper (Good next) ≡ counted edited) × ((t ≡ bufferAfter s edited) × (lib.ListN.set log count x ≡ numbersAfter log count f edited))
   unfolding counted
   face-done was next x r t e d b i =
-      let q = accepted was next r e d in (
+      let q = accepted f edited was next r e d in (
         ap good (q .3) ∙ sym (ap counted (q .1)),
         (b, ap (lib.ListN.set log count) (i ∙ ap (λ (z : Bool). codeOf (record { fact = f; was = z })) (q .2)) ∙ sym (ap (numbersAfter log count f) (q .1))),
       )

@@ -7,3 +7,7 @@ pub mod Set
 pub mod Chains
 pub mod Answered
 pub mod Codes
+pub mod Walk
+pub mod Local
+pub mod Log
+pub mod Recorded
