@@ -11,3 +11,4 @@ pub mod Walk
 pub mod Local
 pub mod Log
 pub mod Recorded
+pub mod PlayedRecords

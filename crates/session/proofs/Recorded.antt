@@ -11,7 +11,7 @@ use Rattle.meaning.specs.declared.Step.{Step}
 use Rattle.meaning.specs.declared.Refusal.{Refusal}
 use Rattle.meaning.specs.Refusal.{Answer, good, refused}
 use Rattle.meaning.specs.Session.{Changed, editCall, counted, logAfter}
-use Rattle.meaning.proofs.SessionCalls.{EditPassed, edit-passed}
+use Rattle.meaning.proofs.SessionCalls.{edit-passed}
 use Rattle.session.specs.declared.Counted.the-variants.{Good, Refused}
 use Rattle.session.specs.declared.Edited.the-variants.{Accepted, Refused as NotEdited}
 use Rattle.session.specs.Calls.{paper, paperEdit, wasBefore, anEdit}

@@ -1,6 +1,7 @@
 // A session of trial edits: open, edit, undo and keep on a register image in a lent buffer.
 // The core (`edit_in`, `undo_in`) works on the buffer and never touches a log: it takes the log's length, the count in use and, for an undo, the last
 // step by value. Over it stands a first face, whose log is a lent slice of numbers, one for each step (`code` and `decode`).
+pub mod held;
 pub mod records;
 
 use fields;

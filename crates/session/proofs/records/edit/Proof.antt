@@ -160,14 +160,14 @@ module _ {M : Type 1} (𝓤 : URA M) (H : Heap 𝓤) (A : Atoms 𝓤) (W : Given
       nothing ! $ move ! (2 ∷ 0 ∷ []) $ join ! $ join ! $ frame ! $ done !
 
   exits : Room R (length ys) → (r : Counted) (zs : List ℕ) (ls : List Step) → Is N r (ans r ∷ [])
-      → (paper r ≡ counted (edited bs ys c f v)) × (ls ≡ logAfter ys c f (edited bs ys c f v)) → Leaves zs → length zs ≡ length bs → length ls ≡ length ys
-      → ent 𝓤 (⋆ 𝓤 H A (‵ (fobs γ′ (codedHoleys R .code (heres R ls))) ∷ ‵ (fbor κ′ (Held R (length ls) b′ o′ γ′)) ∷ ‵ (flft κ′ q′) ∷ (‵ (flft κ q) ⊛ ‵ ftrue) ∷ ‵
-      (finally u8 γ zs) ∷ [])) (Post (ans r))
-  exits room r zs ls is e e′ l l′ =
+      → paper r ≡ counted (edited bs ys c f v) → Leaves zs → ls ≡ logAfter ys c f (edited bs ys c f v) → length zs ≡ length bs → length ls ≡ length ys
+      → ent 𝓤 (⋆ 𝓤 H A (‵ (fobs γ′ (codedHoleys R .code (heres R ls))) ∷ ‵ (fbor κ′ (Held R (length ls) b′ o′ γ′)) ∷ ‵ (flft κ′ q′) ∷ (‵ (flft κ q) ⊛ ‵ ftrue)
+      ∷ ‵ (finally u8 γ zs) ∷ [])) (Post (ans r))
+  exits room r zs ls is answer buffer log l l′ =
       qed W (‵ (fobs γ′ (codedHoleys R .code (heres R ls))) ∷ ‵ (fbor κ′ (Held R (length ls) b′ o′ γ′)) ∷ ‵ (flft κ′ q′) ∷ (‵ (flft κ q) ⊛ ‵ ftrue) ∷ ‵ (finally u8 γ zs) ∷ []) ∵
       suffices ! _ (ends-at 𝓤 H A edit.ended stayed (edit.clauses 𝓤 H A mem run) W (((κ, (κ′, tt)), (q, (q′, tt)), tt, a, at), tt) (ans r) r (zs, (ls, (tt, (tt, (tt, tt)))))
       (l, (l′, (tt, (tt, (tt, tt)))))) $
-      shown ! (both 𝓤 (holds 𝓤 (e .0)) (both 𝓤 (holds 𝓤 e′) (holds 𝓤 (e .1)))) $
+      shown ! (both 𝓤 (holds 𝓤 cc) (both 𝓤 (holds 𝓤 cc) (holds 𝓤 cc))) $
       -- the tokens
       move ! (3 ∷ []) $ split ! $ move ! (4 ∷ 1 ∷ []) $ join ! $ move ! (1 ∷ 0 ∷ []) $ join ! $ frame ! $
       -- [obs; the borrow; the buffer's last list]: what the log owns, and the parameters
@@ -227,7 +227,8 @@ module _ {M : Type 1} (𝓤 : URA M) (H : Heap 𝓤) (A : Atoms 𝓤) (W : Given
         elim r [
           | Accepted t n ↦ (λ h.
               let within : c < length ys = has-place bs ys c f v t n (h .0) in let fits : c * 40 < 2 ^ 64 = scaled (length ys) c within (room .1) in
-              let g : Is R (step f t) (vals (step f t)) = step-is f t n f-is (h .1) in let good : Is N (Good n) (ans (Good n) ∷ []) = good-is t n (h .1) in
+              let g : Is R (step f t) (vals (step f t)) = step-is f t n f-is (h .1) in let good : Is N (Good n) (ans (Good n) ∷ []) = good-is t n
+              (h .1) in let wrote = one-written bs ys c f v t n (h .0) in
               switches-on ! (load ! (from ! (vrt ! refl (fld ! refl (stop !)))) (look-tag ! 25 (whole !))) $ exec ! C Λ E (armAt mir.s-5 0) (Then E) $
               assigns ! (of-opd ! (load ! (from ! (vrt ! refl (fld ! refl (stop !)))) (look-in ! 25 (in-variant ! 0 0 refl refl (whole !))))) (from ! (stop !)) (init ! 21 refl (tt, tt)) $
               assigns ! (of-opd ! (load ! (from ! (vrt ! refl (fld ! refl (stop !)))) (look-in ! 25 (in-variant ! 0 1 refl refl (whole !))))) (from ! (stop !))
@@ -255,9 +256,9 @@ module _ {M : Type 1} (𝓤 : URA M) (H : Heap 𝓤) (A : Atoms 𝓤) (W : Given
               move ! (31 ∷ 32 ∷ []) $ free1 ! $ move ! (29 ∷ 30 ∷ []) $ free1 ! $ move ! (27 ∷ 28 ∷ []) $ free1 ! $ move ! (25 ∷ 26 ∷ []) $ free1 ! $ move ! (23 ∷ 24 ∷ []) $ free1 ! $
               move ! (21 ∷ 22 ∷ []) $ free1 ! $ move ! (19 ∷ 20 ∷ []) $ free1 ! $ move ! (17 ∷ 18 ∷ []) $ free1 ! $ move ! (15 ∷ 16 ∷ []) $ free1 ! $ move ! (13 ∷ 14 ∷ []) $ free1 ! $
               move ! (11 ∷ 12 ∷ []) $ free1 ! $ move ! (9 ∷ 10 ∷ []) $ free1 ! $ free0 ! $
-              keep ! (0 ∷ 1 ∷ 2 ∷ 6 ∷ 7 ∷ []) $ by ! (exits room (Good n) (zs .0) (set ys c (step f t)) good (one-written bs ys c f v t n (h .0)) e′ l (length-set ys c (step f t)))))
+              keep ! (0 ∷ 1 ∷ 2 ∷ 6 ∷ 7 ∷ []) $ by ! (exits room (Good n) (zs .0) (set ys c (step f t)) good (wrote .0) e′ (wrote .1) l (length-set ys c (step f t)))))
           | NotEdited k ↦ (λ h.
-              let refused : Is N (Refused k) (ans (Refused k) ∷ []) = refused-is k (h .1) in
+              let refused : Is N (Refused k) (ans (Refused k) ∷ []) = refused-is k (h .1) in let wrote = none-written bs ys c f v k (h .0) in
               switches-on ! (load ! (from ! (vrt ! refl (fld ! refl (stop !)))) (look-tag ! 25 (whole !))) $ exec ! C Λ E (armAt mir.s-5 1) (Then E) $
               assigns ! (of-opd ! (load ! (from ! (vrt ! refl (fld ! refl (stop !)))) (look-in ! 25 (in-variant ! 1 0 refl refl (whole !))))) (from ! (stop !))
               (init ! 23 refl (refusal-typed k (h .1))) $
@@ -272,7 +273,7 @@ module _ {M : Type 1} (𝓤 : URA M) (H : Heap 𝓤) (A : Atoms 𝓤) (W : Given
               move ! (17 ∷ 18 ∷ []) $ free1 ! $ move ! (15 ∷ 16 ∷ []) $ free1 ! $ move ! (13 ∷ 14 ∷ []) $ free1 ! $ move ! (11 ∷ 12 ∷ []) $ free1 ! $ move ! (9 ∷ 10 ∷ []) $ free1 ! $
               move ! (7 ∷ 8 ∷ []) $ free1 ! $ move ! (5 ∷ 6 ∷ []) $ free1 ! $ free0 ! $
               move ! (4 ∷ []) $ fsplit ! $ fsplit ! $ move ! (1 ∷ []) $ fsplit ! $ move ! (7 ∷ []) $ split ! $
-              keep ! (2 ∷ 3 ∷ 0 ∷ 6 ∷ 7 ∷ []) $ by ! (exits room (Refused k) (zs .0) ys refused (none-written bs ys c f v k (h .0)) e′ l refl))
+              keep ! (2 ∷ 3 ∷ 0 ∷ 6 ∷ 7 ∷ []) $ by ! (exits room (Refused k) (zs .0) ys refused (wrote .0) e′ (wrote .1) l refl))
         ])))))))))))))))))))))))))
 
 module _ {M : Type 1} (𝓤 : URA M) (H : Heap 𝓤) (A : Atoms 𝓤) (W : Given 𝓤 H A) (mem : Memory → SProp 𝓤) (run : Routine → Fun 𝓤) where
