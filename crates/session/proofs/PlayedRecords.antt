@@ -1,20 +1,20 @@
--- Demand 3 over the log of step records: whatever functions keep the promises of the face, a history of calls on them leaves the session that the
--- document's history leaves (`played-is`), so the buffer shows the facts of the history (`played-shows`). Nothing is assumed of the log that is lent.
+-- The calls themselves over a log of step records, one after another: whatever results their promises allow, one result each (`one-result`), they
+-- follow meaning's history (`follows`). So demand 3 holds of them (`demand-3`). Nothing is assumed of the log and the count that are lent.
 -- Assumes nothing.
-use mathlib.Core.Path.{_≡_, sym, ap, _∙_, subst}
-use mathlib.Core.List.{[], List, _∷_}
+use mathlib.Core.Path.{_≡_, refl, sym, ap, ap₂, _∙_, subst}
+use mathlib.Core.List.{List, [], _∷_}
 use Prim.Native.Nat.{ℕ}
 use lib.ListN.{length}
 use Rattle.meaning.specs.declared.Step.{Step}
 use Rattle.meaning.specs.Refusal.{Answer, good}
 use Rattle.meaning.specs.Bytes.{Bytes}
 use Rattle.meaning.specs.Register.{Register, isFact, readBuffer}
-use Rattle.meaning.specs.Session.{Session, Call, opens, edits, undoes, keeps, answer, buffer, log, countAfter, next, play, historyFacts}
+use Rattle.meaning.specs.Session.{Session, Call, opens, edits, undoes, keeps, answer, buffer, log, countAfter, next, play, keptIf, accepted, nothing, standing, standingFacts}
 use Rattle.meaning.specs.Demand3.{Shows}
-use Rattle.meaning.proofs.Demand3.{demand-3}
+use Rattle.meaning.proofs.Demand3 as meant
 use Rattle.session.specs.declared.Counted.{Counted}
 use Rattle.session.specs.Calls.{paper}
-use Rattle.session.specs.Promised.{Gives, Promised, Played, calls}
+use Rattle.session.specs.PlayedRecords.{Gives, Promised, Played, calls, taken}
 
 abbrev session : List ℕ → List Step → ℕ → Session
 session b l n = record { buffer = b; log = l; count = n }
@@ -25,25 +25,39 @@ left s a b l r t p =
     ap (λ (z : List ℕ). session z (t .log) (t .count)) (p .buffer) ∙ ap (λ (z : List Step). session b z (t .count)) (p .log)
     ∙ ap (session b l) (p .count ∙ ap (countAfter (s .count)) (p .answered))
 
--- one call answers and leaves what the document says
-pub follows : (s : Session) (c : Call) (r : Counted) (t : Session) → Promised s c r t → (paper r ≡ answer s c) × (t ≡ next s c)
+-- one call: its answer is meaning's, and so is what is lent afterwards
+pub one-call : (s : Session) (c : Call) (r : Counted) (t : Session) → Promised s c r t → (paper r ≡ answer s c) × (t ≡ next s c)
 unfolding answer buffer log next
-follows s opens r t p = (p .answered, left s _ _ _ r t p)
-follows s (edits e) r t p = (p .answered, left s _ _ _ r t p)
-follows s undoes r t p = (p .answered, left s _ _ _ r t p)
-follows s keeps r t p = (p .answered, left s _ _ _ r t p)
+one-call s opens r t p = (p .answered, left s _ _ _ r t p)
+one-call s (edits e) r t p = (p .answered, left s _ _ _ r t p)
+one-call s undoes r t p = (p .answered, left s _ _ _ r t p)
+one-call s keeps r t p = (p .answered, left s _ _ _ r t p)
 
--- a history leaves the document's session
-pub played-is : (s : Session) (hs : List (Call × Counted)) (t : Session) → Played s hs t → t ≡ play s (calls hs)
-unfolding Played play
-played-is s [] t p = p
-played-is s (h ∷ hs) t p =
-    subst (λ (m : Session). t ≡ play m (calls hs)) (follows s (h .0) (h .1) (p .0) (p .1) .1) (played-is (p .0) hs t (p .2))
+-- any two results that a promise allows are equal
+pub one-result : (s : Session) (c : Call) (r q : Counted) (t u : Session) → Promised s c r t → Promised s c q u → (paper r ≡ paper q) × (t ≡ u)
+one-result s c r q t u h k =
+    let x = one-call s c r t h in
+    let y = one-call s c q u k in
+    (x .0 ∙ sym (y .0), x .1 ∙ sym (y .1))
 
--- Demand 3: from an opened register on the buffer shows the facts of the history
-pub played-shows : (s : Session) (g : Register) → Bytes (s .buffer) → readBuffer (s .buffer) ≡ good g
+-- any calls: what they leave, and which were accepted
+pub follows : (s : Session) (hs : List (Call × Counted)) (t : Session) → Played s hs t → (t ≡ play s (calls hs)) × (taken hs ≡ accepted s (calls hs))
+unfolding Played taken play accepted
+follows s [] t p = (p, refl)
+follows s (h ∷ hs) t p =
+    let one = one-call s (h .0) (h .1) (p .0) (p .1) in
+    let rest = follows (p .0) hs t (p .2) in (
+      rest .0 ∙ ap (λ (z : Session). play z (calls hs)) (one .1),
+      ap₂ (λ (a : Answer ℕ) (cs : List Call). keptIf a (h .0) cs) (one .0) (rest .1 ∙ ap (λ (z : Session). accepted z (calls hs)) (one .1)),
+    )
+
+-- Demand 3, from an opened register on: the first call is an opening, the others are any, refused ones among them. The buffer shows the facts of the
+-- edits that were accepted and not taken back, by what the calls handed back.
+pub demand-3 : (s : Session) (g : Register) → Bytes (s .buffer) → readBuffer (s .buffer) ≡ good g
     → (r : Counted) (hs : List (Call × Counted)) (t : Session) → Played s ((opens, r) ∷ hs) t
-    → Shows (length (g .names)) (historyFacts s (opens ∷ calls hs) (isFact g)) (t .buffer)
-played-shows s g by read r hs t p =
-    subst (λ (z : Session). Shows (length (g .names)) (historyFacts s (opens ∷ calls hs) (isFact g)) (z .buffer))
-    (sym (played-is s ((opens, r) ∷ hs) t p)) (demand-3 s g by read (calls hs))
+    → Shows (length (g .names)) (standingFacts (standing nothing (taken ((opens, r) ∷ hs))) (isFact g)) (t .buffer)
+demand-3 s g by read r hs t p =
+    let f = follows s ((opens, r) ∷ hs) t p in
+    subst (λ (cs : List Call). Shows (length (g .names)) (standingFacts (standing nothing cs) (isFact g)) (t .buffer)) (sym (f .1))
+    (subst (λ (z : Session). Shows (length (g .names)) (standingFacts (standing nothing (accepted s (opens ∷ calls hs))) (isFact g)) (z .buffer))
+    (sym (f .0)) (meant.demand-3 s g by read (calls hs)))
