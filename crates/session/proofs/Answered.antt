@@ -75,7 +75,7 @@ read-sizes s items links r e d =
     let z = good-inj (q .2) in
     record { register = q .0; read = q .1; holds = (ap (λ (c : Counts). c .items) (sym z), ap (λ (c : Counts). c .links) (sym z)) }
 
-refused-inj : {A : Type 0} {x y : Refusal} → _≡_ {A = Answer A} (refused x) (refused y) → x ≡ y
+pub refused-inj : {A : Type 0} {x y : Refusal} → _≡_ {A = Answer A} (refused x) (refused y) → x ≡ y
 refused-inj e = cc
 
 pub read-refused : (s : List ℕ) (x : Refusal) (r : Reading) → r ≡ RefusedReading x → paperReading r ≡ sized (readRegisterBy (wrongIn true) s) → readBuffer s ≡ refused x

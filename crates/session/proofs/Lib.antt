@@ -7,3 +7,4 @@ pub mod Set
 pub mod Chains
 pub mod Answered
 pub mod Codes
+pub mod Played

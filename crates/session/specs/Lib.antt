@@ -2,3 +2,4 @@ pub mod Moved
 pub mod Setting
 pub mod Coded
 pub mod Calls
+pub mod Played
