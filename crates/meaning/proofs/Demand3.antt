@@ -1,6 +1,7 @@
 -- Demand 3, proved: after any history of calls from an opened register on, with refused calls among them, the buffer shows the facts that the
 -- history gives (`demand-3`). An accepted edit decides its fact (`edit-shows`); whatever is on trial can be taken back, and then the buffer is
 -- what it was (`undo-accepted`, `taken-back`), also where the edit changed nothing. Undo that always reverses the edit is wrong (`undo-slip`).
+-- An edit or undo that has something to change changes the image (`edit-moves`, `undo-moves`).
 -- Assumes nothing.
 use mathlib.Core.Path.{_≡_, refl, sym, ap, ap₂, _∙_, subst}
 use mathlib.Core.Bool.{Bool, true, false, _&&_, _||_, not, cond}
@@ -18,15 +19,15 @@ use Rattle.meaning.specs.Bytes.{Bytes, number, headed}
 use Rattle.meaning.specs.Tree.{Concept, nodes}
 use Rattle.meaning.specs.Register.{Register, isFact, anyLink, mostLinks, wellFormed, encode, readRegister, readBuffer}
 use Rattle.meaning.specs.Requirement.{Requirement}
-use Rattle.meaning.specs.Message.{Part, readRequirement}
-use Rattle.meaning.specs.Calls.{readPlain, degreeCall, memberCall}
+use Rattle.meaning.specs.Message.{Part, readRequirement, lawful}
+use Rattle.meaning.specs.Calls.{readPlain, degreeCall, marginCall, memberCall}
 use Rattle.meaning.specs.Session.{Facts, link, sameFact, Edit, edited, insert, without, setFact, cleared, imageOf, room, outOfRange, roleAbove, noPlace, Changed, openCall, undoCall}
 use Rattle.meaning.specs.Session.{noSteps, counted, bufferOpened, Session, Call, opens, edits, undoes, keeps, lastStep}
 use Rattle.meaning.specs.Session.{answer, buffer, log, countAfter, next, play, keptIf, accepted, Standing, nothing, told, standing, applied, standingFacts, historyFacts}
 use Rattle.meaning.specs.Demand3.{RegisterOf, Shows}
-use Rattle.meaning.proofs.Tests.{true-false, is-false, neither}
+use Rattle.meaning.proofs.Tests.{true-false, is-true, is-false, neither}
 use Rattle.meaning.proofs.Reading.{good-inj, not-good, pass, took, not-below, not-le}
-use Rattle.meaning.proofs.Image.{image-length, image-read, read-buffer, fits}
+use Rattle.meaning.proofs.Image.{image-length, image-read, one-register, read-buffer, fits}
 use Rattle.meaning.proofs.SessionFacts.{fact-same, same-rising, same-register, Sounds, set-items, set-facts, set-rises, set-grows, set-same, Grows}
 use Rattle.meaning.proofs.SessionCalls.{alone, alone-length, alone-read, alone-image}
 use Rattle.meaning.proofs.History.{edit-undone, edited-agree, Has, Logged, Held, Stepped, read-here, last-step, step, held-play}
@@ -36,7 +37,7 @@ use Rattle.meaning.proofs.History.{edit-undone, edited-agree, Has, Logg
 module _ (n long : ℕ) (opened : Facts) where
   -- the buffer shows the facts
   shows : (w : Standing) (s : Session) → Held n long opened w s → Shows n (standingFacts w opened) (s .buffer)
-  unfolding degreeCall memberCall
+  unfolding degreeCall marginCall memberCall
   shows w s h =
       let g = h .has .register in
       let o = h .has .of in
@@ -53,6 +54,10 @@ module _ (n long : ℕ) (opened : Facts) where
             took (readRegister (imageOf (s .buffer))) _ g rd ∙ took (readPlain message) _ t e
             ∙ pass (leb (length (g .names)) item) _ _ (not-le (length (g .names)) item (omega (arith, o .items)))
             ∙ pass (ltb room (nodes t)) _ _ (not-below room (nodes t) r);
+        against = λ message t item p q e i l.
+            took (readRegister (imageOf (s .buffer))) _ g rd ∙ took (readPlain message) _ t e
+            ∙ pass (leb (length (g .names)) item) _ _ (not-le (length (g .names)) item (omega (arith, o .items)))
+            ∙ pass (not (lawful p q)) _ _ (ap not (is-true (lawful p q) l));
         decision = λ message q parts item room e i r.
             took (readRegister (imageOf (s .buffer))) _ g rd ∙ took (readRequirement message) _ (q, parts) e
             ∙ pass (leb (length (g .names)) item) _ _ (not-le (length (g .names)) item (omega (arith, o .items)))
@@ -104,6 +109,14 @@ module _ (s : Session) (g : Register) (b : Bytes (s .buffer)) (r : readBuffer (s
   history-counts cs =
       let h = history-held cs in
       (ap length (h .filled) ∙ alone-length (length (s .buffer)) (h .has .register) (h .has .small), h .count)
+
+-- ---- an edit that changes something changes the image
+
+-- one image shows one set of facts
+pub one-image : (n m : ℕ) (p q : Facts) (b c : List ℕ) → Shows n p b → Shows m q c → imageOf b ≡ imageOf c → (f : Fact) → p f ≡ q f
+one-image n m p q b c h k e f =
+    let g = one-register (h .register) (k .register) (h .fits .well) (k .fits .well) (sym (h .image) ∙ e ∙ k .image) in
+    sym (h .fits .has f) ∙ ap (λ (r : Register). isFact r f) g ∙ k .fits .has f
 
 -- an edit decides its fact, whatever was there, and no other
 pub edit-shows : (e : Edit) (there : Facts) → edited e there (e .fact) ≡ e .adds
@@ -214,6 +227,34 @@ module _ (s : Session) (g : Register) (b : Bytes (s .buffer)) (r : readBuffer (s
       × (next (next now (edits e)) undoes .count ≡ now .count)
   taken-back e k a =
       back-again (length (g .names)) (length (s .buffer)) (isFact g) (standing nothing (accepted s (opens ∷ cs))) now e k (history-held s g b r cs) a
+
+  -- An accepted edit that leaves the image as it was had nothing to change; so had an undo's edit. This rules out an image that never changes, an
+  -- undo that does nothing, and a session that applies its first edit and only counts the rest.
+  pub edit-moves : (e : Edit) (k : ℕ) → answer now (edits e) ≡ good k → imageOf (next now (edits e) .buffer) ≡ imageOf (now .buffer)
+      → historyFacts s (opens ∷ cs) (isFact g) (e .fact) ≡ e .adds
+  unfolding applied
+  edit-moves e k a i =
+      let n = length (g .names) in
+      let long = length (s .buffer) in
+      let w = standing nothing (accepted s (opens ∷ cs)) in
+      let h = history-held s g b r cs in
+      let before = shows n long (isFact g) w now h in
+      let after = shows n long (isFact g) (told w (edits e)) (next now (edits e)) (next-held n long (isFact g) w now (edits e) k a h) in
+      sym (one-image n n _ _ _ _ after before i (e .fact)) ∙ edit-shows e (standingFacts w (isFact g))
+
+  pub undo-moves : (e : Edit) (es : List Edit) (k : ℕ) → standing nothing (accepted s (opens ∷ cs)) .trial ≡ e ∷ es → answer now undoes ≡ good k
+      → imageOf (next now undoes .buffer) ≡ imageOf (now .buffer)
+      → standingFacts (told (standing nothing (accepted s (opens ∷ cs))) undoes) (isFact g) (e .fact) ≡ e .adds
+  unfolding applied
+  undo-moves e es k d a i =
+      let n = length (g .names) in
+      let long = length (s .buffer) in
+      let w = standing nothing (accepted s (opens ∷ cs)) in
+      let h = history-held s g b r cs in
+      let before = shows n long (isFact g) w now h in
+      let after = shows n long (isFact g) (told w undoes) (next now undoes) (next-held n long (isFact g) w now undoes k a h) in
+      one-image n n _ _ _ _ after before i (e .fact)
+      ∙ ap (λ (z : List Edit). applied (z ++ w .kept) (isFact g) (e .fact)) d ∙ edit-shows e (applied (es ++ w .kept) (isFact g))
 
 -- ---- "Undo that always reverses the edit"
 

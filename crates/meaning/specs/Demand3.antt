@@ -1,6 +1,7 @@
 -- Demand 3: what a session shows after any history of calls from an opened register on. proofs/Demand3.antt proves it of every history.
--- It rules out an unchanging image, and a session that applies its first edit and only counts the rest: the facts are those of all accepted edits
--- not taken back, each of which decides its fact (proofs/Demand3.antt, `edit-shows`), and the register with these facts is the one in the buffer.
+-- It rules out an unchanging image, an undo that does nothing, and a session that applies its first edit and only counts the rest: the facts are
+-- those of all accepted edits not taken back, and an image shows one set of facts; so what has something to change changes the image
+-- (proofs/Demand3.antt, `edit-moves`, `undo-moves`).
 -- Assumes nothing.
 use mathlib.Core.Path.{_≡_}
 use mathlib.Core.Bool.{Bool, true, false}
@@ -14,9 +15,10 @@ use Rattle.meaning.specs.Tree.{Concept, nodes}
 use Rattle.meaning.specs.Register.{Register, isFact, judged, wellFormed, encode}
 use Rattle.meaning.specs.Degree.{answered}
 use Rattle.meaning.specs.Requirement.{Requirement, member}
-use Rattle.meaning.specs.Message.{Part, readRequirement}
+use Rattle.meaning.specs.Fraction.{_//_, margin, marginOver}
+use Rattle.meaning.specs.Message.{Part, readRequirement, lawful}
 use Rattle.meaning.specs.Shown.{degreeMap, yesMap}
-use Rattle.meaning.specs.Calls.{readPlain, degreeCall, memberCall, decide}
+use Rattle.meaning.specs.Calls.{readPlain, degreeCall, marginCall, memberCall, decide}
 use Rattle.meaning.specs.Session.{Facts, zeros, imageOf}
 
 -- a register of n items that has these facts
@@ -34,10 +36,13 @@ pub record Shows (n : ℕ) (facts : Facts) (buffer : List ℕ) : Type 0 where
   pub only : (g : Register) → RegisterOf n facts g → g ≡ register
   -- behind it stand zeros: opening cleared them, an added link takes 5 of them, and one taken away gives them back
   pub behind : buffer ≡ encode register ++ zeros (length buffer - length (encode register))
-  -- the degree, the yes or no, and the map asked of the image are those over these facts
+  -- the degree, the margin, the yes or no, and the map asked of the image are those over these facts
   pub degree : (message : List ℕ) (t : Concept) (item room : ℕ) → readPlain message ≡ good t → item < n → nodes t ≤ room
       → degreeCall (imageOf buffer) message item room
       ≡ good (record { degree = answered (judged register) t item; map = degreeMap (judged register) t item })
+  pub against : (message : List ℕ) (t : Concept) (item p q : ℕ) → readPlain message ≡ good t → item < n → T (lawful p q)
+      → marginCall (imageOf buffer) message item p q
+      ≡ good (record { margin = margin (answered (judged register) t item) (p // q); over = marginOver (answered (judged register) t item) (p // q) })
   pub decision : (message : List ℕ) (q : Requirement) (parts : List Part) (item room : ℕ) → readRequirement message ≡ good (q, parts)
       → item < n → nodes q ≤ room
       → memberCall (imageOf buffer) message item room ≡ good (decide (member (judged register) q item) (yesMap (judged register) q item))

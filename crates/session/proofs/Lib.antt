@@ -12,3 +12,4 @@ pub mod Local
 pub mod Log
 pub mod Recorded
 pub mod PlayedRecords
+pub mod Played

@@ -3,3 +3,4 @@ pub mod Setting
 pub mod Coded
 pub mod Calls
 pub mod PlayedRecords
+pub mod Played

@@ -1,9 +1,9 @@
 -- The numbers of a message that was read, and of the place of an inner concept.
 -- Assumes nothing.
-use mathlib.Core.Path.{_≡_, refl, sym, ap, _∙_}
+use mathlib.Core.Path.{_≡_, refl, sym, ap, subst, _∙_}
 use mathlib.Core.Bool.{Bool, true, false, cond}
-use mathlib.Core.List.{List}
-use Prim.Native.Nat.{ℕ}
+use mathlib.Core.List.{List, [], _∷_, List·Memᴰ, List·Memᴰ·head, List·Memᴰ·tail}
+use Prim.Native.Nat.{ℕ, zero, suc, _≤_}
 use native.Mathlib.Omega.{arith}
 use lib.Dec.{T, eqb, eqb→eq, eqb-refl}
 use lib.ListN.{length}
@@ -16,8 +16,11 @@ use Rattle.meaning.proofs.Tests.{is-true, is-false}
 use Rattle.requirement.specs.declared.Message.{Message}
 use Rattle.requirement.specs.declared.Message.the-variants.{Good, Refused}
 use Rattle.requirement.specs.declared.Place.{Place}
-use Rattle.requirement.specs.Reading.{Arrays, MessageOutcome, MessageDone}
+use Rattle.meaning.specs.Bytes.{Bytes}
+use Rattle.meaning.proofs.Message.{read-back, parts-inside}
+use Rattle.requirement.specs.Reading.{Arrays, MessageOutcome, MessageDone, placeIn, placeOf}
 use Rattle.svelgandur.specs.Numbers.{four, refusalNumbers, numbers, written, placeNumbers}
+use Rattle.svelgandur.proofs.Numbers.{nth}
 
 pub message-good : (s : List ℕ) (B : Arrays) (r : Message) (n m : ℕ) → MessageDone s B r → r ≡ Good n m → four 1 n m 0 ≡ numbers written (readRequirement s)
 message-good s B r n m h e = go (readRequirement s) h
@@ -43,3 +46,44 @@ pub some-place : (p q : Place) → p ≡ q → (p .len ≡ 0 → ⊥) → four 1
 some-place p q e z =
     ap (λ (x : Place). four 1 (x .start) (x .len) 0) e
     ∙ sym (ap (λ (b : Bool). cond b (four 0 0 0 0) (four 1 (q .start) (q .len) 0)) (is-false (eqb (q .len) 0) (λ t. z (ap (λ (x : Place). x .len) e ∙ eqb→eq (q .len) 0 t))))
+
+-- ---- the numbers of two places are the same only where the places are
+
+abbrev nowhere : Place
+nowhere = record { start = 0; len = 0 }
+
+-- a part of a message that was read has bytes
+part-found : (ps : List Part) → ((x : Part) → List·Memᴰ x ps → 10 ≤ x .len) → (k : ℕ) → placeIn k ps .len ≡ 0 → placeIn k ps ≡ nowhere
+unfolding placeIn
+part-found [] h k e = refl
+part-found (x ∷ ps) h zero e = absurd (omega (arith, h x (List·Memᴰ·head refl)))
+part-found (x ∷ ps) h (suc k) e = part-found ps (λ y m. h y (List·Memᴰ·tail m)) k e
+
+no-bytes : (s : List ℕ) → Bytes s → (k : ℕ) → placeOf k (readRequirement s) .len ≡ 0 → placeOf k (readRequirement s) ≡ nowhere
+no-bytes s b k = go (readRequirement s) refl
+  where
+    go : (a : Answer (Requirement × List Part)) → readRequirement s ≡ a → placeOf k a .len ≡ 0 → placeOf k a ≡ nowhere
+    go (good x) e z = part-found (x .1) (λ y m. parts-inside s x (read-back s x b e) m .1) k z
+    go (refused f) e z = refl
+
+place-apart : (p q : Place) → (p .len ≡ 0 → p ≡ nowhere) → (q .len ≡ 0 → q ≡ nowhere) → placeNumbers p ≡ placeNumbers q → p ≡ q
+place-apart p q h i = go (eqb (p .len) 0) (eqb (q .len) 0) refl refl
+  where
+    told : (n : ℕ) → eqb n 0 ≡ true → n ≡ 0
+    told n e = eqb→eq n 0 (subst T (sym e) tt)
+
+    same : {a b m n : ℕ} → a ≡ b → m ≡ n → _≡_ {A = Place} (record { start = a; len = m }) (record { start = b; len = n })
+    same e f = cc
+
+    go : (a b : Bool) → eqb (p .len) 0 ≡ a → eqb (q .len) 0 ≡ b
+        → cond a (four 0 0 0 0) (four 1 (p .start) (p .len) 0) ≡ cond b (four 0 0 0 0) (four 1 (q .start) (q .len) 0) → p ≡ q
+    go true true x y e = h (told (p .len) x) ∙ sym (i (told (q .len) y))
+    go true false x y e = let z : _≡_ {A = ℕ} 0 1 = nth 0 e in absurd (omega arith)
+    go false true x y e = let z : _≡_ {A = ℕ} 1 0 = nth 0 e in absurd (omega arith)
+    go false false x y e = same (nth 1 e) (nth 2 e)
+
+pub places-apart : (s t : List ℕ) → Bytes s → Bytes t → (k j : ℕ)
+    → placeNumbers (placeOf k (readRequirement s)) ≡ placeNumbers (placeOf j (readRequirement t))
+    → placeOf k (readRequirement s) ≡ placeOf j (readRequirement t)
+places-apart s t b c k j e =
+    place-apart (placeOf k (readRequirement s)) (placeOf j (readRequirement t)) (no-bytes s b k) (no-bytes t c j) e

@@ -4,16 +4,19 @@ use mathlib.Core.Path.{_≡_, refl, sym, ap, _∙_}
 use mathlib.Core.List.{List}
 use Prim.Native.Nat.{ℕ}
 use native.Mathlib.Omega.{arith}
-use lib.ListN.{getD}
+use lib.ListN.{length, getD}
 use Rattle.meaning.specs.declared.Side.{Side}
 use Rattle.meaning.specs.declared.Side.the-variants.{Register, Requirement, Call}
 use Rattle.meaning.specs.declared.Refusal.{Refusal}
 use Rattle.meaning.specs.Refusal.{Answer, good, refused, at}
 use Rattle.register.specs.Reading.{Counts}
-use Rattle.svelgandur.specs.Numbers.{four, sideNumber, refusalNumbers, numbers, counts}
+use Rattle.meaning.specs.Requirement.{Requirement as RequirementTree}
+use Rattle.meaning.specs.Message.{Part}
+use Rattle.meaning.specs.Tree.{nodes}
+use Rattle.svelgandur.specs.Numbers.{four, sideNumber, refusalNumbers, numbers, counts, written, inUse}
 
 -- the k-th of the four
-nth : (k : ℕ) {x y : List ℕ} → x ≡ y → getD x k 0 ≡ getD y k 0
+pub nth : (k : ℕ) {x y : List ℕ} → x ≡ y → getD x k 0 ≡ getD y k 0
 nth k e = ap (λ (l : List ℕ). getD l k 0) e
 
 sides-apart : (s t : Side) → sideNumber s ≡ sideNumber t → s ≡ t
@@ -46,3 +49,27 @@ readings-apart = answers-apart counts (λ a b e. same-counts (nth 1 e) (nth 2 e)
   where
     same-counts : {a b m n : ℕ} → a ≡ b → m ≡ n → _≡_ {A = Counts} (record { items = a; links = m }) (record { items = b; links = n })
     same-counts e f = cc
+
+-- the calls of a session: so any two results that the promise of one of them allows are equal
+pub sessions-apart : (x y : Answer ℕ) → numbers inUse x ≡ numbers inUse y → x ≡ y
+sessions-apart = answers-apart inUse (λ a b e. nth 1 e) (λ a e. omega arith)
+
+-- what a requirement that was read answers: its written nodes and its thresholds
+abbrev pub sized : Answer (RequirementTree × List Part) → Answer (ℕ × ℕ)
+sized (good x) = good (nodes (x .0), length (x .1))
+sized (refused r) = refused r
+
+abbrev pub sizes : ℕ × ℕ → List ℕ
+sizes n = four 1 (n .0) (n .1) 0
+
+sizes-written : (x : Answer (RequirementTree × List Part)) → numbers sizes (sized x) ≡ numbers written x
+sizes-written (good x) = refl
+sizes-written (refused r) = refl
+
+pub requirements-apart : (x y : Answer (RequirementTree × List Part)) → numbers written x ≡ numbers written y → sized x ≡ sized y
+requirements-apart x y e =
+    answers-apart sizes (λ a b h. same-sizes (nth 1 h) (nth 2 h)) (λ a h. omega arith) (sized x) (sized y)
+    (sizes-written x ∙ e ∙ sym (sizes-written y))
+  where
+    same-sizes : {a b m n : ℕ} → a ≡ b → m ≡ n → _≡_ {A = ℕ × ℕ} (a, m) (b, n)
+    same-sizes e f = cc

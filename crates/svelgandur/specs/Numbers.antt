@@ -49,3 +49,11 @@ written x = four 1 (nodes (x .0)) (length (x .1)) 0
 -- where an inner concept stands: 1, place, length, 0; without bytes it is refused: 0, 0, 0, 0
 abbrev pub placeNumbers : Place → List ℕ
 placeNumbers p = cond (eqb (p .len) 0) (four 0 0 0 0) (four 1 (p .start) (p .len) 0)
+
+-- a session's call: 1, the count of steps in use, 0, 0; opening and keep hand back count 0
+abbrev pub inUse : ℕ → List ℕ
+inUse n = four 1 n 0 0
+
+-- what asks an edit to add its fact: any number but 0
+abbrev pub isAdding : ℕ → Bool
+isAdding n = isSession n

@@ -1,0 +1,27 @@
+-- `svelgandur::trial::svelgandur_edit_link` meets its contract: the numbers written, the buffer and the log are those of the call.
+-- Assumes nothing.
+use borrow.Author.Needs.{needs}
+use Rattle.svelgandur.proofs.trial.svelgandur_edit_link.Statement.{statement}
+use Rattle.svelgandur.proofs.trial.svelgandur_edit_link.Tie as tie
+use mathlib.Core.Path.{_≡_, _∙_, ap}
+use Rattle.svelgandur.specs.Numbers.{numbers, inUse}
+
+edit-requires : tie.Need-edit-requires
+edit-requires c κs = search needs
+
+hand-back-requires : tie.Need-hand-back-requires
+hand-back-requires c κs = search needs
+
+same-length : tie.Need-same-length
+same-length c = search needs
+
+same-length-2 : tie.Need-same-length-2
+same-length-2 c = search needs
+
+returns : tie.Need-returns
+returns c =
+    (c .hand-back .ensures ∙ ap (numbers inUse) (c .before .before .before .before .before .before .edit .ensures .0), c .before .before .before .before .before .before .edit .ensures .1)
+
+pub svelgandur-edit-link-spec : {M : Type 1} → statement M
+svelgandur-edit-link-spec =
+    tie.close (tie.spec edit-requires hand-back-requires same-length same-length-2 returns)
