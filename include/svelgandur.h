@@ -124,8 +124,8 @@ void svelgandur_inner_part(const uint8_t *message, size_t message_length,
  *           behind them is room for links, 5 bytes each. A buffer of 24,583
  *           bytes is enough for every register.
  * log       one number for each step: every accepted edit writes one, at the
- *           count. At most the first 64 are ever used, and no call reads one at
- *           or behind the count.
+ *           count. At most the first 64 are ever used, and those at and behind
+ *           the count have no bearing on any answer.
  * count     how many steps are in use. The caller holds it between calls: it is
  *           0 after opening, and afterwards what the last good answer said.
  *
