@@ -1,14 +1,16 @@
 /*
  * Svelgandur's calls from C. Link the static library libsvelgandur.a beside the
- * program; it needs no other library.
+ * program; of other libraries it needs memset, memcpy and memmove at most.
  *
  * What a caller hands over
- *   A pointer and a length: that many bytes, all of them readable, and writable
- *   where the pointer is not to const. The pointer must not be NULL, also where
- *   the length is 0: pass the address of anything that the caller owns, and
- *   nothing is read or written there.
+ *   A pointer and a length: that many bytes (or 16-bit or 64-bit numbers, each
+ *   aligned as C aligns them), all of them readable, and writable where the
+ *   pointer is not to const. The pointer must not be NULL, also where the
+ *   length is 0: pass the address of anything that the caller owns, and nothing
+ *   is read or written there.
  *   Numbers may have any value: what is out of range is refused, and no value
- *   is undefined.
+ *   is undefined. Items, names, roles, p, q, k and counts are 64 bits wide, so
+ *   that no bad number wraps into a good one on its way.
  *   Memory that a call writes must not overlap other memory lent to the same
  *   call, and no other thread may use it until the call returns. What it holds
  *   before does not matter, unless the call says so.
@@ -19,16 +21,44 @@
  *
  *     kind   SVELGANDUR_REFUSED (0): side, number, place.
  *              side: SVELGANDUR_REGISTER, _REQUIREMENT or _CALL.
- *              number: the document's refusal number.
+ *              number: the document's refusal number, see below.
  *              place: the byte place, counted from that side's first byte; 0 on
  *              the side of the call.
  *            SVELGANDUR_GOOD (1): what each call says below.
  *
  *   After a refusal all other lent memory is as it was.
  *
- * No call keeps anything after it returns, takes memory of its own, or writes to
- * memory that it was not lent, so calls on different memory may run at the same
- * time.
+ * The refusal numbers
+ *    1  under 3 bytes, or a field or inner concept runs past its end
+ *    2  version is not 1
+ *    3  length unequal to the bytes that follow; in a session, more than them
+ *    4  item or link count outside its range
+ *    5  link end names no item
+ *    6  link not above the one before
+ *    7  role above 31
+ *    8  bytes left over
+ *    9  depth above 16
+ *   10  more than 64 nodes
+ *   11  threshold inside an inner concept, or in a requirement that must be
+ *       plain
+ *   12  a 17th threshold
+ *   13  comparison, p or q against the rules
+ *   14  reduced size above 60
+ *   15  asked item or name not in range (a link's ends are items)
+ *   16  map buffer shorter than the written nodes
+ *   17  step count above the log's length or 64; on undo, a last step out of
+ *       range
+ *   18  log full: the count equals its length or 64
+ *   19  undo with count 0
+ *   20  link not there is to be added, and 4,096 stand or the buffer has under
+ *       5 bytes left
+ *   Where several hold, the one that the call comes to first is given: it reads
+ *   the register, then the requirement, each from left to right, and then tests
+ *   its own numbers in the order in which the call lists them below.
+ *
+ * No call keeps anything after it returns, takes memory of its own beyond 64 KiB
+ * of the stack, or writes to memory that it was not lent, so calls on different
+ * memory may run at the same time.
  */
 #ifndef SVELGANDUR_H
 #define SVELGANDUR_H
@@ -48,6 +78,8 @@ extern "C" {
 #define SVELGANDUR_REGISTER 0
 #define SVELGANDUR_REQUIREMENT 1
 #define SVELGANDUR_CALL 2
+
+/* ---- reading ---- */
 
 /*
  * Reads a register image.
@@ -84,6 +116,97 @@ void svelgandur_read_requirement(const uint8_t *message, size_t message_length,
  */
 void svelgandur_inner_part(const uint8_t *message, size_t message_length,
                            uint64_t k, uint64_t answer[4]);
+
+/*
+ * ---- a session of trial edits ----
+ *
+ * buffer    holds a register image in its first 3 + length bytes; what lies
+ *           behind them is room for links, 5 bytes each. A buffer of 24,583
+ *           bytes is enough for every register.
+ * log       one number for each step: every accepted edit writes one, at the
+ *           count. At most the first 64 are ever used, and those at and behind
+ *           the count have no bearing on any answer.
+ * count     how many steps are in use. The caller holds it between calls: it is
+ *           0 after opening, and afterwards what the last good answer said.
+ *
+ * A step as a number, lowest first:
+ *   bit 0         1 where the fact was there before the edit, else 0
+ *   bit 1         0 for a name on an item, 1 for a link
+ *   a name        bits 2 to 17: the item; bits 18 to 63: the name
+ *   a link        bits 2 to 17: to; bits 18 to 25: role; bits 26 to 63: from
+ * So every number is the number of one step, and every step has one number. A
+ * caller may hand over a log with any numbers in it: the undo of a step whose
+ * item, name, role or ends are out of range for the register is refused with
+ * 17, and any other is a step like one that an edit wrote.
+ */
+
+/*
+ * Opens a session on the image that the buffer begins with.
+ *   answer    good: 1, 0 (the count), 0, 0.
+ *             refused, on the register's side: 1 to 8.
+ * After a good answer all bytes behind the image are 0; the image is as it was.
+ */
+void svelgandur_open(uint8_t *buffer, size_t buffer_length,
+                     uint64_t answer[4]);
+
+/*
+ * Adds a name to an item or takes it away.
+ *   adds      0 takes it away; any other number adds it.
+ *   item      from 0.
+ *   name      0 to 63.
+ *   answer    good: 1, the new count (the old one and 1), 0, 0.
+ *             refused, on the register's side: 1 to 8; on the call's side: 17,
+ *             15, 18.
+ * After a good answer the name's bit in the image is set or cleared and
+ * log[count] holds the step, also where the edit changed nothing; all other
+ * bytes of the buffer and numbers of the log are as they were.
+ */
+void svelgandur_edit_name(uint8_t *buffer, size_t buffer_length,
+                          uint64_t *log, size_t log_length, uint64_t count,
+                          uint64_t adds, uint64_t item, uint64_t name,
+                          uint64_t answer[4]);
+
+/*
+ * Adds a link or takes it away.
+ *   adds      0 takes it away; any other number adds it.
+ *   from, to  items from 0.
+ *   role      0 to 31.
+ *   answer    good: 1, the new count (the old one and 1), 0, 0.
+ *             refused, on the register's side: 1 to 8; on the call's side: 17,
+ *             15, 7, 18, 20.
+ * After a good answer the buffer begins with the image of the register with or
+ * without the link: a link that is added moves the links behind it up by 5 bytes
+ * and so uses up the 5 bytes behind the image, one that is taken away moves them
+ * down and leaves five bytes of 0 behind the new image. log[count] holds the
+ * step, also where the edit changed nothing; all other bytes behind the image
+ * and numbers of the log are as they were.
+ */
+void svelgandur_edit_link(uint8_t *buffer, size_t buffer_length,
+                          uint64_t *log, size_t log_length, uint64_t count,
+                          uint64_t adds, uint64_t from, uint64_t role,
+                          uint64_t to, uint64_t answer[4]);
+
+/*
+ * Takes the last step back: sets its fact to what it was.
+ *   answer    good: 1, the new count (the old one less 1), 0, 0.
+ *             refused, on the register's side: 1 to 8; on the call's side: 17
+ *             (the count), 19, 17 (the step), 20.
+ * After a good answer the buffer has changed as by an edit that adds the fact,
+ * if it was there before the step, or takes it away. The log is only read.
+ */
+void svelgandur_undo(uint8_t *buffer, size_t buffer_length,
+                     const uint64_t *log, size_t log_length, uint64_t count,
+                     uint64_t answer[4]);
+
+/*
+ * Keeps all edits: none of them can be taken back any more.
+ *   answer    good: 1, 0 (the count), 0, 0.
+ *             refused, on the register's side: 1 to 8; on the call's side: 17.
+ * Buffer and log are only read.
+ */
+void svelgandur_keep(const uint8_t *buffer, size_t buffer_length,
+                     const uint64_t *log, size_t log_length, uint64_t count,
+                     uint64_t answer[4]);
 
 #ifdef __cplusplus
 }

@@ -120,7 +120,7 @@ concept-bytes t h =
     let s = conceptBytes t in
     tree-bytes plainKind s (0 + length s) (λ a w c. (omega arith, none-bytes)) t mostLevels (start 0) (inner-at s 0 t h (stands-self s))
 
-inner-read : (s : List ℕ) (p : ℕ) (t : Concept) → T (soundInner t) → Stands s p (conceptBytes t)
+pub inner-read : (s : List ℕ) (p : ℕ) (t : Concept) → T (soundInner t) → Stands s p (conceptBytes t)
     → readInner s (p + length (conceptBytes t)) p ≡ good (t, past plainKind t (start p))
 inner-read s p t h k =
     let end = p + length (conceptBytes t) in

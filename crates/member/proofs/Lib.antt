@@ -9,4 +9,8 @@ pub mod Cases
 pub mod Owners
 pub mod Messages
 pub mod Compare
+pub mod Inner
+pub mod Ready
+pub mod Decided
+pub mod Answered
 pub mod Promise

@@ -10,14 +10,15 @@ use lib.ListN.{length, getD, length-append, List·getD-append}
 use lib.Seq.{getD-append-add}
 use Rattle.meaning.specs.Tree.{Tree, node, Forest, none, more, nodes, written, writtenF}
 use Rattle.meaning.specs.Graph.{Graph}
-use Rattle.meaning.specs.Fraction.{_//_, less}
 use Rattle.meaning.specs.Requirement.{Threshold, Label, Requirement, passes, bare}
 use Rattle.meaning.specs.Message.{Part, joined, thresholdsOf, thresholdsBytes, requirementBytes, conceptBytes, thresholdBytes}
 use Rattle.meaning.specs.Rows.{Holds}
 use Rattle.meaning.proofs.MessageTree.{partsOf, partsOfF}
 use Rattle.meaning.proofs.MessageLabel.{partsAt, at-length, outerKind}
 use Rattle.meaning.proofs.Message.{partsIn, parts-length}
+use Rattle.requirement.specs.Reading.{noPart}
 use Rattle.member.specs.Table.{cell, Ruled}
+use Rattle.member.specs.Call.{noThreshold}
 use Rattle.member.proofs.Owners.{many, manyF, Own, Listed, ListedF, ruled-all}
 
 -- each element of a list that is numbered from k on
@@ -47,12 +48,6 @@ mutual
   many-thresholdsF none = refl
   many-thresholdsF (more r t f) =
       rw (many-thresholds t, many-thresholdsF f, joined-append (written t) (writtenF f)) (sym (length-append (joined (written t)) (joined (writtenF f))))
-
-abbrev pub noPart : Part
-noPart = record { owner = 0; first = 0; len = 0 }
-
-abbrev pub noThreshold : Threshold
-noThreshold = record { how = less; limit = 0 // 1; inner = node 0 none }
 
 module _ (items : ℕ) (G : Graph ℕ) (owners table : List ℕ) where
   -- the k-th threshold is of this part's node, and its row says where it is satisfied

@@ -1,2 +1,4 @@
 pub mod Table
 pub mod Case
+pub mod Call
+pub mod Promise

@@ -1,5 +1,7 @@
 // Which items meet a requirement that is held as rows, over a register image that was read, and the map shown for a yes.
 // Each written node has a row in a table of 64 bits for each item; the rows are filled from the leaves up.
+pub mod call;
+
 ghost use mathlib.Core.Path.{_≡_};
 ghost use mathlib.Core.Bool.{_&&_, _||_, not};
 ghost use Prim.Native.Nat.{ℕ, _+_, _*_, _≤_, _<_};

@@ -41,7 +41,7 @@ module _ (N R E : List ℕ) where
   mutual
     unfolding Holds nodes
 
-    tree-rows : (t : Concept) (left i e : ℕ) → Holds N R E t left i e → e ≡ i + nodes t
+    pub tree-rows : (t : Concept) (left i e : ℕ) → Holds N R E t left i e → e ≡ i + nodes t
     tree-rows (node a f) left i e h = omega (arith, forest-rows f _ (i + 1) e (h .4))
 
     forest-rows : (f : Forest ℕ) (left i e : ℕ) → HoldsF N R E f left i e → e ≡ i + nodesF f

@@ -201,7 +201,18 @@ MessageOutcome s B (refused e) r = r ≡ RefusedMessage e
 abbrev pub MessageDone : List ℕ → Arrays → Message → Type 0
 MessageDone s B r = MessageOutcome s B (readRequirement s) r
 
--- where the k-th inner concept stands
+-- ---- one inner concept, read again
+
+-- there is room for 64 rows
+abbrev pub RowsRoom : List ℕ → List ℕ → List ℕ → Type 0
+RowsRoom names roles ends = (64 ≤ length names) × (64 ≤ length roles) × (64 ≤ length ends)
+
+-- the rows hold the concept that the bytes from p up to stop are read as, if they are read as one
+abbrev pub ConceptDone : List ℕ → ℕ → ℕ → List ℕ → List ℕ → List ℕ → Type 0
+ConceptDone s stop p names roles ends =
+    (t : Concept) (v : Spot) → readInner s stop p ≡ good (t, v) → Holds names roles ends t 17 0 (nodes t) × (nodes t ≤ 64)
+
+-- ---- where the k-th inner concept stands
 unfoldable pub placeIn : ℕ → List Part → Place
 placeIn k [] = record { start = 0; len = 0 }
 placeIn zero (x ∷ ps) = record { start = x .first + 7; len = x .len }

@@ -11,7 +11,7 @@ ghost use lib.Dec.{ltb};
 ghost use lib.ListN.{length, getD};
 ghost use Rattle.meaning.specs.Message.{lawful, readRequirement, innerPart};
 ghost use Rattle.meaning.specs.Fraction.{gcd};
-ghost use Rattle.requirement.specs.Reading.{MessageDone, placeOf, refusedAt, Here, Room, PartsRoom, arrays, parted, nodeCut, thresholdCut, NodeDone, ChildrenDone, ThresholdsDone, ThresholdDone, InnerDone};
+ghost use Rattle.requirement.specs.Reading.{MessageDone, placeOf, refusedAt, RowsRoom, ConceptDone, Here, Room, PartsRoom, arrays, parted, nodeCut, thresholdCut, NodeDone, ChildrenDone, ThresholdsDone, ThresholdDone, InnerDone};
 
 // What was read: the next byte, the nodes of this tree and the thresholds of the message so far; or the number and place of a fault.
 pub enum Read {
@@ -115,6 +115,38 @@ pub fn find_inner(s: &[u8], k: usize) -> Place
         }
         Message::Refused { refusal: _ } => Place { start: 0, len: 0 },
     }
+}
+
+// Reads again the inner concept that fills the bytes from `at` up to `stop` of a message that was read, into rows.
+pub fn read_concept(
+    s: &[u8],
+    at: usize,
+    stop: usize,
+    names: &mut [u64],
+    roles: &mut [u8],
+    ends: &mut [u8],
+)
+    requires { ⌜ Here (now s) stop at 0 0 ⌝ }
+    requires { ⌜ RowsRoom (now names) (now roles) (now ends) ⌝ }
+    ensures { λ _. ⌜ ConceptDone (now (s .entry)) stop at (now (names .exit)) (now (roles .exit)) (now (ends .exit)) ⌝ }
+{
+    let mut owners = [0u8; 16];
+    let mut firsts = [0u16; 16];
+    read_node(
+        s,
+        stop,
+        at,
+        17,
+        true,
+        0,
+        0,
+        0,
+        names,
+        roles,
+        ends,
+        &mut owners,
+        &mut firsts,
+    );
 }
 
 // The bytes of the k-th inner concept, as that part of the message itself.

@@ -4,17 +4,31 @@
 //! |---|---|
 //! | `library` | the proved library's calls, as the C header declares them |
 //! | `header` | holds the header to these declarations |
+//! | `fence` | memory that is lent between pages that cannot be touched |
+//! | `painted` | how much of the stack some work uses |
 //! | `part` | what a part of the comparison is, and what it has met |
+//! | `sheet` | document 01's sheet of examples, with its own answers |
+//! | `small` | every register and concept that is small enough to list |
 //! | `registers` | reading register images |
 //! | `requirements` | reading requirement messages, and their inner parts |
+//! | `worst` | the costliest registers and requirements |
+//! | `steps` | a step of a session as a number of the log |
+//! | `sessions` | open, edit, undo and keep |
 
+pub mod fence;
 pub mod header;
 pub mod library;
+pub mod painted;
 pub mod part;
 pub mod registers;
 pub mod requirements;
+pub mod sessions;
+pub mod sheet;
+pub mod small;
+pub mod steps;
+pub mod worst;
 
 use part::Part;
 
 /// A further part is a module of its own and a line here.
-pub const PARTS: [Part; 2] = [registers::PART, requirements::PART];
+pub const PARTS: [Part; 3] = [registers::PART, requirements::PART, sessions::PART];

@@ -10,6 +10,8 @@ use crate::library::Answer;
 /// The kind of a refusal; every other answer is of another kind.
 pub const REFUSED: u64 = 0;
 pub const GOOD: u64 = 1;
+/// Of a yes or no: no.
+pub const NO: u64 = 2;
 
 /// The sides in the order of their numbers.
 const SIDES: [(Side, &str); 3] = [
@@ -39,10 +41,11 @@ pub fn refused(refusal: Refusal) -> Answer {
     ]
 }
 
-/// A call, and the refusals that it can give. Each of them is to be met, and
-/// a good answer too.
+/// A call, its good answers by kind, and the refusals that it can give. Each
+/// of them is to be met.
 pub struct Call {
     pub name: &'static str,
+    pub kinds: &'static [u64],
     pub refusals: &'static [(Side, &'static [u64])],
 }
 
@@ -149,18 +152,25 @@ impl Seen {
         good.chain(refused).collect::<Vec<_>>().join(", ")
     }
 
-    /// Each call was met with a good answer and with each refusal that it can
-    /// give, and with no other.
+    /// Each call was met with each answer that it can give, and with no other.
     pub fn complete(&self, calls: &[Call]) -> Result<(), String> {
         for call in calls {
-            if self.good.keys().all(|(name, _)| *name != call.name) {
-                return Err(format!("{} never gave a good answer", call.name));
+            for kind in call.kinds {
+                if !self.good.contains_key(&(call.name, *kind)) {
+                    return Err(format!("{} never gave kind {kind}", call.name));
+                }
             }
             for (side, number) in call.can_give() {
                 if !self.refused.contains_key(&(call.name, side, number)) {
                     let side = side_name(side);
                     return Err(format!("{} never gave {side} {number}", call.name));
                 }
+            }
+        }
+        for (name, kind) in self.good.keys() {
+            let mut named = calls.iter().filter(|call| call.name == *name);
+            if !named.any(|call| call.kinds.contains(kind)) {
+                return Err(format!("{name} gave kind {kind}, which is not its own"));
             }
         }
         for (name, side, number) in self.refused.keys() {

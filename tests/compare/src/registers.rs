@@ -10,6 +10,7 @@ use second::gen::{
 use second::register::{encode, read_session, read_whole, Link, Register};
 use second::{Refusal, Side};
 
+use crate::fence;
 use crate::library::{self, Answer};
 use crate::part::{hex, refused, Call, Difference, Outcome, Part, Seen, GOOD};
 
@@ -23,10 +24,12 @@ pub const PART: Part = Part {
     calls: &[
         Call {
             name: WHOLE,
+            kinds: &[GOOD],
             refusals: NUMBERS,
         },
         Call {
             name: SESSION,
+            kinds: &[GOOD],
             refusals: NUMBERS,
         },
     ],
@@ -65,7 +68,9 @@ fn outcome(answer: Answer) -> Outcome<()> {
 }
 
 fn whole(seen: &mut Seen, bytes: &[u8]) -> Result<(), Difference> {
-    let library = outcome(library::read_register(bytes, 0));
+    let library = outcome(fence::shown(0, bytes, |bytes| {
+        library::read_register(bytes, 0)
+    }));
     let second = outcome(numbers(read_whole(bytes)));
     seen.compare(WHOLE, library, second, || vec![("image", hex(bytes))])
 }
@@ -74,7 +79,9 @@ fn whole(seen: &mut Seen, bytes: &[u8]) -> Result<(), Difference> {
 fn session(seen: &mut Seen, bytes: &[u8]) -> Result<(), Difference> {
     const ASKS: [u64; 5] = [1, 2, 256, 1 << 32, u64::MAX];
     let ask = ASKS[bytes.len() % ASKS.len()];
-    let library = outcome(library::read_register(bytes, ask));
+    let library = outcome(fence::shown(0, bytes, |bytes| {
+        library::read_register(bytes, ask)
+    }));
     let second = outcome(numbers(read_session(bytes)));
     seen.compare(SESSION, library, second, || {
         vec![("buffer", hex(bytes)), ("session", ask.to_string())]

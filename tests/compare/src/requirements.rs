@@ -3,12 +3,13 @@
 use second::gen::damage::mend_head;
 use second::gen::edges::{threes, Q1};
 use second::gen::{
-    concept_edges, damaged_requirement, plain, random_bytes, requirement_edges,
-    small_register, small_with_thresholds, with_thresholds, Palette, Rng,
+    concept_edges, damaged_requirement, plain, random_bytes, requirement_edges, small_register,
+    small_with_thresholds, with_thresholds, Palette, Rng,
 };
 use second::requirement::{self, encode, thresholds, Node};
 use second::{Refusal, Side};
 
+use crate::fence;
 use crate::library::{self, Answer};
 use crate::part::{hex, refused, Call, Difference, Outcome, Part, Seen, GOOD};
 
@@ -20,14 +21,13 @@ pub const PART: Part = Part {
     calls: &[
         Call {
             name: READ,
-            refusals: &[(
-                Side::Requirement,
-                &[1, 2, 3, 7, 8, 9, 10, 11, 12, 13, 14],
-            )],
+            kinds: &[GOOD],
+            refusals: &[(Side::Requirement, &[1, 2, 3, 7, 8, 9, 10, 11, 12, 13, 14])],
         },
         // This call alone gives no number: four zeros, which read as number 0 of side 0.
         Call {
             name: INNER,
+            kinds: &[GOOD],
             refusals: &[(Side::Register, &[0])],
         },
     ],
@@ -57,18 +57,20 @@ fn numbers(reading: &Result<Node, Refusal>) -> Answer {
             let nodes = requirement::written(root).len();
             [GOOD, nodes as u64, thresholds(root).len() as u64, 0]
         }
-        Err(refusal) => refused(refusal.clone()),
+        Err(refusal) => refused(*refusal),
     }
 }
 
 fn read(seen: &mut Seen, bytes: &[u8]) -> Result<(), Difference> {
-    let library = outcome(library::read_requirement(bytes));
+    let library = outcome(fence::shown(0, bytes, library::read_requirement));
     let second = outcome(numbers(&requirement::read(bytes)));
     seen.compare(READ, library, second, || vec![("message", hex(bytes))])
 }
 
 fn inner(seen: &mut Seen, bytes: &[u8], k: u64) -> Result<(), Difference> {
-    let library = outcome(library::inner_part(bytes, k));
+    let library = outcome(fence::shown(0, bytes, |bytes| {
+        library::inner_part(bytes, k)
+    }));
     let second = outcome(match requirement::inner_part(bytes, k) {
         Some((start, len)) => [GOOD, start as u64, len as u64, 0],
         None => [0; 4],

@@ -1,0 +1,129 @@
+-- A message that was read: each of its thresholds stands where reading found it, and with their table its rows make a case.
+-- Assumes nothing.
+use mathlib.Core.Path.{_≡_, refl, sym, ap, subst, _∙_}
+use mathlib.Core.Bool.{_&&_}
+use mathlib.Core.List.{List, [], _∷_, Forall₂, Forall₂·nil, Forall₂·cons}
+use Prim.Native.Nat.{ℕ, zero, suc, _+_, _≤_, _<_}
+use native.Mathlib.Nat.{le-trans, le-of-eq}
+use native.Mathlib.Omega.{arith}
+use lib.Dec.{T, leb, eqb, leb→le}
+use lib.ListN.{length, getD}
+use Rattle.meaning.specs.Bytes.{number, Bytes}
+use Rattle.meaning.specs.Refusal.{good}
+use Rattle.meaning.specs.Tree.{Concept, nodes}
+use Rattle.meaning.specs.Fraction.{gcd, Comparison, less, atMost, greater, atLeast}
+use Rattle.meaning.specs.Register.{Register, readBuffer, judged}
+use Rattle.meaning.specs.Requirement.{Threshold, Requirement, bare}
+use Rattle.meaning.specs.Message.{mostQ, lawful, code, comparison, soundInner, conceptBytes, Spot, Part, readInner, readRequirement, thresholdsOf}
+use Rattle.meaning.specs.Rows.{Holds}
+use Rattle.meaning.proofs.Tests.{and-both}
+use Rattle.meaning.proofs.Reading.{number-one}
+use Rattle.meaning.proofs.Rows.{opened}
+use Rattle.meaning.proofs.Image.{image-fits}
+use Rattle.meaning.proofs.MessageLabel.{PartAt, inner-read, sound-inner}
+use Rattle.meaning.proofs.Message.{Accepted, read-back, accepted-length, parts-stand, parts-length, partsIn}
+use Rattle.register.specs.Image.{Asked}
+use Rattle.requirement.specs.Reading.{noPart}
+use Rattle.member.specs.Table.{Ruled}
+use Rattle.member.specs.Case.{Case}
+use Rattle.member.specs.Call.{noThreshold, StandsAt, AllStand, Tabled, Ready}
+use Rattle.member.proofs.Messages.{message-ruled}
+
+decoded : (c : Comparison) → comparison (code c) ≡ c
+decoded less = refl
+decoded atMost = refl
+decoded greater = refl
+decoded atLeast = refl
+
+lawful-open : (p q : ℕ) → T (lawful p q) → (q ≤ mostQ) × (p ≤ q)
+lawful-open p q h =
+    let c = and-both (leb 1 q && leb q mostQ && leb p q) (eqb (gcd p q) 1) h in
+    let d = and-both (leb 1 q && leb q mostQ) (leb p q) (c .0) in
+    (leb→le q mostQ (and-both (leb 1 q) (leb q mostQ) (d .0) .1), leb→le p q (d .1))
+
+-- a threshold that was read
+part-stands : (s : List ℕ) (x : Part) (h : Threshold) → PartAt s (length s) x h → length s ≤ 65538 → StandsAt s (x .first) h
+part-stands s x h c short =
+    let p = x .first in
+    let ok = and-both (lawful (h .limit .num) (h .limit .den)) (soundInner (h .inner)) (c .here .sound) in
+    let low = lawful-open (h .limit .num) (h .limit .den) (ok .0) in
+    let read = inner-read s (p + 7) (h .inner) (ok .1) (c .here .stands) in
+    record {
+      how = ap comparison (sym (number-one s p) ∙ c .here .how) ∙ decoded (h .how);
+      num = c .here .num;
+      den = c .here .den;
+      low = (le-trans (low .1) (low .0), low .0);
+      spot = _;
+      inner = ap (λ (n : ℕ). readInner s (p + 7 + n) (p + 7)) (c .here .len) ∙ read;
+      small = sound-inner (h .inner) (ok .1) .1;
+      inside = omega (arith, c .here .inside, c .here .len);
+      short = short;
+    }
+
+-- the k-th pair of two lists that go together
+pair-at : {A B : Type 0} {R : A → B → Type 0} (a : A) (b : B) {xs : List A} {ys : List B} → Forall₂ R xs ys → (k : ℕ) → k < length xs → R (getD xs k a) (getD ys k b)
+pair-at a b Forall₂·nil k l = absurd (omega arith)
+pair-at a b (Forall₂·cons r f) zero l = r
+pair-at a b (Forall₂·cons r f) (suc k) l = pair-at a b f k (omega arith)
+
+module _ {image : List ℕ} {items links : ℕ} {message names roles ends owners firsts : List ℕ} {parts item room : ℕ}
+    (k : Ready image items links message names roles ends owners firsts parts item room) where
+  abbrev pub ready-asked : Asked image (λ g. (items ≡ length (g .names)) × (links ≡ length (g .links)))
+  ready-asked = record { register = k .register; read = k .read; holds = (k .items-are, k .links-are) }
+
+  ready-accepted : Bytes message → Accepted message (k .requirement, k .places)
+  ready-accepted b = read-back message (k .requirement, k .places) b (k .wanted)
+
+  -- its thresholds stand at their places
+  pub each-stands : Bytes message → (j : ℕ) → j < parts → StandsAt message (getD firsts j 0) (getD (thresholdsOf (k .requirement)) j noThreshold)
+  each-stands b j l =
+      let c = ready-accepted b in
+      let in′ : j < length (k .places) = omega (arith, k .parts-are) in
+      let short : length message ≤ 65538 = omega (arith, accepted-length message (k .requirement, k .places) c) in
+      subst (λ (p : ℕ). StandsAt message p (getD (thresholdsOf (k .requirement)) j noThreshold)) (sym (k .held .first j in′))
+      (part-stands message _ _ (pair-at noPart noThreshold (parts-stand message (k .requirement, k .places) c) j in′) short)
+
+  abbrev pub ready-stand : Bytes message → AllStand message firsts parts
+  ready-stand b = record { thresholds = thresholdsOf (k .requirement); each = each-stands b }
+
+  -- the rows' end
+  ready-end : getD ends 0 0 ≡ nodes (k .requirement)
+  ready-end = opened names roles ends (bare (k .requirement)) 17 0 (nodes (k .requirement)) (k .tree) .ended
+
+  pub ready-held : Holds names roles ends (bare (k .requirement)) 17 0 (getD ends 0 0)
+  ready-held = subst (λ (e : ℕ). Holds names roles ends (bare (k .requirement)) 17 0 e) (sym ready-end) (k .tree)
+
+  pub ready-few : getD ends 0 0 ≤ 64
+  ready-few = omega (arith, ready-end, k .few)
+
+  pub ready-room : getD ends 0 0 ≤ room
+  ready-room = omega (arith, ready-end, k .room-enough)
+
+  pub ready-most : Bytes image → items ≤ 512
+  ready-most b = le-trans (le-of-eq (k .items-are)) (image-fits image (k .register) b (k .read) .0 .items)
+
+  pub ready-ruled : Bytes message → (table : List ℕ) → Tabled items (judged (k .register)) (thresholdsOf (k .requirement)) parts table
+      → Ruled items ends (judged (k .register)) owners table parts (k .requirement) 0
+  ready-ruled b table t =
+      let c = ready-accepted b in
+      let same : length (k .places) ≡ length (partsIn (k .requirement)) = ap length (c .parts) in
+      let many = parts-length (k .requirement) 0 3 in
+      message-ruled items (judged (k .register)) owners table names roles ends (k .requirement) 17 (nodes (k .requirement)) parts (k .tree)
+      (k .parts-are ∙ same)
+      (λ j l. k .held .owner j (omega (arith, same)) ∙ ap (λ (ps : List Part). getD ps j noPart .owner) (c .parts))
+      (λ j l x i. t j x (omega (arith, k .parts-are, same, many)) i)
+
+  -- with the table it is a case
+  abbrev pub ready-case : Bytes image → Bytes message → (table : List ℕ)
+      → Tabled items (judged (k .register)) (thresholdsOf (k .requirement)) parts table → Case image items links names roles ends owners parts table 0 17
+  ready-case bi bm table t = record {
+    register = k .register;
+    read = k .read;
+    items-are = k .items-are;
+    links-are = k .links-are;
+    most = ready-most bi;
+    tree = k .requirement;
+    held = ready-held;
+    few = ready-few;
+    ruled = ready-ruled bm table t;
+  }

@@ -1,0 +1,39 @@
+use borrow.Author.Needs.{needs}
+use Rattle.member.proofs.call.decide.Statement.{statement}
+use Rattle.member.proofs.call.decide.Tie as tie
+use Rattle.member.proofs.Answered.{imaged, image-refused, image-unread}
+
+read-requires : tie.Need-read-requires
+read-requires c κs = search needs
+
+enum-known-r : tie.Need-enum-known-r
+enum-known-r c = search needs
+
+decide-among-requires : tie.Need-decide-among-requires
+decide-among-requires c κs =
+    imaged (c .before .before .before .before .before .before .before .before .args .image .now) _ _ _ (c .before .before .r .given .1) (c .before .before .before .before .read .ensures)
+
+enum-known-r-2 : tie.Need-enum-known-r-2
+enum-known-r-2 c = search needs
+
+same-length : tie.Need-same-length
+same-length c = search needs
+
+returns : tie.Need-returns
+returns c = search needs
+
+returns-2 : tie.Need-returns-2
+returns-2 c =
+    image-unread (c .before .before .before .before .before .before .before .args .image .now) (c .before .before .before .before .before .before .before .args .message .now) (c .before .before .before .before .before .before .before .args .item) (c .before .before .before .before .before .before .before .args .map .now) _ (image-refused (c .before .before .before .before .before .before .before .args .image .now) _ _ (c .before .r2 .given .1) (c .before .before .before .read .ensures))
+
+pub decide-spec : {M : Type 1} → statement M
+decide-spec =
+    tie.close
+    (tie.spec
+    read-requires
+    enum-known-r
+    decide-among-requires
+    enum-known-r-2
+    same-length
+    returns
+    returns-2)

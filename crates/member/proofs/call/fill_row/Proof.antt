@@ -1,0 +1,94 @@
+use borrow.Author.Needs.{needs}
+use Rattle.member.proofs.call.fill_row.Statement.{statement}
+use Rattle.member.proofs.call.fill_row.Tie as tie
+use native.Mathlib.Omega.{arith}
+use mathlib.Core.Path.{_≡_, sym}
+use Prim.Native.Nat.{ℕ, _≤_}
+use Rattle.fields.proofs.Known.{bytes-known}
+use Rattle.degree.proofs.Fill.{lent-length, back, back-whole, back-length, back-same}
+use Rattle.member.proofs.Inner.{most-items, passes-same, scale-fits, row-same}
+
+array-borrow-prefix-values : tie.Need-array-borrow-prefix-values
+array-borrow-prefix-values c =
+    omega (arith, most-items (c .before .before .before .args .image .now) (bytes-known (c .before .before .before .args .image .now) (c .before .before .shared-slice-known .given)) (c .before .before .before .pre .0))
+
+slice-aggregate-grade : tie.Need-slice-aggregate-grade
+slice-aggregate-grade c =
+    sym (lent-length (c .before .before .before .before .args .items) (most-items (c .before .before .before .before .args .image .now) (bytes-known (c .before .before .before .before .args .image .now) (c .before .before .before .shared-slice-known .given)) (c .before .before .before .before .pre .0)))
+
+grade-requires : tie.Need-grade-requires
+grade-requires c κs =
+    (c .before .before .before .before .pre .0, (c .before .before .before .before .pre .1 .0, lent-length (c .before .before .before .before .args .items) (most-items (c .before .before .before .before .args .image .now) (bytes-known (c .before .before .before .before .args .image .now) (c .before .before .before .shared-slice-known .given)) (c .before .before .before .before .pre .0))))
+
+add-two : tie.Need-add-two
+add-two c =
+    omega (arith, c .before .before .before .before .before .before .pre .1 .0 .stands .inside, c .before .before .before .before .before .before .pre .1 .0 .stands .short)
+
+two-requires : tie.Need-two-requires
+two-requires c κs =
+    omega (arith, c .before .before .before .before .before .before .pre .1 .0 .stands .inside)
+
+add-two-2 : tie.Need-add-two-2
+add-two-2 c =
+    omega (arith, c .before .before .before .before .before .before .before .pre .1 .0 .stands .inside, c .before .before .before .before .before .before .before .pre .1 .0 .stands .short)
+
+two-requires-2 : tie.Need-two-requires-2
+two-requires-2 c κs =
+    omega (arith, c .before .before .before .before .before .before .before .pre .1 .0 .stands .inside)
+
+array-share-prefix-values : tie.Need-array-share-prefix-values
+array-share-prefix-values c =
+    let most = most-items (c .before .before .before .before .before .before .before .before .args .image .now) (bytes-known (c .before .before .before .before .before .before .before .before .args .image .now) (c .before .before .before .before .before .before .before .shared-slice-known .given)) (c .before .before .before .before .before .before .before .before .pre .0) in
+    omega (arith, back-whole (c .before .before .before .before .before .before .before .before .args .items) most (c .before .before .before .grade .last .1 .1 .1 .1 .1 .0) (c .before .before .before .grade .kept .1 .1 .1 .1 .1 .0), most)
+
+slice-aggregate-judge : tie.Need-slice-aggregate-judge
+slice-aggregate-judge c =
+    let most = most-items (c .before .before .before .before .before .before .before .before .before .args .image .now) (bytes-known (c .before .before .before .before .before .before .before .before .before .args .image .now) (c .before .before .before .before .before .before .before .before .shared-slice-known .given)) (c .before .before .before .before .before .before .before .before .before .pre .0) in
+    sym (back-length (c .before .before .before .before .before .before .before .before .before .args .items) most (c .before .before .before .before .grade .last .1 .1 .1 .1 .1 .0) (c .before .before .before .before .grade .kept .1 .1 .1 .1 .1 .0))
+
+shared-slice-read-judge : tie.Need-shared-slice-read-judge
+shared-slice-read-judge c =
+    omega (arith, c .before .before .before .before .before .before .before .before .before .before .pre .1 .0 .stands .inside)
+
+judge-requires : tie.Need-judge-requires
+judge-requires c κs =
+    let most = most-items (c .before .before .before .before .before .before .before .before .before .before .before .args .image .now) (bytes-known (c .before .before .before .before .before .before .before .before .before .before .before .args .image .now) (c .before .before .before .before .before .before .before .before .before .before .shared-slice-known .given)) (c .before .before .before .before .before .before .before .before .before .before .before .pre .0) in
+    let one = c .before .before .before .before .before .before .before .before .before .before .before .pre .1 .0 in
+    let worked = c .before .before .before .before .before .before .grade .ensures (c .before .before .before .before .before .before .before .before .before .before .before .pre .0 .register) (c .before .before .before .before .before .before .before .before .before .before .before .pre .0 .read) (one .threshold) (one .stands) in (
+      omega (arith, back-length (c .before .before .before .before .before .before .before .before .before .before .before .args .items) most (c .before .before .before .before .before .before .grade .last .1 .1 .1 .1 .1 .0) (c .before .before .before .before .before .before .grade .kept .1 .1 .1 .1 .1 .0)),
+      c .before .before .before .before .before .before .before .before .before .before .before .pre .1 .1 .1,
+      c .before .before .before .before .before .before .before .before .before .before .before .pre .1 .1 .0,
+      scale-fits _ (one .threshold) (c .before .before .before .before .before .before .before .before .before .before .before .args .message .now) (c .before .before .before .before .before .before .before .before .before .before .before .args .first) (one .stands) _ _ _ worked,
+      omega (arith, c .before .before .before .before .two .ensures .0, one .stands .num, one .stands .low .0),
+      omega (arith, c .before .before .before .two2 .ensures .0, one .stands .den, one .stands .low .1),
+    )
+
+same-length : tie.Need-same-length
+same-length c = search needs
+
+returns : tie.Need-returns
+returns c =
+    λ g e h st.
+    let most = most-items (c .before .before .before .before .before .before .before .before .before .before .before .before .before .before .args .image .now) (bytes-known (c .before .before .before .before .before .before .before .before .before .before .before .before .before .before .args .image .now) (c .before .before .before .before .before .before .before .before .before .before .before .before .before .shared-slice-known .given)) (c .before .before .before .before .before .before .before .before .before .before .before .before .before .before .pre .0) in
+    let lent = c .before .before .before .before .before .before .before .before .before .grade .last .1 .1 .1 .1 .1 .0 in
+    row-same (c .before .before .judge .ensures)
+    (passes-same g h (c .before .before .before .before .before .before .before .before .before .before .before .before .before .before .args .message .now) (c .before .before .before .before .before .before .before .before .before .before .before .before .before .before .args .first) st _ _ lent (c .before .before .before .before .before .before .before .before .before .grade .ensures g e h st) _ _ (c .before .before .before .before .before .before .before .two .ensures .0) (c .before .before .before .before .before .before .two2 .ensures .0)
+    (back (c .before .before .before .before .before .before .before .before .before .before .before .before .before .before .args .items) lent) (back-same (c .before .before .before .before .before .before .before .before .before .before .before .before .before .before .args .items) most lent (c .before .before .before .before .before .before .before .before .before .grade .kept .1 .1 .1 .1 .1 .0)))
+
+pub fill-row-spec : {M : Type 1} → statement M
+fill-row-spec =
+    tie.close
+    (tie.spec
+    array-borrow-prefix-values
+    slice-aggregate-grade
+    grade-requires
+    add-two
+    two-requires
+    add-two-2
+    two-requires-2
+    array-share-prefix-values
+    slice-aggregate-judge
+    shared-slice-read-judge
+    judge-requires
+    same-length
+    returns)

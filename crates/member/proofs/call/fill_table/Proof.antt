@@ -1,0 +1,82 @@
+use Rattle.member.proofs.call.fill_table.Statement.{statement}
+use Rattle.member.proofs.call.fill_table.Tie as tie
+use native.Mathlib.Omega.{arith}
+use mathlib.Core.Path.{_≡_, refl, sym, subst, _∙_}
+use Prim.Native.Nat.{ℕ, _≤_, _-_}
+use lib.ListN.{length, getD}
+use Rattle.meaning.specs.Refusal.{good}
+use Rattle.meaning.specs.Register.{Register, readBuffer, judged}
+use Rattle.member.specs.Call.{AllStand, StandsAt, Tabled, noThreshold}
+use Rattle.member.proofs.Inner.{tabled-none, tabled-more, tabled-all}
+use borrow.Author.Needs.{needs}
+
+abbrev Inv-loop : tie.InvT-loop
+Inv-loop image items links message firsts parts table₀ k₀ table k =
+    ((g : Register) → readBuffer image ≡ good g → (a : AllStand message firsts parts) → Tabled items (judged g) (a .thresholds) k table) × (length table ≡ length table₀) × (k ≤ parts)
+
+abbrev μ-loop : tie.MeasureT-loop
+μ-loop image items links message firsts parts table₀ k₀ table k =
+    parts - k
+
+loop-holds : tie.Need-loop-holds Inv-loop μ-loop
+loop-holds c =
+    ((λ g e a. tabled-none (c .before .before .before .args .items) (judged g) (a .thresholds) (c .before .before .before .args .table .now)), refl, omega arith)
+
+mul-wide : tie.Need-mul-wide Inv-loop μ-loop
+mul-wide c = search needs
+
+element-copy-out-wide : tie.Need-element-copy-out-wide Inv-loop μ-loop
+element-copy-out-wide c =
+    omega (arith, c .before .before .before .before .before .pre .1 .1 .0)
+
+wide-requires : tie.Need-wide-requires Inv-loop μ-loop
+wide-requires c κs = search needs
+
+fill-row-requires : tie.Need-fill-row-requires Inv-loop μ-loop
+fill-row-requires c κs =
+    let a = c .before .before .before .before .before .before .before .before .pre .1 .0 in
+    let k = c .before .before .before .before .loop .k in
+    let here = subst (λ (p : ℕ). StandsAt (c .before .before .before .before .before .before .before .before .args .message .now) p (getD (a .thresholds) k noThreshold)) (sym (c .before .wide .ensures)) (a .each k (c .before .before .before .loop-test .taken)) in
+    (c .before .before .before .before .before .before .before .before .pre .0, (record { threshold = getD (a .thresholds) k noThreshold; stands = here }, (omega (arith, c .before .before .before .before .before .before .before .before .pre .1 .1 .0), omega (arith, c .before .before .before .before .before .before .before .before .pre .1 .1 .1, c .before .before .before .before .loop .inv .1))))
+
+add-k : tie.Need-add-k Inv-loop μ-loop
+add-k c = search needs
+
+loop-less : tie.Need-loop-less Inv-loop μ-loop
+loop-less c = search needs
+
+loop-again : tie.Need-loop-again Inv-loop μ-loop
+loop-again c = (
+  (λ g e a.
+      let k = c .before .before .before .before .before .before .before .loop .k in
+      let h = getD (a .thresholds) k noThreshold in
+      let here = subst (λ (p : ℕ). StandsAt (c .before .before .before .before .before .before .before .before .before .before .before .args .message .now) p h) (sym (c .before .before .before .before .wide .ensures)) (a .each k (c .before .before .before .before .before .before .loop-test .taken)) in
+      tabled-more (c .before .before .before .before .before .before .before .before .before .before .before .args .items) (judged g) (a .thresholds) k _ _ (c .before .before .before .before .before .before .before .loop .inv .0 g e a) (c .before .before .fill-row .ensures g e h here)),
+  c .before .before .fill-row .kept .1 .1 .1 .1 .1 .1 .0 ∙ c .before .before .before .before .before .before .before .loop .inv .1,
+  omega arith,
+)
+
+same-length : tie.Need-same-length Inv-loop μ-loop
+same-length c =
+    c .before .loop .inv .1
+
+returns : tie.Need-returns Inv-loop μ-loop
+returns c =
+    λ g e a. tabled-all (c .before .before .before .before .before .args .items) (judged g) (a .thresholds) (c .before .loop .k) (c .before .before .before .before .before .args .parts) (c .before .loop .table) (c .before .loop .inv .0 g e a) (omega (arith, c .loop-test .left))
+
+pub fill-table-spec : {M : Type 1} → statement M
+fill-table-spec =
+    tie.close
+    (tie.spec
+    Inv-loop
+    μ-loop
+    loop-holds
+    mul-wide
+    element-copy-out-wide
+    wide-requires
+    fill-row-requires
+    add-k
+    loop-less
+    loop-again
+    same-length
+    returns)

@@ -1,0 +1,67 @@
+use borrow.Author.Needs.{needs}
+use Rattle.member.proofs.call.grade.Statement.{statement}
+use Rattle.member.proofs.call.grade.Tie as tie
+use native.Mathlib.Omega.{arith}
+use Rattle.fields.proofs.Known.{bytes-known}
+use Rattle.member.proofs.Inner.{asked-of, inner-here, inner-held, inner-case}
+
+add-at : tie.Need-add-at
+add-at c =
+    omega (arith, c .before .before .before .pre .1 .0 .stands .inside, c .before .before .before .pre .1 .0 .stands .short)
+
+add-two : tie.Need-add-two
+add-two c =
+    omega (arith, c .before .before .before .pre .1 .0 .stands .inside, c .before .before .before .pre .1 .0 .stands .short)
+
+two-requires : tie.Need-two-requires
+two-requires c κs =
+    omega (arith, c .before .before .before .pre .1 .0 .stands .inside)
+
+add-stop : tie.Need-add-stop
+add-stop c =
+    omega (arith, c .two .ensures .1, c .before .before .before .before .pre .1 .0 .stands .inside, c .before .before .before .before .pre .1 .0 .stands .short)
+
+slice-aggregate-read-concept : tie.Need-slice-aggregate-read-concept
+slice-aggregate-read-concept c = search needs
+
+slice-aggregate-read-concept-2 : tie.Need-slice-aggregate-read-concept-2
+slice-aggregate-read-concept-2 c = search needs
+
+slice-aggregate-read-concept-3 : tie.Need-slice-aggregate-read-concept-3
+slice-aggregate-read-concept-3 c = search needs
+
+read-concept-requires : tie.Need-read-concept-requires
+read-concept-requires c κs =
+    (inner-here (c .before .before .before .before .before .before .before .args .message .now) (c .before .before .before .before .before .before .before .args .first) (c .before .before .before .before .before .before .before .pre .1 .0 .threshold) (c .before .before .before .before .before .before .before .pre .1 .0 .stands) (c .before .before .before .two .result) (c .before .before .before .two .ensures .0), search needs)
+
+reduce-requires : tie.Need-reduce-requires
+reduce-requires c κs =
+    inner-held (c .before .before .before .before .before .before .before .before .before .before .before .before .before .before .before .args .message .now) (c .before .before .before .before .before .before .before .before .before .before .before .before .before .before .before .args .first) (c .before .before .before .before .before .before .before .before .before .before .before .before .before .before .before .pre .1 .0 .threshold) (c .before .before .before .before .before .before .before .before .before .before .before .before .before .before .before .pre .1 .0 .stands) (c .before .before .before .before .before .before .before .before .before .before .before .two .result) (c .before .before .before .before .before .before .before .before .before .before .before .two .ensures .0) _ _ _ (c .before .before .before .before .before .before .before .read-concept .ensures)
+
+degrees-requires : tie.Need-degrees-requires
+degrees-requires c κs =
+    (inner-case (c .before .before .before .before .before .before .before .before .before .before .before .before .before .before .before .before .before .before .before .before .before .args .message .now) (c .before .before .before .before .before .before .before .before .before .before .before .before .before .before .before .before .before .before .before .before .before .args .first) (c .before .before .before .before .before .before .before .before .before .before .before .before .before .before .before .before .before .before .before .before .before .pre .1 .0 .threshold) (c .before .before .before .before .before .before .before .before .before .before .before .before .before .before .before .before .before .before .before .before .before .pre .1 .0 .stands) (c .before .before .before .before .before .before .before .before .before .before .before .before .before .before .before .before .before .two .result) (c .before .before .before .before .before .before .before .before .before .before .before .before .before .before .before .before .before .two .ensures .0) _ _ _ (c .before .before .before .before .before .before .before .before .before .before .before .before .before .read-concept .ensures) (c .before .before .before .before .before .before .before .before .before .before .before .before .before .before .before .before .before .before .before .before .before .pre .0 .register) (bytes-known (c .before .before .before .before .before .before .before .before .before .before .before .before .before .before .before .before .before .before .before .before .before .args .image .now) (c .before .before .before .before .before .before .before .before .before .before .before .before .before .before .before .before .before .before .before .before .shared-slice-known .given)) (c .before .before .before .before .before .before .before .before .before .before .before .before .before .before .before .before .before .before .before .before .before .pre .0 .read) (c .before .before .before .before .before .before .before .before .before .before .before .before .before .before .before .before .before .before .before .before .before .pre .0 .holds .0) (c .before .before .before .before .before .before .before .before .before .before .before .before .before .before .before .before .before .before .before .before .before .pre .0 .holds .1) _ (c .before .before .before .before .before .reduce .ensures), c .before .before .before .before .before .before .before .before .before .before .before .before .before .before .before .before .before .before .before .before .before .pre .1 .1)
+
+same-length : tie.Need-same-length
+same-length c = search needs
+
+returns : tie.Need-returns
+returns c =
+    λ g e h st. let of = asked-of (c .before .before .before .before .before .before .before .before .before .before .before .before .before .before .before .before .before .before .before .before .before .before .before .before .args .image .now) _ (c .before .before .before .before .before .before .before .before .before .before .before .before .before .before .before .before .before .before .before .before .before .before .before .before .pre .0) g e in c .before .before .degrees .ensures (inner-case (c .before .before .before .before .before .before .before .before .before .before .before .before .before .before .before .before .before .before .before .before .before .before .before .before .args .message .now) (c .before .before .before .before .before .before .before .before .before .before .before .before .before .before .before .before .before .before .before .before .before .before .before .before .args .first) h st (c .before .before .before .before .before .before .before .before .before .before .before .before .before .before .before .before .before .before .before .before .two .result) (c .before .before .before .before .before .before .before .before .before .before .before .before .before .before .before .before .before .before .before .before .two .ensures .0) _ _ _ (c .before .before .before .before .before .before .before .before .before .before .before .before .before .before .before .before .read-concept .ensures) g (bytes-known (c .before .before .before .before .before .before .before .before .before .before .before .before .before .before .before .before .before .before .before .before .before .before .before .before .args .image .now) (c .before .before .before .before .before .before .before .before .before .before .before .before .before .before .before .before .before .before .before .before .before .before .before .shared-slice-known .given)) e (of .0) (of .1) _ (c .before .before .before .before .before .before .before .before .reduce .ensures))
+
+pub grade-spec : {M : Type 1} → statement M
+grade-spec =
+    tie.close
+    (tie.spec
+    add-at
+    add-two
+    two-requires
+    add-stop
+    slice-aggregate-read-concept
+    slice-aggregate-read-concept-2
+    slice-aggregate-read-concept-3
+    read-concept-requires
+    reduce-requires
+    degrees-requires
+    same-length
+    returns)

@@ -1,0 +1,479 @@
+/*
+ * The C boundary as a C program meets it: every call of include/svelgandur.h
+ * over random inputs, good ones and damaged ones, in memory that is lent to the
+ * byte. It knows no right degree: that is what tests/compare is for. It holds
+ * each call to what the header says of any answer: its kind, side, number and
+ * place, and what is left in the lent memory.
+ *
+ *   boundary SEED ROUNDS
+ *
+ * Compiled with -DFENCED the memory stands between pages that cannot be
+ * touched, and what is lent for reading cannot be written. Otherwise it comes
+ * from malloc, so that a sanitizer or valgrind can watch it.
+ */
+#include <inttypes.h>
+#include <stdio.h>
+#include <stdlib.h>
+#include <string.h>
+#ifdef FENCED
+#include <sys/mman.h>
+#endif
+
+#include "svelgandur.h"
+
+#define MOST_BYTES 70000
+
+static void require(int holds, const char *what) {
+    if (!holds) {
+        fprintf(stderr, "boundary: %s\n", what);
+        abort();
+    }
+}
+
+/* ---- random numbers (splitmix64) ---- */
+
+static uint64_t state;
+
+static uint64_t word(void) {
+    uint64_t mixed = state += UINT64_C(0x9E3779B97F4A7C15);
+    mixed = (mixed ^ (mixed >> 30)) * UINT64_C(0xBF58476D1CE4E5B9);
+    mixed = (mixed ^ (mixed >> 27)) * UINT64_C(0x94D049BB133111EB);
+    return mixed ^ (mixed >> 31);
+}
+
+/* Below n, which is not 0. */
+static uint64_t below(uint64_t n) {
+    return word() % n;
+}
+
+/* A number handed to a call: mostly below n, and sometimes anything. */
+static uint64_t number(uint64_t n) {
+    static const uint64_t bounds[] = {0,     31,    32,    63,
+                                      64,    511,   512,   1000,
+                                      65535, 65536, 1ull << 32, UINT64_MAX};
+    switch (below(16)) {
+    case 0:
+        return n;
+    case 1:
+        return bounds[below(sizeof bounds / sizeof *bounds)];
+    case 2:
+        return word();
+    default:
+        return below(n);
+    }
+}
+
+/* ---- lent memory ---- */
+
+struct lent {
+    unsigned char *at; /* what the call is handed */
+    size_t bytes;
+    unsigned char *before; /* what it held then */
+    unsigned char *whole;  /* what is given back */
+    size_t whole_bytes;
+};
+
+#ifdef FENCED
+
+enum { PAGE = 4096 };
+
+static struct lent lend(const void *data, size_t bytes, int for_reading) {
+    struct lent lent;
+    size_t room = (bytes + PAGE - 1) / PAGE * PAGE;
+    lent.bytes = bytes;
+    lent.whole_bytes = room + 2 * PAGE;
+    lent.whole = mmap(NULL, lent.whole_bytes, PROT_NONE,
+                      MAP_PRIVATE | MAP_ANONYMOUS, -1, 0);
+    require(lent.whole != MAP_FAILED, "no pages");
+    /* At one end of its pages or at the other. */
+    lent.at = lent.whole + PAGE + (below(4) ? room - bytes : 0);
+    if (room) {
+        require(!mprotect(lent.whole + PAGE, room, PROT_READ | PROT_WRITE),
+                "no pages");
+        memcpy(lent.at, data, bytes);
+        require(!mprotect(lent.whole + PAGE, room,
+                          for_reading ? PROT_READ : PROT_READ | PROT_WRITE),
+                "no pages");
+    }
+    lent.before = malloc(bytes + 1);
+    memcpy(lent.before, data, bytes);
+    return lent;
+}
+
+static void take_back(struct lent lent) {
+    munmap(lent.whole, lent.whole_bytes);
+    free(lent.before);
+}
+
+#else
+
+static struct lent lend(const void *data, size_t bytes, int for_reading) {
+    struct lent lent;
+    (void)for_reading;
+    lent.bytes = bytes;
+    lent.whole_bytes = bytes;
+    lent.whole = lent.at = malloc(bytes ? bytes : 1);
+    lent.before = malloc(bytes + 1);
+    require(lent.at && lent.before, "no memory");
+    memcpy(lent.at, data, bytes);
+    memcpy(lent.before, data, bytes);
+    return lent;
+}
+
+static void take_back(struct lent lent) {
+    free(lent.whole);
+    free(lent.before);
+}
+
+#endif
+
+static int as_it_was(struct lent lent) {
+    return memcmp(lent.at, lent.before, lent.bytes) == 0;
+}
+
+/* ---- answers ---- */
+
+/* Which refusals a call can give: bit n of a side's set is number n. */
+struct call {
+    const char *name;
+    uint32_t sides[3];
+    uint64_t good, refused;
+};
+
+#define N(number) (UINT32_C(1) << (number))
+#define REGISTER (N(1) | N(2) | N(3) | N(4) | N(5) | N(6) | N(7) | N(8))
+#define REQUIREMENT                                                            \
+    (N(1) | N(2) | N(3) | N(7) | N(8) | N(9) | N(10) | N(11) | N(12) | N(13) | \
+     N(14))
+
+enum {
+    READ_REGISTER,
+    READ_REQUIREMENT,
+    INNER_PART,
+    OPEN,
+    EDIT_NAME,
+    EDIT_LINK,
+    UNDO,
+    KEEP,
+    CALLS
+};
+
+static struct call calls[CALLS] = {
+    {"read_register", {REGISTER, 0, 0}, 0, 0},
+    {"read_requirement", {0, REQUIREMENT, 0}, 0, 0},
+    {"inner_part", {N(0), 0, 0}, 0, 0},
+    {"open", {REGISTER, 0, 0}, 0, 0},
+    {"edit_name", {REGISTER, 0, N(15) | N(17) | N(18)}, 0, 0},
+    {"edit_link", {REGISTER, 0, N(7) | N(15) | N(17) | N(18) | N(20)}, 0, 0},
+    {"undo", {REGISTER, 0, N(17) | N(19) | N(20)}, 0, 0},
+    {"keep", {REGISTER, 0, N(17)}, 0, 0},
+};
+
+/* The four numbers, and one on either side of them. */
+struct answer {
+    uint64_t front;
+    uint64_t numbers[4];
+    uint64_t back;
+};
+
+static struct answer fresh(void) {
+    struct answer answer;
+    answer.front = answer.back = UINT64_C(0x5AFE5AFE5AFE5AFE);
+    memset(answer.numbers, 0xEE, sizeof answer.numbers);
+    return answer;
+}
+
+/* Holds an answer to what the header says of it; 1 where it is no refusal.
+ * The lengths are those of the image or buffer and of the message. */
+static int judged(int which, const struct answer *answer, size_t image,
+                  size_t message) {
+    struct call *call = &calls[which];
+    const uint64_t *numbers = answer->numbers;
+    require(answer->front == UINT64_C(0x5AFE5AFE5AFE5AFE) &&
+                answer->back == UINT64_C(0x5AFE5AFE5AFE5AFE),
+            "written beside the answer");
+    if (numbers[0] == SVELGANDUR_REFUSED) {
+        const size_t ends[3] = {image, message, 0};
+        require(numbers[1] <= SVELGANDUR_CALL, "no such side");
+        require(numbers[2] <= 20 &&
+                    call->sides[numbers[1]] & N((unsigned)numbers[2]),
+                "a refusal that is not the call's own");
+        require(numbers[3] <= ends[numbers[1]], "a place outside");
+        call->refused++;
+        return 0;
+    }
+    require(numbers[0] == SVELGANDUR_GOOD, "no such kind");
+    call->good++;
+    return 1;
+}
+
+/* ---- inputs ---- */
+
+static unsigned char image[MOST_BYTES];
+static size_t image_length;
+static unsigned char message[MOST_BYTES];
+static size_t message_length;
+
+static void put(unsigned char *bytes, size_t *length, int width, uint64_t value) {
+    int left;
+    for (left = width - 1; left >= 0; left--) {
+        require(*length < MOST_BYTES, "an input too long");
+        bytes[(*length)++] = (unsigned char)(value >> (8 * left));
+    }
+}
+
+static void mend_head(unsigned char *bytes, size_t length) {
+    bytes[0] = 1;
+    bytes[1] = (unsigned char)((length - 3) >> 8);
+    bytes[2] = (unsigned char)(length - 3);
+}
+
+static uint64_t few_names(void) {
+    return word() & word() & 0xF;
+}
+
+/* A register: links in rising order, each there by chance. */
+static void make_image(void) {
+    uint64_t items = below(40) ? 1 + below(6) : 1 + below(512);
+    uint64_t chance = 1 + below(40), links = 0, from, role, to;
+    size_t count_at;
+    image_length = 0;
+    put(image, &image_length, 3, 0);
+    put(image, &image_length, 2, items);
+    for (from = 0; from < items; from++)
+        put(image, &image_length, 8, few_names());
+    count_at = image_length;
+    put(image, &image_length, 2, 0);
+    for (from = 0; from < items; from++)
+        for (role = 0; role < 3; role++)
+            for (to = 0; to < items; to++)
+                if (links < 4096 && below(chance + items / 8) == 0) {
+                    put(image, &image_length, 2, from);
+                    put(image, &image_length, 1, role);
+                    put(image, &image_length, 2, to);
+                    links++;
+                }
+    image[count_at] = (unsigned char)(links >> 8);
+    image[count_at + 1] = (unsigned char)links;
+    mend_head(image, image_length);
+}
+
+static void make_node(int depth, int *nodes, int *thresholds);
+
+static void make_threshold(int *thresholds) {
+    static const unsigned char fractions[][2] = {
+        {0, 1}, {1, 1}, {1, 2}, {1, 3}, {2, 3}, {3, 4}};
+    const unsigned char *fraction = fractions[below(6)];
+    int inner_nodes = 1 + (int)below(8), none = 0;
+    size_t length_at;
+    --*thresholds;
+    put(message, &message_length, 1, below(4));
+    put(message, &message_length, 2, fraction[0]);
+    put(message, &message_length, 2, fraction[1]);
+    length_at = message_length;
+    put(message, &message_length, 2, 0);
+    make_node(0, &inner_nodes, &none);
+    message[length_at] = (unsigned char)((message_length - length_at - 2) >> 8);
+    message[length_at + 1] = (unsigned char)(message_length - length_at - 2);
+}
+
+/* A node and what hangs below it, while nodes and thresholds are left. */
+static void make_node(int depth, int *nodes, int *thresholds) {
+    size_t counts;
+    int children = 0, own = 0;
+    --*nodes;
+    put(message, &message_length, 8, few_names());
+    counts = message_length;
+    put(message, &message_length, 2, 0);
+    while (*thresholds > 0 && below(2)) {
+        make_threshold(thresholds);
+        own++;
+    }
+    while (*nodes > 0 && depth < 16 && below(3)) {
+        put(message, &message_length, 1, below(3));
+        make_node(depth + 1, nodes, thresholds);
+        children++;
+    }
+    message[counts] = (unsigned char)own;
+    message[counts + 1] = (unsigned char)children;
+}
+
+static void make_message(void) {
+    int nodes = 1 + (int)below(below(8) ? 6 : 64);
+    int thresholds = below(2) ? 0 : (int)below(17);
+    message_length = 0;
+    put(message, &message_length, 3, 0);
+    make_node(0, &nodes, &thresholds);
+    mend_head(message, message_length);
+}
+
+/* Some bytes changed, cut off or put in, the head mended or not. */
+static void damage(unsigned char *bytes, size_t *length) {
+    uint64_t times = 1 + below(3);
+    while (times-- && *length) {
+        size_t at = below(*length);
+        switch (below(4)) {
+        case 0:
+            *length = at;
+            break;
+        case 1:
+            memmove(bytes + at + 1, bytes + at, *length - at);
+            ++*length;
+            break;
+        default:
+            bytes[at] = (unsigned char)(below(2) ? word() : bytes[at] + 1u);
+        }
+    }
+    if (*length >= 3 && below(3))
+        mend_head(bytes, *length);
+}
+
+/* ---- the calls on one image and one message ---- */
+
+static void reading(void) {
+    struct lent bytes = lend(image, image_length, 1);
+    struct answer answer = fresh();
+    svelgandur_read_register(bytes.at, bytes.bytes, below(2), answer.numbers);
+    if (judged(READ_REGISTER, &answer, bytes.bytes, 0))
+        require(answer.numbers[1] - 1 < 512 && answer.numbers[2] <= 4096 &&
+                    !answer.numbers[3],
+                "counts out of range");
+    require(as_it_was(bytes), "an image was written");
+    take_back(bytes);
+
+    bytes = lend(message, message_length, 1);
+    answer = fresh();
+    svelgandur_read_requirement(bytes.at, bytes.bytes, answer.numbers);
+    if (judged(READ_REQUIREMENT, &answer, 0, bytes.bytes))
+        require(answer.numbers[1] - 1 < 64 && answer.numbers[2] <= 16 &&
+                    !answer.numbers[3],
+                "counts out of range");
+    answer = fresh();
+    svelgandur_inner_part(bytes.at, bytes.bytes, number(16), answer.numbers);
+    if (judged(INNER_PART, &answer, 0, bytes.bytes))
+        require(answer.numbers[1] <= bytes.bytes && answer.numbers[2] >= 10 &&
+                    answer.numbers[2] <= bytes.bytes - answer.numbers[1],
+                "a part outside the message");
+    require(as_it_was(bytes), "a message was written");
+    take_back(bytes);
+}
+
+/* ---- a session ---- */
+
+/* After an edit or an undo the buffer begins with an image, and all that was
+ * behind it and behind five bytes more is as it was. */
+static void judge_buffer(struct lent buffer, int changed) {
+    struct answer answer = fresh();
+    size_t end;
+    if (!changed) {
+        require(as_it_was(buffer), "a refused call wrote to the buffer");
+        return;
+    }
+    svelgandur_read_register(buffer.at, buffer.bytes, 1, answer.numbers);
+    require(judged(READ_REGISTER, &answer, buffer.bytes, 0), "no image any more");
+    end = 3 + (size_t)buffer.before[1] * 256 + buffer.before[2];
+    if (end + 5 < buffer.bytes)
+        require(!memcmp(buffer.at + end + 5, buffer.before + end + 5,
+                        buffer.bytes - end - 5),
+                "bytes behind the image were written");
+}
+
+static void edit_or_undo(struct lent buffer, struct lent log, uint64_t *count) {
+    uint64_t *log_at = (uint64_t *)(void *)log.at;
+    size_t steps = log.bytes / 8, place;
+    uint64_t handed = below(12) ? *count : number(steps + 1);
+    struct answer answer = fresh();
+    int which = below(3) ? below(3) ? EDIT_LINK : EDIT_NAME : UNDO, good;
+    memcpy(buffer.before, buffer.at, buffer.bytes);
+    memcpy(log.before, log.at, log.bytes);
+    if (which == UNDO)
+        svelgandur_undo(buffer.at, buffer.bytes, log_at, steps, handed,
+                        answer.numbers);
+    else if (which == EDIT_NAME)
+        svelgandur_edit_name(buffer.at, buffer.bytes, log_at, steps, handed,
+                             below(2), number(4), number(64), answer.numbers);
+    else
+        svelgandur_edit_link(buffer.at, buffer.bytes, log_at, steps, handed,
+                             below(2), number(4), number(4), number(4),
+                             answer.numbers);
+    good = judged(which, &answer, buffer.bytes, 0);
+    judge_buffer(buffer, good);
+    for (place = 0; place < steps; place++)
+        if (!(good && which != UNDO && place == handed))
+            require(!memcmp(log.at + 8 * place, log.before + 8 * place, 8),
+                    "another number of the log was written");
+    if (good) {
+        require(answer.numbers[1] == (which == UNDO ? handed - 1 : handed + 1),
+                "a wrong count");
+        *count = answer.numbers[1];
+    }
+}
+
+static void session(void) {
+    static unsigned char bytes[MOST_BYTES + 400];
+    static uint64_t numbers[80];
+    size_t room = below(3) ? below(10) : below(400), place, rounds = 20;
+    struct lent buffer, log;
+    struct answer answer = fresh();
+    uint64_t count = 0;
+    memcpy(bytes, image, image_length);
+    memset(bytes + image_length, 0xEE, room);
+    for (place = 0; place < 80; place++)
+        numbers[place] = below(2) ? word() : word() >> (38 + below(26));
+    buffer = lend(bytes, image_length + room, 0);
+    log = lend(numbers, 8 * below(below(2) ? 6 : 80), 0);
+    if (below(4)) {
+        svelgandur_open(buffer.at, buffer.bytes, answer.numbers);
+        if (judged(OPEN, &answer, buffer.bytes, 0)) {
+            size_t end = 3 + (size_t)buffer.at[1] * 256 + buffer.at[2];
+            require(!memcmp(buffer.at, buffer.before, end),
+                    "opening changed the image");
+            for (place = end; place < buffer.bytes; place++)
+                require(!buffer.at[place], "not zero behind the image");
+        } else
+            require(as_it_was(buffer), "a refused opening wrote");
+    } else
+        count = number(log.bytes / 8 + 1);
+    while (rounds--)
+        edit_or_undo(buffer, log, &count);
+    memcpy(buffer.before, buffer.at, buffer.bytes);
+    memcpy(log.before, log.at, log.bytes);
+    answer = fresh();
+    svelgandur_keep(buffer.at, buffer.bytes, (uint64_t *)(void *)log.at,
+                    log.bytes / 8, below(2) ? count : word(), answer.numbers);
+    if (judged(KEEP, &answer, buffer.bytes, 0))
+        require(!answer.numbers[1], "keeping leaves a count");
+    require(as_it_was(buffer) && as_it_was(log), "keeping wrote");
+    take_back(log);
+    take_back(buffer);
+}
+
+int main(int words, char **word_list) {
+    uint64_t rounds, total = 0;
+    int which;
+    if (words != 3) {
+        fprintf(stderr, "boundary SEED ROUNDS\n");
+        return 2;
+    }
+    state = strtoull(word_list[1], NULL, 10);
+    for (rounds = strtoull(word_list[2], NULL, 10); rounds; rounds--) {
+        make_image();
+        make_message();
+        if (!below(3))
+            damage(image, &image_length);
+        if (!below(3))
+            damage(message, &message_length);
+        reading();
+        session();
+    }
+    for (which = 0; which < CALLS; which++) {
+        const struct call *call = &calls[which];
+        uint64_t made = call->good + call->refused;
+        total += made;
+        printf("boundary: %s: %" PRIu64 " good, %" PRIu64 " refused\n",
+               call->name, call->good, call->refused);
+        require(call->good && call->refused, "a call with one answer only");
+    }
+    printf("boundary: %" PRIu64 " calls\n", total);
+    return 0;
+}

@@ -1,0 +1,116 @@
+//! The costliest registers and requirements that the rules allow.
+
+use second::register::{Register, MOST_ITEMS};
+use second::requirement::{Comparison, Node, Threshold, MOST_DEPTH, MOST_THRESHOLDS};
+
+use crate::sheet::threshold;
+
+/// 64 items all linked to each other under role 0: 4,096 links, and more paths
+/// than could be walked.
+pub fn all_linked(names: impl Fn(usize) -> u64) -> Register {
+    let each = 0..64u16;
+    Register {
+        names: each.clone().map(|item| names(item.into())).collect(),
+        links: each
+            .clone()
+            .flat_map(|from| each.clone().map(move |to| (from, 0, to)))
+            .collect(),
+    }
+}
+
+/// 512 items, each with links under roles 0 to 7 to items all over the
+/// register: 4,096 links, the largest image.
+pub fn fans() -> Register {
+    Register {
+        names: (0..MOST_ITEMS as u64)
+            .map(|item| item.wrapping_mul(0x9E37_79B9_7F4A_7C15))
+            .collect(),
+        links: (0..MOST_ITEMS)
+            .flat_map(|from| {
+                (0..8).map(move |role| {
+                    let to = (from * 37 + role * 101 + 11) % MOST_ITEMS;
+                    (from as u16, role as u8, to as u16)
+                })
+            })
+            .collect(),
+    }
+}
+
+fn node(names: u64, children: Vec<(u8, Node)>) -> Node {
+    Node {
+        names,
+        thresholds: Vec::new(),
+        children,
+    }
+}
+
+/// A chain under role 0 to the greatest depth, each node with some names.
+pub fn chain(names: impl Fn(usize) -> u64) -> Node {
+    let last = Node::leaf(names(MOST_DEPTH));
+    (0..MOST_DEPTH)
+        .rev()
+        .fold(last, |below, depth| node(names(depth), vec![(0, below)]))
+}
+
+/// 64 written nodes, of which 61 are kept, without names: the greatest size
+/// and the most kept nodes that it leaves. 20 branches under roles of their
+/// own, two leaves on each, and on three of them one leaf again.
+pub fn bushy() -> Node {
+    let branches = (0..20).map(|role| {
+        let mut leaves = vec![(0, Node::leaf(0)), (1, Node::leaf(0))];
+        if role < 3 {
+            leaves.push((0, Node::leaf(0)));
+        }
+        (role, node(0, leaves))
+    });
+    node(0, branches.collect())
+}
+
+/// 64 written nodes, of which 61 are kept, down to the greatest depth: a spine
+/// under role 0, on which leaves under other roles hang, three of them twice.
+pub fn comb() -> Node {
+    let leaves = |depth: usize| {
+        let count = if depth < 12 { 3 } else { 2 };
+        let again = (depth < 3).then_some(1);
+        let roles = (1..=count).chain(again);
+        roles.map(|role| (role, Node::leaf(0)))
+    };
+    (0..MOST_DEPTH).rev().fold(Node::leaf(0), |below, depth| {
+        let mut children = vec![(0, below)];
+        children.extend(leaves(depth));
+        node(0, children)
+    })
+}
+
+/// 16 thresholds on the deepest nodes of a tree that has as many, all of them
+/// satisfied.
+pub fn sixteen_thresholds(outer: Node, inner: &Node) -> Node {
+    let mut root = outer;
+    let mut nodes = Vec::new();
+    by_depth(&mut root, 0, &mut nodes);
+    nodes.sort_by_key(|(depth, _)| std::cmp::Reverse(*depth));
+    for (_, thresholds) in nodes.into_iter().take(MOST_THRESHOLDS) {
+        thresholds.push(threshold(Comparison::AtLeast, 0, 1, inner.clone()));
+    }
+    root
+}
+
+/// Each node's depth and thresholds, in reading order.
+fn by_depth<'a>(node: &'a mut Node, depth: usize, list: &mut Vec<(usize, &'a mut Vec<Threshold>)>) {
+    list.push((depth, &mut node.thresholds));
+    for (_, child) in &mut node.children {
+        by_depth(child, depth + 1, list);
+    }
+}
+
+/// The root and 63 equal children: 64 nodes in as many bytes as can be.
+pub fn wide() -> Node {
+    node(0, (0..63).map(|_| (0, Node::leaf(0))).collect())
+}
+
+/// Three equal chains below one root, down to the greatest depth: each is
+/// compared with the others all the way down.
+pub fn triplets() -> Node {
+    let chain = (1..MOST_DEPTH).fold(Node::leaf(1), |below, _| node(1, vec![(0, below)]));
+    node(0, vec![(0, chain.clone()), (0, chain.clone()), (0, chain)])
+}
