@@ -114,3 +114,62 @@ fn edges_and_damage() {
         requirement_same(&noise, &words);
     }
 }
+
+/// A text with a few characters changed, taken out or put in.
+fn scrawled(rng: &mut Rng, text: &str) -> String {
+    const SCRAWL: [char; 14] = [
+        '0', '1', '9', ' ', ' ', '\n', ':', '/', '<', '=', '#', '-', 'n', 'é',
+    ];
+    let mut letters: Vec<char> = text.chars().collect();
+    for _ in 0..rng.between(1, 3) {
+        let at = rng.index(letters.len());
+        match rng.below(3) {
+            0 => letters[at] = rng.pick(&SCRAWL),
+            1 => letters.insert(at, rng.pick(&SCRAWL)),
+            _ => drop(letters.remove(at)),
+        }
+    }
+    letters.into_iter().collect()
+}
+
+/// Whatever text is taken, its bytes are good ones; and some are taken, some
+/// not.
+#[test]
+fn scrawled_texts() {
+    let mut rng = Rng::new(4);
+    let words = some_words();
+    let mut taken = [0; 2];
+    let mut faults = [0; 2];
+    for _ in 0..3000 {
+        let (register, root) = second::gen::small_pair(&mut rng);
+        let register = Register::from_bytes(&register::encode(&register)).unwrap();
+        let text = register_text::print(&register, &words);
+        match register_text::parse(&scrawled(&mut rng, &text)) {
+            Ok(register) => {
+                register_round(&register.to_bytes(), &words).unwrap();
+                assert!(register::read_whole(&register.to_bytes()).is_ok());
+                taken[0] += 1;
+            }
+            Err(fault) => {
+                assert!(matches!(fault.at, Where::Line(1..)));
+                faults[0] += 1;
+            }
+        }
+        let root = Requirement::from_bytes(&requirement::encode(&root)).unwrap();
+        let text = requirement_text::print(&root, &words);
+        match requirement_text::parse(&scrawled(&mut rng, &text)) {
+            Ok(root) => {
+                requirement_same(&root.to_bytes(), &words);
+                taken[1] += 1;
+            }
+            Err(fault) => {
+                assert!(matches!(fault.at, Where::Line(1..)));
+                faults[1] += 1;
+            }
+        }
+    }
+    assert!(
+        taken.iter().chain(&faults).all(|count| *count > 100),
+        "{taken:?} {faults:?}"
+    );
+}
