@@ -1,0 +1,59 @@
+//! Svelgandur from Rust: to what degree a clock board meets a written
+//! requirement, as an exact fraction, and sessions of trial edits.
+//!
+//! A register and a requirement are bytes, as document 01 lays them out;
+//! `svelgandur-text` (tools/text) writes them from plain text. Nothing here
+//! works anything out: each function lends the proved library what it was
+//! handed, and gives its four numbers a type.
+//!
+//! ```
+//! use svelgandur::{degree, Place, Session, Fact};
+//!
+//! // Three items; 0 is linked to 1 under role 0 and to 2 under role 1.
+//! let register = [
+//!     1, 0, 0x26, 0, 3, // version, length, items
+//!     0, 0, 0, 0, 0, 0, 0, 0x0A, // item 0: names 1 and 3
+//!     0, 0, 0, 0, 0, 0, 0, 0x02, // item 1: name 1
+//!     0, 0, 0, 0, 0, 0, 0, 0x04, // item 2: name 2
+//!     0, 2, 0, 0, 0, 0, 1, 0, 0, 1, 0, 2, // two links
+//! ];
+//! // Names 1 and 2, and under role 0 something with name 1.
+//! let requirement = [
+//!     1, 0, 0x15, 0, 0, 0, 0, 0, 0, 0, 6, 0, 1, 0, 0, 0, 0, 0, 0, 0, 0, 2, 0, 0,
+//! ];
+//! let answer = degree(&register, &requirement, 0)?;
+//! assert_eq!((answer.num, answer.den), (2, 3));
+//! assert_eq!(answer.map, [Place::Item(0), Place::Item(1)]);
+//!
+//! // What if item 0 had name 2 as well?
+//! let mut session = Session::open(&register)?;
+//! session.add(Fact::Name { item: 0, name: 2 })?;
+//! let answer = session.degree(&requirement, 0)?;
+//! assert_eq!((answer.num, answer.den), (1, 1));
+//! session.undo()?;
+//! assert_eq!(session.image(), register);
+//! # Ok::<(), svelgandur::Refusal>(())
+//! ```
+//!
+//! | Module | What it is |
+//! |---|---|
+//! | `calls` | the calls of include/svelgandur.h; the only unsafe code |
+//! | `refusal` | a refusal, and a sentence for each number |
+//! | `answer` | what the calls answer, as types |
+//! | `ask` | the questions: reading, degree, margin, yes or no |
+//! | `session` | trial edits with undo |
+
+#![deny(unsafe_code)]
+
+mod answer;
+mod ask;
+mod calls;
+mod refusal;
+mod session;
+
+pub use answer::{Degree, Margin, Place, RegisterCounts, RequirementCounts, Verdict};
+pub use ask::{
+    degree, degree_into, inner_part, margin, member, member_into, read_register, read_requirement,
+};
+pub use refusal::{Refusal, Side};
+pub use session::{Fact, Session, LARGEST_IMAGE, MOST_STEPS};
