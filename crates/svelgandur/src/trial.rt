@@ -47,11 +47,11 @@ pub extern "C" fn svelgandur_edit_name(
     ensures { λ _. ⌜ now (buffer .exit) ≡ bufferAfter (now (buffer .entry)) (editCall (now (buffer .entry)) (length (now (log .entry))) count (anEdit (Fact.Name item name) (isAdding adds))) ⌝ }
     ensures { λ _. ⌜ now (log .exit) ≡ numbersAfter (now (log .entry)) count (Fact.Name item name) (editCall (now (buffer .entry)) (length (now (log .entry))) count (anEdit (Fact.Name item name) (isAdding adds))) ⌝ }
 {
-    let fact = Fact::Name {
+    let named = Fact::Name {
         item: item as usize,
         name: name as usize,
     };
-    let r = session::edit(buffer, log, count as usize, fact, adds != 0);
+    let r = session::edit(buffer, log, count as usize, named, adds != 0);
     hand_back(answer, r);
 }
 
@@ -71,12 +71,12 @@ pub extern "C" fn svelgandur_edit_link(
     ensures { λ _. ⌜ now (buffer .exit) ≡ bufferAfter (now (buffer .entry)) (editCall (now (buffer .entry)) (length (now (log .entry))) count (anEdit (Fact.Link from role to) (isAdding adds))) ⌝ }
     ensures { λ _. ⌜ now (log .exit) ≡ numbersAfter (now (log .entry)) count (Fact.Link from role to) (editCall (now (buffer .entry)) (length (now (log .entry))) count (anEdit (Fact.Link from role to) (isAdding adds))) ⌝ }
 {
-    let fact = Fact::Link {
+    let linked = Fact::Link {
         from: from as usize,
         role: role as usize,
         to: to as usize,
     };
-    let r = session::edit(buffer, log, count as usize, fact, adds != 0);
+    let r = session::edit(buffer, log, count as usize, linked, adds != 0);
     hand_back(answer, r);
 }
 
