@@ -1,5 +1,5 @@
+pub mod PlayedRecords
 pub mod Moved
 pub mod Setting
 pub mod Coded
 pub mod Calls
-pub mod PlayedRecords
