@@ -1,3 +1,8 @@
+pub mod Walk
+pub mod Local
+pub mod Log
+pub mod Recorded
+pub mod PlayedRecords
 pub mod Stores
 pub mod Bits
 pub mod Place
@@ -7,9 +12,4 @@ pub mod Set
 pub mod Chains
 pub mod Answered
 pub mod Codes
-pub mod Walk
-pub mod Local
-pub mod Log
-pub mod Recorded
-pub mod PlayedRecords
 pub mod Played

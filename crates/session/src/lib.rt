@@ -1,6 +1,7 @@
 // A session of trial edits: open, edit, undo and keep on a register image in a lent buffer.
 // The core (`edit_in`, `undo_in`) works on the buffer and never touches a log: it takes the log's length, the count in use and, for an undo, the last
-// step by value. Over it stands a first face, whose log is a lent slice of numbers, one for each step (`code` and `decode`).
+// step by value. Over it stands a first face, whose log is a lent slice of numbers, one for each step (`code` and `decode`); `records` is the face whose
+// log is a lent slice of step records, and `held` the same for a log held by value.
 pub mod held;
 pub mod records;
 
