@@ -3,6 +3,8 @@
 use meaning::Fact;
 use session::Counted;
 
+mod calls;
+
 fn write_byte(b: u8) {
     let one = [b];
     io::write_all(1, &one);
@@ -69,24 +71,24 @@ fn call(
         to: c,
     };
     if kind == b'o' {
-        return session::open(s);
+        return calls::open(s, log, count);
     }
     if kind == b'n' {
-        return session::edit(s, log, count, name, true);
+        return calls::edit(s, log, count, name, true);
     }
     if kind == b'N' {
-        return session::edit(s, log, count, name, false);
+        return calls::edit(s, log, count, name, false);
     }
     if kind == b'l' {
-        return session::edit(s, log, count, link, true);
+        return calls::edit(s, log, count, link, true);
     }
     if kind == b'L' {
-        return session::edit(s, log, count, link, false);
+        return calls::edit(s, log, count, link, false);
     }
     if kind == b'u' {
-        return session::undo(s, log, count);
+        return calls::undo(s, log, count);
     }
-    session::keep(s, log, count)
+    calls::keep(s, log, count)
 }
 
 // Runs a history, four bytes for each call: its kind, a, b and c.
