@@ -5,13 +5,21 @@ use session::Counted;
 
 mod calls;
 
+ghost use mathlib.Core.Path.{_≡_};
+ghost use Rattle.meaning.specs.Session.{play, countAfter};
+ghost use Rattle.session.specs.Calls.{paper};
+ghost use Rattle.session.specs.Played.{lent, steps, Called};
+ghost use Rattle.history.specs.Histories.{callOf, callsOf};
+
 fn write_byte(b: u8) {
     let one = [b];
     io::write_all(1, &one);
 }
 
 // A byte as a number.
-fn wide(b: u8) -> usize {
+fn wide(b: u8) -> usize
+    ensures { λ r. ⌜ r ≡ b ⌝ }
+{
     b as usize
 }
 
@@ -36,7 +44,9 @@ fn print_log(log: &[u64]) {
 }
 
 // Prints an answer. The count for the next call is the one that was handed back, and after a refusal that of this call.
-fn print_answer(r: Counted, count: usize) -> usize {
+fn print_answer(r: Counted, count: usize) -> usize
+    ensures { λ n. ⌜ n ≡ countAfter count (paper r) ⌝ }
+{
     match r {
         Counted::Good { count: handed } => {
             io::write_all(1, b"count ");
@@ -63,7 +73,9 @@ fn call(
     a: usize,
     b: usize,
     c: usize,
-) -> Counted {
+) -> Counted
+    ensures { λ r. ⌜ Called (lent (now (s .entry)) (now (log .entry)) count) (callOf kind a b c) r (lent (now (s .exit)) (now (log .exit)) (countAfter count (paper r))) ⌝ }
+{
     let name = Fact::Name { item: a, name: b };
     let link = Fact::Link {
         from: a,
@@ -91,8 +103,10 @@ fn call(
     calls::keep(s, log, count)
 }
 
-// Runs a history, four bytes for each call: its kind, a, b and c.
-fn run(history: &[u8], s: &mut [u8], log: &mut [u64]) {
+// Runs a history, four bytes for each call: its kind, a, b and c. What is lent afterwards is what the history makes of it.
+fn run(history: &[u8], s: &mut [u8], log: &mut [u64]) -> usize
+    ensures { λ n. ⌜ steps (lent (now (s .exit)) (now (log .exit)) n) ≡ play (steps (lent (now (s .entry)) (now (log .entry)) 0)) (callsOf (now (history .entry))) ⌝ }
+{
     let mut count = 0;
     let mut i = 0;
     while i + 4 <= history.len() {
@@ -106,6 +120,7 @@ fn run(history: &[u8], s: &mut [u8], log: &mut [u64]) {
         print_log(log);
         i += 4;
     }
+    count
 }
 
 // The image comes first on standard input, with the bytes behind it, 50 in all; the rest is the history.

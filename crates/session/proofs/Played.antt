@@ -20,7 +20,7 @@ use Rattle.session.specs.declared.Counted.{Counted}
 use Rattle.session.specs.declared.Counted.the-variants.{Good, Refused}
 use Rattle.session.specs.Coded.{decoded}
 use Rattle.session.specs.Calls.{paper, anEdit, numbersAfter}
-use Rattle.session.specs.Played.{Lent, lent, Promised, Called, Result, Played, calls, taken}
+use Rattle.session.specs.Played.{Lent, lent, steps, Promised, Called, Result, Played, calls, taken}
 use Rattle.session.proofs.Answered.{refused-inj}
 use Rattle.session.proofs.Codes.{last-decoded, log-decoded}
 
@@ -52,10 +52,6 @@ one-result s c r q t u h k = go c (h .promised) (k .promised)
     go keeps x y = same (x .0) (x .1) (x .2) (y .0) (y .1) (y .2)
 
 -- ---- the calls follow meaning's
-
--- the session that is lent: its log is the steps that the numbers code
-abbrev pub steps : Lent → Session
-steps s = record { buffer = s .buffer; log = map decoded (s .log); count = s .count }
 
 same-session : {b c : List ℕ} {l m : List Step} {i j : ℕ} → b ≡ c → l ≡ m → i ≡ j
     → _≡_ {A = Session} (record { buffer = b; log = l; count = i }) (record { buffer = c; log = m; count = j })

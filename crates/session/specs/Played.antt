@@ -7,7 +7,7 @@ use Prim.Native.Nat.{ℕ, _-_}
 use lib.ListN.{length, getD}
 use Rattle.meaning.specs.Refusal.{Answer}
 use Rattle.meaning.specs.Bytes.{Bytes}
-use Rattle.meaning.specs.Session.{Edit, Call, opens, edits, undoes, keeps, openCall, editCall, undoCall, keepCall}
+use Rattle.meaning.specs.Session.{Edit, Session, Call, opens, edits, undoes, keeps, openCall, editCall, undoCall, keepCall}
 use Rattle.meaning.specs.Session.{noSteps, counted, bufferOpened, bufferAfter, countAfter, keptIf}
 use Rattle.session.specs.declared.Counted.{Counted}
 use Rattle.session.specs.Coded.{decoded}
@@ -21,6 +21,10 @@ pub record Lent : Type 0 where
 
 abbrev pub lent : List ℕ → List ℕ → ℕ → Lent
 lent b l n = record { buffer = b; log = l; count = n }
+
+-- the session that is lent: its log is the steps that the numbers code
+abbrev pub steps : Lent → Session
+steps s = record { buffer = s .buffer; log = map decoded (s .log); count = s .count }
 
 -- The promise of each call, as src/lib.rt has it: r is what it handed back, t what is lent afterwards. What a call is lent for reading, or not at
 -- all, stays. The crate history proves of each call that its contract says this.
