@@ -20,7 +20,7 @@ use Rattle.session.specs.declared.Counted.{Counted}
 use Rattle.session.specs.declared.Counted.the-variants.{Good, Refused}
 use Rattle.session.specs.Coded.{decoded}
 use Rattle.session.specs.Calls.{paper, anEdit, numbersAfter}
-use Rattle.session.specs.Played.{Lent, Promised, Called, Result, Played, calls, taken}
+use Rattle.session.specs.Played.{Lent, lent, steps, Promised, Called, Result, Played, calls, taken}
 use Rattle.session.proofs.Answered.{refused-inj}
 use Rattle.session.proofs.Codes.{last-decoded, log-decoded}
 
@@ -32,29 +32,26 @@ papers-apart (Good m) (Refused y) e = let z : _≡_ {A = ℕ} 0 1 = cc in absurd
 papers-apart (Refused x) (Good n) e = let z : _≡_ {A = ℕ} 0 1 = cc in absurd (omega arith)
 papers-apart (Refused x) (Refused y) e = ap Refused (refused-inj e)
 
--- what is handed back, and all that is lent afterwards
-abbrev pub Same : Counted → Lent → Counted → Lent → Type 0
-Same r t q u = (r ≡ q) × (t .buffer ≡ u .buffer) × (t .log ≡ u .log) × (t .count ≡ u .count)
+same-lent : {b c l m : List ℕ} {i j : ℕ} → b ≡ c → l ≡ m → i ≡ j → lent b l i ≡ lent c m j
+same-lent e f g = cc
 
-pub one-result : (s : Lent) (c : Call) (r q : Counted) (t u : Lent) → Called s c r t → Called s c q u → Same r t q u
+-- what is handed back, and all that is lent afterwards
+pub one-result : (s : Lent) (c : Call) (r q : Counted) (t u : Lent) → Called s c r t → Called s c q u → (r ≡ q) × (t ≡ u)
 one-result s c r q t u h k = go c (h .promised) (k .promised)
   where
-    same : {a : Answer ℕ} {b l : List ℕ} → paper r ≡ a → t .buffer ≡ b → t .log ≡ l → paper q ≡ a → u .buffer ≡ b → u .log ≡ l → Same r t q u
+    same : {a : Answer ℕ} {b l : List ℕ} → paper r ≡ a → t .buffer ≡ b → t .log ≡ l → paper q ≡ a → u .buffer ≡ b → u .log ≡ l → (r ≡ q) × (t ≡ u)
     same a b l x y z =
         let e = papers-apart r q (a ∙ sym x) in
-        (e, b ∙ sym y, l ∙ sym z, h .handed ∙ ap (λ (v : Counted). countAfter (s .count) (paper v)) e ∙ sym (k .handed))
+        let n = h .handed ∙ ap (λ (v : Counted). countAfter (s .count) (paper v)) e ∙ sym (k .handed) in
+        (e, same-lent (b ∙ sym y) (l ∙ sym z) n)
 
-    go : (c : Call) → Promised s c r t → Promised s c q u → Same r t q u
+    go : (c : Call) → Promised s c r t → Promised s c q u → (r ≡ q) × (t ≡ u)
     go opens x y = same (x .0) (x .1) (x .2) (y .0) (y .1) (y .2)
     go (edits e) x y = same (x .0) (x .1) (x .2) (y .0) (y .1) (y .2)
     go undoes x y = same (x .0) (x .1) (x .2) (y .0) (y .1) (y .2)
     go keeps x y = same (x .0) (x .1) (x .2) (y .0) (y .1) (y .2)
 
 -- ---- the calls follow meaning's
-
--- the session that is lent: its log is the steps that the numbers code
-abbrev pub steps : Lent → Session
-steps s = record { buffer = s .buffer; log = map decoded (s .log); count = s .count }
 
 same-session : {b c : List ℕ} {l m : List Step} {i j : ℕ} → b ≡ c → l ≡ m → i ≡ j
     → _≡_ {A = Session} (record { buffer = b; log = l; count = i }) (record { buffer = c; log = m; count = j })
@@ -85,7 +82,7 @@ one-call s c r t h = go c (h .promised)
     go opens p = done opens (p .0) (p .1) (ap (map decoded) (p .2))
     go (edits e) p =
         done (edits e) (p .0 ∙ ap (λ (n : ℕ). counted (edit e n)) many) (p .1 ∙ ap (λ (n : ℕ). bufferAfter (s .buffer) (edit e n)) many)
-        (ap (map decoded) (p .2) ∙ log-decoded (s .buffer) (s .log) (s .bytes) (s .count) (e .fact) (e .adds)
+        (ap (map decoded) (p .2) ∙ log-decoded (s .buffer) (s .log) (h .bytes) (s .count) (e .fact) (e .adds)
         ∙ ap (λ (n : ℕ). logAfter (map decoded (s .log)) (s .count) (e .fact) (edit e n)) many)
     go undoes p =
         done undoes (p .0 ∙ ap₂ (λ (n : ℕ) (z : Step). counted (undo n z)) many last)
@@ -118,28 +115,31 @@ module _ (s t : Lent) (g : Register) (r : readBuffer (s .buffer) ≡ good g) (a 
   follow = follows (record { call = opens; answer = a } ∷ xs) s t p
 
   pub demand-3 : Shows (length (g .names)) (standingFacts stands (isFact g)) (t .buffer)
+  unfolding Played
   demand-3 =
       subst (λ (cs : List Call). Shows (length (g .names)) (standingFacts (standing nothing cs) (isFact g)) (t .buffer)) (sym (follow .1))
       (subst (λ (z : Session). Shows (length (g .names)) (standingFacts (standing nothing (accepted (steps s) (opens ∷ calls xs))) (isFact g)) (z .buffer))
-      (sym (follow .0)) (meant.demand-3 (steps s) g (s .bytes) r (calls xs)))
+      (sym (follow .0)) (meant.demand-3 (steps s) g (p .1 .bytes) r (calls xs)))
 
   -- An accepted edit that leaves the image as it was had nothing to change; so had an undo's edit. So neither an image that never changes nor an undo
   -- that does nothing keeps the promises, nor a session that applies its first edit and only counts the rest: `xs` may hold any edits.
   pub edit-moves : (e : Edit) (n : ℕ) (u : Lent) → Called t (edits e) (Good n) u → imageOf (u .buffer) ≡ imageOf (t .buffer)
       → standingFacts stands (isFact g) (e .fact) ≡ e .adds
+  unfolding Played
   edit-moves e n u h i =
       let one = one-call t (edits e) (Good n) u h in
       ap (λ (cs : List Call). standingFacts (standing nothing cs) (isFact g) (e .fact)) (follow .1)
-      ∙ meant.edit-moves (steps s) g (s .bytes) r (calls xs) e n (ap (λ (z : Session). answer z (edits e)) (sym (follow .0)) ∙ sym (one .0))
+      ∙ meant.edit-moves (steps s) g (p .1 .bytes) r (calls xs) e n (ap (λ (z : Session). answer z (edits e)) (sym (follow .0)) ∙ sym (one .0))
       (ap (λ (z : Session). imageOf (next z (edits e) .buffer)) (sym (follow .0)) ∙ sym (ap (λ (z : Session). imageOf (z .buffer)) (one .1)) ∙ i
       ∙ ap (λ (z : Session). imageOf (z .buffer)) (follow .0))
 
   pub undo-moves : (e : Edit) (es : List Edit) (n : ℕ) (u : Lent) → stands .trial ≡ e ∷ es → Called t undoes (Good n) u
       → imageOf (u .buffer) ≡ imageOf (t .buffer) → standingFacts (told stands undoes) (isFact g) (e .fact) ≡ e .adds
+  unfolding Played
   undo-moves e es n u d h i =
       let one = one-call t undoes (Good n) u h in
       ap (λ (cs : List Call). standingFacts (told (standing nothing cs) undoes) (isFact g) (e .fact)) (follow .1)
-      ∙ meant.undo-moves (steps s) g (s .bytes) r (calls xs) e es n (ap (λ (cs : List Call). standing nothing cs .trial) (sym (follow .1)) ∙ d)
+      ∙ meant.undo-moves (steps s) g (p .1 .bytes) r (calls xs) e es n (ap (λ (cs : List Call). standing nothing cs .trial) (sym (follow .1)) ∙ d)
       (ap (λ (z : Session). answer z undoes) (sym (follow .0)) ∙ sym (one .0))
       (ap (λ (z : Session). imageOf (next z undoes .buffer)) (sym (follow .0)) ∙ sym (ap (λ (z : Session). imageOf (z .buffer)) (one .1)) ∙ i
       ∙ ap (λ (z : Session). imageOf (z .buffer)) (follow .0))

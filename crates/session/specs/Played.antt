@@ -7,21 +7,27 @@ use Prim.Native.Nat.{ℕ, _-_}
 use lib.ListN.{length, getD}
 use Rattle.meaning.specs.Refusal.{Answer}
 use Rattle.meaning.specs.Bytes.{Bytes}
-use Rattle.meaning.specs.Session.{Edit, Call, opens, edits, undoes, keeps, openCall, editCall, undoCall, keepCall}
+use Rattle.meaning.specs.Session.{Edit, Session, Call, opens, edits, undoes, keeps, openCall, editCall, undoCall, keepCall}
 use Rattle.meaning.specs.Session.{noSteps, counted, bufferOpened, bufferAfter, countAfter, keptIf}
 use Rattle.session.specs.declared.Counted.{Counted}
 use Rattle.session.specs.Coded.{decoded}
 use Rattle.session.specs.Calls.{paper, anEdit, numbersAfter}
 
--- what a call is handed: the buffer, which holds bytes, the log, and the count in use
+-- what a call is handed: the buffer, the log, and the count in use
 pub record Lent : Type 0 where
   pub buffer : List ℕ
-  pub bytes : Bytes buffer
   pub log : List ℕ
   pub count : ℕ
 
+abbrev pub lent : List ℕ → List ℕ → ℕ → Lent
+lent b l n = record { buffer = b; log = l; count = n }
+
+-- the session that is lent: its log is the steps that the numbers code
+abbrev pub steps : Lent → Session
+steps s = record { buffer = s .buffer; log = map decoded (s .log); count = s .count }
+
 -- The promise of each call, as src/lib.rt has it: r is what it handed back, t what is lent afterwards. What a call is lent for reading, or not at
--- all, stays.
+-- all, stays. The crate history proves of each call that its contract says this.
 abbrev pub Promised : Lent → Call → Counted → Lent → Type 0
 Promised s opens r t =
     (paper r ≡ noSteps (openCall (s .buffer)))
@@ -40,8 +46,9 @@ Promised s keeps r t =
     × (t .buffer ≡ s .buffer)
     × (t .log ≡ s .log)
 
--- "the count in use is handed over and handed back"; after a refusal "the step count stays"
+-- A call of a buffer of bytes. "the count in use is handed over and handed back"; after a refusal "the step count stays".
 pub record Called (s : Lent) (c : Call) (r : Counted) (t : Lent) : Type 0 where
+  pub bytes : Bytes (s .buffer)
   pub promised : Promised s c r t
   pub handed : t .count ≡ countAfter (s .count) (paper r)
 

@@ -1,0 +1,129 @@
+-- `history::run` meets its contract: each turn plays the next call, and what is still to be played leads where the whole history does.
+-- Assumes nothing.
+use borrow.Author.Needs.{needs}
+use Rattle.history.proofs.run.Statement.{statement}
+use Rattle.history.proofs.run.Tie as tie
+use mathlib.Core.Path.{_≡_, refl, sym, ap, _∙_}
+use Prim.Native.Nat.{_≤_, _-_}
+use native.Mathlib.Omega.{arith}
+use lib.ListN.{length}
+use Rattle.session.specs.Played.{lent}
+use Rattle.history.proofs.Histories.{Playing, played-on, played-out}
+
+abbrev Inv-loop : tie.InvT-loop
+Inv-loop history s₀ log₀ count₀ i₀ s log count i =
+    (i ≤ length history) × (length s ≡ length s₀) × (length log ≡ length log₀) × Playing history (lent s₀ log₀ 0) i (lent s log count)
+
+abbrev μ-loop : tie.MeasureT-loop
+μ-loop history s₀ log₀ count₀ i₀ s log count i = length history - i
+
+loop-holds : tie.Need-loop-holds Inv-loop μ-loop
+loop-holds c = (omega arith, refl, refl, refl)
+
+add-loop : tie.Need-add-loop Inv-loop μ-loop
+add-loop c = search needs
+
+shared-slice-read-kind : tie.Need-shared-slice-read-kind Inv-loop μ-loop
+shared-slice-read-kind c = search needs
+
+add-wide : tie.Need-add-wide Inv-loop μ-loop
+add-wide c = search needs
+
+shared-slice-read-wide : tie.Need-shared-slice-read-wide Inv-loop μ-loop
+shared-slice-read-wide c = search needs
+
+wide-requires : tie.Need-wide-requires Inv-loop μ-loop
+wide-requires c κs = search needs
+
+add-wide-2 : tie.Need-add-wide-2 Inv-loop μ-loop
+add-wide-2 c = search needs
+
+shared-slice-read-wide-2 : tie.Need-shared-slice-read-wide-2 Inv-loop μ-loop
+shared-slice-read-wide-2 c = search needs
+
+wide-requires-2 : tie.Need-wide-requires-2 Inv-loop μ-loop
+wide-requires-2 c κs = search needs
+
+add-wide-3 : tie.Need-add-wide-3 Inv-loop μ-loop
+add-wide-3 c = search needs
+
+shared-slice-read-wide-3 : tie.Need-shared-slice-read-wide-3 Inv-loop μ-loop
+shared-slice-read-wide-3 c = search needs
+
+wide-requires-3 : tie.Need-wide-requires-3 Inv-loop μ-loop
+wide-requires-3 c κs = search needs
+
+call-requires : tie.Need-call-requires Inv-loop μ-loop
+call-requires c κs = search needs
+
+print-answer-requires : tie.Need-print-answer-requires Inv-loop μ-loop
+print-answer-requires c κs = search needs
+
+print-buffer-requires : tie.Need-print-buffer-requires Inv-loop μ-loop
+print-buffer-requires c κs = search needs
+
+print-log-requires : tie.Need-print-log-requires Inv-loop μ-loop
+print-log-requires c κs = search needs
+
+add-i : tie.Need-add-i Inv-loop μ-loop
+add-i c = search needs
+
+loop-less : tie.Need-loop-less Inv-loop μ-loop
+loop-less c = search needs
+
+loop-again : tie.Need-loop-again Inv-loop μ-loop
+loop-again c =
+    let a = c .before .before .before .before .before .before .before .before .before .before .before .before .before .before .before .before .before .before .before .before .before .before .before .before .args in
+    let l = c .before .before .before .before .before .before .before .before .before .before .before .before .before .before .before .before .before .before .before .before .loop in
+    let n1 = c .before .before .before .before .before .before .before .before .before .before .before .before .before .before .before .before .wide .ensures in
+    let n2 = c .before .before .before .before .before .before .before .before .before .before .before .before .before .before .wide2 .ensures in
+    let n3 = c .before .before .before .before .before .before .before .before .before .before .before .before .wide3 .ensures in
+    let next = c .before .before .before .before .print-answer .ensures in
+    let few = c .before .before .before .before .before .before .before .before .before .before .before .before .before .before .before .before .before .before .before .loop-test .taken in
+    let done = c .before .before .before .before .before .before .before .before .before .call in (
+      few,
+      done .kept .0 ∙ l .inv .1,
+      done .kept .1 .0 ∙ l .inv .2,
+      played-on (a .history .now) (lent (a .s .now) (a .log .now) 0) (lent (l .s) (l .log) (l .count)) (l .i) (done .result) _ _ _ _ _ _ _ few (l .inv .3) n1 n2 n3 next (done .ensures),
+    )
+
+same-length : tie.Need-same-length Inv-loop μ-loop
+same-length c = c .before .loop .inv .1
+
+same-length-2 : tie.Need-same-length-2 Inv-loop μ-loop
+same-length-2 c = c .before .loop .inv .2
+
+returns : tie.Need-returns Inv-loop μ-loop
+returns c =
+    let a = c .before .before .before .before .before .args in
+    let l = c .before .loop in
+    played-out (a .history .now) (lent (a .s .now) (a .log .now) 0) (lent (l .s) (l .log) (l .count)) (l .i) (c .loop-test .left) (l .inv .3)
+
+pub run-spec : {M : Type 1} → statement M
+run-spec =
+    tie.close
+    (tie.spec
+    Inv-loop
+    μ-loop
+    loop-holds
+    add-loop
+    shared-slice-read-kind
+    add-wide
+    shared-slice-read-wide
+    wide-requires
+    add-wide-2
+    shared-slice-read-wide-2
+    wide-requires-2
+    add-wide-3
+    shared-slice-read-wide-3
+    wide-requires-3
+    call-requires
+    print-answer-requires
+    print-buffer-requires
+    print-log-requires
+    add-i
+    loop-less
+    loop-again
+    same-length
+    same-length-2
+    returns)
