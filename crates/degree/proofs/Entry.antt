@@ -27,7 +27,7 @@ use Rattle.degree.proofs.Fold.{scale-in-pos, degree-in-le}
 pub scale-small : (t : Concept) → sizeIn t ≤ mostSize → scaleIn t ≤ mostScale
 scale-small t h = rw (← scale-in t) (scale-bound (reduce t) (rw (size-in t) h))
 
-pub case-of : {s : List ℕ} {names roles ends marks : List ℕ} {items links node left : ℕ} (g : Register) (t : Concept) → Bytes s → readBuffer s ≡ good g
+abbrev pub case-of : {s : List ℕ} {names roles ends marks : List ℕ} {items links node left : ℕ} (g : Register) (t : Concept) → Bytes s → readBuffer s ≡ good g
     → items ≡ length (g .names) → links ≡ length (g .links) → Holds names roles ends t left node (getD ends node 0) → Marked ends marks t node
     → getD ends node 0 ≤ 64 → sizeIn t ≤ mostSize → Case s items links names roles ends marks node left
 case-of {s} g t b h ei el held marked few small = record {

@@ -7,3 +7,7 @@ pub mod Fold
 pub mod Cases
 pub mod Walk
 pub mod Entry
+pub mod Plain
+pub mod Both
+pub mod Against
+pub mod Calls

@@ -1,2 +1,4 @@
 pub mod Case
 pub mod Given
+pub mod Asked
+pub mod Answers

@@ -1,4 +1,6 @@
 // The degree of an item in a concept tree that is held as rows, over a register image that was read; the map shown for it; lowest terms.
+pub mod call; // call.rt: the degree call and the margin call
+
 ghost use mathlib.Core.Path.{_≡_};
 ghost use mathlib.Core.Bool.{_&&_, _||_};
 ghost use mathlib.Core.Option.{Option, some};

@@ -1,0 +1,110 @@
+use borrow.Author.Needs.{needs}
+use Rattle.degree.proofs.call.margin_of.Statement.{statement}
+use Rattle.degree.proofs.call.margin_of.Tie as tie
+use native.Mathlib.Omega.{arith}
+use Rattle.fields.proofs.Known.{bytes-known}
+use Rattle.degree.proofs.Entry.{graded-fits}
+use Rattle.degree.proofs.Calls.{margin-stopped, case, margin-no-item, margin-no-threshold, margin-small, margin-answer}
+
+read-both-requires : tie.Need-read-both-requires
+read-both-requires c κs = search needs
+
+enum-known-b : tie.Need-enum-known-b
+enum-known-b c = search needs
+
+margin-refused-requires : tie.Need-margin-refused-requires
+margin-refused-requires c κs = search needs
+
+returns : tie.Need-returns
+returns c =
+    let image = c .before .before .before .before .before .before .before .before .before .before .before .before .args .image .now in
+    let message = c .before .before .before .before .before .before .before .before .before .before .before .before .args .message .now in
+    let item = c .before .before .before .before .before .before .before .before .before .before .before .before .args .item in
+    let done = c .before .before .before .before .before .read-both .ensures in
+    let told = c .before .before .before .b .given .1 in
+    margin-no-item image message item _ _ done _ _ _ told (omega (arith, c .before .if1 .taken)) _ _ (c .margin-refused .result) (search needs)
+
+allowed-requires : tie.Need-allowed-requires
+allowed-requires c κs = search needs
+
+margin-refused-requires-2 : tie.Need-margin-refused-requires-2
+margin-refused-requires-2 c κs = search needs
+
+returns-2 : tie.Need-returns-2
+returns-2 c =
+    let image = c .before .before .before .before .before .before .before .before .before .before .before .before .before .before .args .image .now in
+    let message = c .before .before .before .before .before .before .before .before .before .before .before .before .before .before .args .message .now in
+    let item = c .before .before .before .before .before .before .before .before .before .before .before .before .before .before .args .item in
+    let done = c .before .before .before .before .before .before .before .read-both .ensures in
+    let told = c .before .before .before .before .before .b .given .1 in
+    margin-no-threshold image message item _ _ done _ _ _ told (omega (arith, c .before .before .before .if1 .left)) (c .before .before .before .before .before .before .before .before .before .before .before .before .before .before .args .p) (c .before .before .before .before .before .before .before .before .before .before .before .before .before .before .args .q) _ (c .before .before .allowed .ensures) (c .before .if2 .taken) (c .margin-refused2 .result) (search needs)
+
+at-item-requires : tie.Need-at-item-requires
+at-item-requires c κs =
+    let image = c .before .before .before .before .before .before .before .before .before .before .before .before .before .before .before .before .before .args .image .now in
+    let message = c .before .before .before .before .before .before .before .before .before .before .before .before .before .before .before .before .before .args .message .now in
+    let item = c .before .before .before .before .before .before .before .before .before .before .before .before .before .before .before .before .before .args .item in
+    let done = c .before .before .before .before .before .before .before .before .before .before .read-both .ensures in
+    let told = c .before .before .before .before .before .before .before .before .b .given .1 in
+    let k = case image message item _ _ done _ _ _ told (bytes-known image (c .before .before .before .before .before .before .before .before .before .before .before .before .before .before .before .before .shared-slice-known .given)) in
+    (k, omega (arith, c .before .before .before .before .before .before .if1 .left))
+
+lowest-requires : tie.Need-lowest-requires
+lowest-requires c κs =
+    let image = c .before .before .before .before .before .before .before .before .before .before .before .before .before .before .before .before .before .before .args .image .now in
+    let message = c .before .before .before .before .before .before .before .before .before .before .before .before .before .before .before .before .before .before .args .message .now in
+    let item = c .before .before .before .before .before .before .before .before .before .before .before .before .before .before .before .before .before .before .args .item in
+    let done = c .before .before .before .before .before .before .before .before .before .before .before .read-both .ensures in
+    let told = c .before .before .before .before .before .before .before .before .before .b .given .1 in
+    let k = case image message item _ _ done _ _ _ told (bytes-known image (c .before .before .before .before .before .before .before .before .before .before .before .before .before .before .before .before .before .shared-slice-known .given)) in
+    graded-fits (k .register) (k .tree) item _ (c .at-item .ensures k) .0
+
+against-requires : tie.Need-against-requires
+against-requires c κs =
+    let image = c .before .before .before .before .before .before .before .before .before .before .before .before .before .before .before .before .before .before .before .args .image .now in
+    let message = c .before .before .before .before .before .before .before .before .before .before .before .before .before .before .before .before .before .before .before .args .message .now in
+    let item = c .before .before .before .before .before .before .before .before .before .before .before .before .before .before .before .before .before .before .before .args .item in
+    let done = c .before .before .before .before .before .before .before .before .before .before .before .before .read-both .ensures in
+    let told = c .before .before .before .before .before .before .before .before .before .before .b .given .1 in
+    let k = case image message item _ _ done _ _ _ told (bytes-known image (c .before .before .before .before .before .before .before .before .before .before .before .before .before .before .before .before .before .before .shared-slice-known .given)) in
+    margin-small image message item _ _ done _ _ _ told _ _ _ (c .before .before .before .before .before .before .before .allowed .ensures) (c .before .before .before .before .before .before .if2 .left) _ _ (c .before .at-item .ensures k) (c .lowest .ensures)
+
+enum-known-b-2 : tie.Need-enum-known-b-2
+enum-known-b-2 c = search needs
+
+returns-3 : tie.Need-returns-3
+returns-3 c =
+    let image = c .before .before .before .before .before .before .before .before .before .before .before .before .before .before .before .before .before .before .before .before .args .image .now in
+    let message = c .before .before .before .before .before .before .before .before .before .before .before .before .before .before .before .before .before .before .before .before .args .message .now in
+    let item = c .before .before .before .before .before .before .before .before .before .before .before .before .before .before .before .before .before .before .before .before .args .item in
+    let done = c .before .before .before .before .before .before .before .before .before .before .before .before .before .read-both .ensures in
+    let told = c .before .before .before .before .before .before .before .before .before .before .before .b .given .1 in
+    let k = case image message item _ _ done _ _ _ told (bytes-known image (c .before .before .before .before .before .before .before .before .before .before .before .before .before .before .before .before .before .before .before .shared-slice-known .given)) in
+    margin-answer image message item _ _ done _ _ _ told _ _ _ (c .before .before .before .before .before .before .before .before .allowed .ensures) (c .before .before .before .before .before .before .before .if2 .left) _ _ (c .before .before .at-item .ensures k) (c .before .lowest .ensures) (omega (arith, c .before .before .before .before .before .before .before .before .before .if1 .left)) _ (c .against .ensures)
+
+returns-4 : tie.Need-returns-4
+returns-4 c =
+    let image = c .before .before .before .before .before .before .before .before .before .before .args .image .now in
+    let message = c .before .before .before .before .before .before .before .before .before .before .args .message .now in
+    let item = c .before .before .before .before .before .before .before .before .before .before .args .item in
+    let done = c .before .before .before .read-both .ensures in
+    let told = c .before .b2 .given .1 in
+    margin-stopped image message item _ _ done _ _ _ told
+
+pub margin-of-spec : {M : Type 1} → statement M
+margin-of-spec =
+    tie.close
+    (tie.spec
+    read-both-requires
+    enum-known-b
+    margin-refused-requires
+    returns
+    allowed-requires
+    margin-refused-requires-2
+    returns-2
+    at-item-requires
+    lowest-requires
+    against-requires
+    enum-known-b-2
+    returns-3
+    returns-4)

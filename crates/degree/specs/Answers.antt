@@ -1,0 +1,45 @@
+-- What the calls answer, in the document's words, and what that is to be.
+-- Assumes nothing.
+use Prim.Native.Nat.{ℕ}
+use lib.ListN.{length}
+use Rattle.meaning.specs.Refusal.{Answer, good, refused, onCall, _>>=_}
+use Rattle.meaning.specs.Fraction.{Frac, _//_, margin, marginOver}
+use Rattle.meaning.specs.Calls.{Found, Against}
+use Rattle.degree.specs.declared.call.Answered.{Answered}
+use Rattle.degree.specs.declared.call.Answered.the-variants.{Good as GoodDegree, Refused as RefusedDegree}
+use Rattle.degree.specs.declared.call.Margin.{Margin}
+use Rattle.degree.specs.declared.call.Margin.the-variants.{Good as GoodMargin, Refused as RefusedMargin}
+
+-- ---- the degree: the fraction, and how many places of the map are written
+
+pub record Told : Type 0 where
+  pub degree : Frac
+  pub places : ℕ
+
+abbrev pub paper : Answered → Answer Told
+paper (GoodDegree n d k) = good (record { degree = n // d; places = k })
+paper (RefusedDegree r) = refused r
+
+unfoldable pub told : Answer Found → Answer Told
+told a = a >>= λ f. good (record { degree = f .degree; places = length (f .map) })
+
+-- a refusal on the call's side
+abbrev pub degreeRefused : ℕ → Answered
+degreeRefused n = RefusedDegree (onCall n)
+
+-- ---- the margin
+
+abbrev pub paperMargin : Margin → Answer Against
+paperMargin (GoodMargin m o) = good (record { margin = m; over = o })
+paperMargin (RefusedMargin r) = refused r
+
+abbrev pub marginRefused : ℕ → Margin
+marginRefused n = RefusedMargin (onCall n)
+
+-- a good answer: the margin of a degree against a threshold
+abbrev pub marginOf : Frac → Frac → Margin
+marginOf d t = GoodMargin (margin d t) (marginOver d t)
+
+-- "never beyond 3,486,784,401,000 either way"
+abbrev pub mostMargin : ℕ
+mostMargin = 3486784401000
