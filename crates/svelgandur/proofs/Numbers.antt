@@ -10,7 +10,8 @@ use Rattle.meaning.specs.declared.Side.the-variants.{Register, Requirement, Cal
 use Rattle.meaning.specs.declared.Refusal.{Refusal}
 use Rattle.meaning.specs.Refusal.{Answer, good, refused, at}
 use Rattle.register.specs.Reading.{Counts}
-use Rattle.svelgandur.specs.Numbers.{four, sideNumber, refusalNumbers, numbers, counts}
+use Rattle.member.specs.Call.{Said, yes, no}
+use Rattle.svelgandur.specs.Numbers.{four, sideNumber, refusalNumbers, numbers, counts, verdicts}
 
 -- the k-th of the four
 nth : (k : ℕ) {x y : List ℕ} → x ≡ y → getD x k 0 ≡ getD y k 0
@@ -46,3 +47,16 @@ readings-apart = answers-apart counts (λ a b e. same-counts (nth 1 e) (nth 2 e)
   where
     same-counts : {a b m n : ℕ} → a ≡ b → m ≡ n → _≡_ {A = Counts} (record { items = a; links = m }) (record { items = b; links = n })
     same-counts e f = cc
+
+pub verdicts-apart : (x y : Answer Said) → numbers verdicts x ≡ numbers verdicts y → x ≡ y
+verdicts-apart = answers-apart verdicts same-verdict (λ a. kind a)
+  where
+    same-verdict : (a b : Said) → verdicts a ≡ verdicts b → a ≡ b
+    same-verdict (yes m) (yes n) e = ap yes (nth 1 e)
+    same-verdict (yes m) no e = absurd (omega (arith, nth 0 e))
+    same-verdict no (yes n) e = absurd (omega (arith, nth 0 e))
+    same-verdict no no e = refl
+
+    kind : (a : Said) → getD (verdicts a) 0 0 ≡ 0 → ⊥
+    kind (yes n) e = omega arith
+    kind no e = omega arith

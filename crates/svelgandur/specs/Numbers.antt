@@ -14,6 +14,7 @@ use Rattle.meaning.specs.Requirement.{Requirement as RequirementTree}
 use Rattle.meaning.specs.Message.{Part}
 use Rattle.register.specs.Reading.{Counts}
 use Rattle.requirement.specs.declared.Place.{Place}
+use Rattle.member.specs.Call.{Said, yes, no}
 
 abbrev pub four : ℕ → ℕ → ℕ → ℕ → List ℕ
 four kind a b c = kind ∷ a ∷ b ∷ c ∷ []
@@ -49,3 +50,8 @@ written x = four 1 (nodes (x .0)) (length (x .1)) 0
 -- where an inner concept stands: 1, place, length, 0; without bytes it is refused: 0, 0, 0, 0
 abbrev pub placeNumbers : Place → List ℕ
 placeNumbers p = cond (eqb (p .len) 0) (four 0 0 0 0) (four 1 (p .start) (p .len) 0)
+
+-- a yes or no: yes is 1, places written, 0, 0; no is 2, 0, 0, 0
+abbrev pub verdicts : Said → List ℕ
+verdicts (yes n) = four 1 n 0 0
+verdicts no = four 2 0 0 0
