@@ -13,7 +13,8 @@ use Rattle.register.specs.Reading.{Counts}
 use Rattle.meaning.specs.Requirement.{Requirement as RequirementTree}
 use Rattle.meaning.specs.Message.{Part}
 use Rattle.meaning.specs.Tree.{nodes}
-use Rattle.svelgandur.specs.Numbers.{four, sideNumber, refusalNumbers, numbers, counts, written, inUse}
+use Rattle.svelgandur.specs.Numbers.{four, sideNumber, refusalNumbers, numbers, counts, written, inUse, verdicts}
+use Rattle.member.specs.Call.{Said, yes, no}
 
 -- the k-th of the four
 pub nth : (k : ℕ) {x y : List ℕ} → x ≡ y → getD x k 0 ≡ getD y k 0
@@ -73,3 +74,16 @@ requirements-apart x y e =
   where
     same-sizes : {a b m n : ℕ} → a ≡ b → m ≡ n → _≡_ {A = ℕ × ℕ} (a, m) (b, n)
     same-sizes e f = cc
+
+pub verdicts-apart : (x y : Answer Said) → numbers verdicts x ≡ numbers verdicts y → x ≡ y
+verdicts-apart = answers-apart verdicts same-verdict (λ a. kind a)
+  where
+    same-verdict : (a b : Said) → verdicts a ≡ verdicts b → a ≡ b
+    same-verdict (yes m) (yes n) e = ap yes (nth 1 e)
+    same-verdict (yes m) no e = absurd (omega (arith, nth 0 e))
+    same-verdict no (yes n) e = absurd (omega (arith, nth 0 e))
+    same-verdict no no e = refl
+
+    kind : (a : Said) → getD (verdicts a) 0 0 ≡ 0 → ⊥
+    kind (yes n) e = omega arith
+    kind no e = omega arith

@@ -14,6 +14,7 @@ use Rattle.meaning.specs.Requirement.{Requirement as RequirementTree}
 use Rattle.meaning.specs.Message.{Part}
 use Rattle.register.specs.Reading.{Counts}
 use Rattle.requirement.specs.declared.Place.{Place}
+use Rattle.member.specs.Call.{Said, yes, no}
 
 abbrev pub four : ℕ → ℕ → ℕ → ℕ → List ℕ
 four kind a b c = kind ∷ a ∷ b ∷ c ∷ []
@@ -57,3 +58,8 @@ inUse n = four 1 n 0 0
 -- what asks an edit to add its fact: any number but 0
 abbrev pub isAdding : ℕ → Bool
 isAdding n = isSession n
+
+-- a yes or no: yes is 1, places written, 0, 0; no is 2, 0, 0, 0
+abbrev pub verdicts : Said → List ℕ
+verdicts (yes n) = four 1 n 0 0
+verdicts no = four 2 0 0 0
