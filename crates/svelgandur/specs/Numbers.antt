@@ -14,6 +14,9 @@ use Rattle.meaning.specs.Requirement.{Requirement as RequirementTree}
 use Rattle.meaning.specs.Message.{Part}
 use Rattle.register.specs.Reading.{Counts}
 use Rattle.requirement.specs.declared.Place.{Place}
+use lib.IntN.{ℤ, pos, negsuc, natAbs}
+use Rattle.meaning.specs.Calls.{Against}
+use Rattle.degree.specs.Answers.{Told}
 
 abbrev pub four : ℕ → ℕ → ℕ → ℕ → List ℕ
 four kind a b c = kind ∷ a ∷ b ∷ c ∷ []
@@ -49,3 +52,15 @@ written x = four 1 (nodes (x .0)) (length (x .1)) 0
 -- where an inner concept stands: 1, place, length, 0; without bytes it is refused: 0, 0, 0, 0
 abbrev pub placeNumbers : Place → List ℕ
 placeNumbers p = cond (eqb (p .len) 0) (four 0 0 0 0) (four 1 (p .start) (p .len) 0)
+
+-- a degree: 1, numerator, denominator, places written
+abbrev pub degreeNumbers : Told → List ℕ
+degreeNumbers t = four 1 (t .degree .num) (t .degree .den) (t .places)
+
+-- a margin: 1, its magnitude, what it is over, 1 where it is below zero and else 0
+abbrev pub belowZero : ℤ → ℕ
+belowZero (pos n) = 0
+belowZero (negsuc n) = 1
+
+abbrev pub marginNumbers : Against → List ℕ
+marginNumbers a = four 1 (natAbs (a .margin)) (a .over) (belowZero (a .margin))

@@ -5,6 +5,7 @@ use register::Reading;
 use requirement::Message;
 
 mod answer;
+mod degrees;
 
 ghost use mathlib.Core.Path.{_≡_};
 ghost use Rattle.meaning.specs.Register.{readRegisterBy};
