@@ -285,5 +285,8 @@ module _ (image message : List ℕ) (item : ℕ) where
             within = (subst (λ (y : ℤ). natAbs y ≤ mostMargin) a (small .0), subst (λ (y : ℕ). y ≤ mostMargin) b (small .1));
           }
 
+      pub margin-within : (m : ℤ) (o : ℕ) → r ≡ GoodMargin m o → natAbs m ≤ mostMargin
+      margin-within m o e = margin-says (margin-good-exactly .0 (m, o, e)) m o e .within .0
+
     pub one-margin-result : (r s : Margin) → MarginPromise image message item p q r → MarginPromise image message item p q s → r ≡ s
     one-margin-result r s h k = paper-margin-one r s (h ∙ sym k)
