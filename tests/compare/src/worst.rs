@@ -46,8 +46,13 @@ fn node(names: u64, children: Vec<(u8, Node)>) -> Node {
 
 /// A chain under role 0 to the greatest depth, each node with some names.
 pub fn chain(names: impl Fn(usize) -> u64) -> Node {
-    let last = Node::leaf(names(MOST_DEPTH));
-    (0..MOST_DEPTH)
+    chain_to(MOST_DEPTH, names)
+}
+
+/// A chain whose last node stands at a depth of one's own choice.
+pub fn chain_to(deepest: usize, names: impl Fn(usize) -> u64) -> Node {
+    let last = Node::leaf(names(deepest));
+    (0..deepest)
         .rev()
         .fold(last, |below, depth| node(names(depth), vec![(0, below)]))
 }

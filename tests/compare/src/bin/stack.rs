@@ -5,7 +5,9 @@ use std::process::ExitCode;
 
 use compare::library;
 use compare::painted::Stack;
-use compare::worst::{all_linked, bushy, chain, comb, fans, sixteen_thresholds, triplets, wide};
+use compare::worst::{
+    all_linked, bushy, chain, chain_to, comb, fans, sixteen_thresholds, triplets, wide,
+};
 use second::gen::{any_pair_bytes, Rng};
 use second::register;
 use second::requirement::{self, Node};
@@ -35,6 +37,10 @@ fn inputs() -> Vec<Input> {
             roots.push(sixteen_thresholds(outer.clone(), inner));
         }
     }
+    // One deeper than is allowed, which a reader comes to see.
+    let too_deep = chain_to(17, |_| 0);
+    roots.push(sixteen_thresholds(chain(|_| 0), &too_deep));
+    roots.push(too_deep);
     let mut list = Vec::new();
     for root in &roots {
         let message = requirement::encode(root);
@@ -57,36 +63,45 @@ fn inputs() -> Vec<Input> {
 const ITEM: u64 = 0;
 
 /// Each call with what it does to one input.
-type Work = fn(&Input, &mut [u8], &mut [u64]);
+type Work = fn(&Input, &mut [u8], &mut [u64], &mut [u16]);
 
-const CALLS: [(&str, Work); 8] = [
-    ("read_register", |input, _, _| {
+const CALLS: [(&str, Work); 11] = [
+    ("read_register", |input, _, _, _| {
         library::read_register(&input.image, 0);
     }),
-    ("read_requirement", |input, _, _| {
+    ("read_requirement", |input, _, _, _| {
         library::read_requirement(&input.message);
     }),
-    ("inner_part", |input, _, _| {
+    ("inner_part", |input, _, _, _| {
         library::inner_part(&input.message, 15);
     }),
-    ("open", |_, buffer, _| {
+    ("degree", |input, _, _, map| {
+        library::degree(&input.image, &input.message, ITEM, map);
+    }),
+    ("margin", |input, _, _, _| {
+        library::margin(&input.image, &input.message, ITEM, 2, 3);
+    }),
+    ("member", |input, _, _, map| {
+        library::member(&input.image, &input.message, ITEM, map);
+    }),
+    ("open", |_, buffer, _, _| {
         library::open(buffer);
     }),
-    ("edit_name", |_, buffer, log| {
+    ("edit_name", |_, buffer, log, _| {
         library::edit_name(buffer, log, 0, 1, ITEM, 63);
     }),
-    ("edit_link", |_, buffer, log| {
+    ("edit_link", |_, buffer, log, _| {
         library::edit_link(buffer, log, 0, 0, [ITEM, 0, 0]);
         library::edit_link(buffer, log, 1, 1, [ITEM, 0, 0]);
     }),
-    ("undo", |_, buffer, log| {
+    ("undo", |_, buffer, log, _| {
         // The link of item 0 under role 0 to itself: taken away, and put back.
         log[0] = 2;
         library::undo(buffer, log, 1);
         log[0] = 3;
         library::undo(buffer, log, 1);
     }),
-    ("keep", |_, buffer, log| {
+    ("keep", |_, buffer, log, _| {
         library::keep(buffer, log, 64);
     }),
 ];
@@ -113,9 +128,10 @@ fn main() -> ExitCode {
                 })
                 .collect();
             let mut log = [0; 64];
+            let mut map = [0; 64];
             let used = stack.used(|| {
                 for (input, buffer) in &mut prepared {
-                    work(input, buffer, &mut log);
+                    work(input, buffer, &mut log, &mut map);
                 }
             });
             most = most.max(used.saturating_sub(nothing));
