@@ -5,7 +5,7 @@ use std::hint::black_box;
 use std::rc::Rc;
 
 use compare::library;
-use compare::worst::{all_linked, bushy, chain, comb, fans};
+use compare::worst::{all_linked, broom, bushy, chain, comb, fans};
 use second::gen::registers::register_of;
 use second::gen::{Palette, Rng};
 use second::register::{self, Register};
@@ -14,68 +14,47 @@ use second::requirement::{self, Node};
 use crate::{straight, Work};
 
 pub fn works() -> Vec<Work> {
+    let mut works = vec![boards()];
+    works.extend(costliest());
+    works.extend(growth());
+    works
+}
+
+/// One call for one item: the costliest pairs.
+fn costliest() -> Vec<Work> {
     let linked = all_linked(|item| item as u64 & 7);
     let steep = chain(|depth| depth as u64 & 7);
     let largest = fans();
-    let mut works = vec![
-        boards(),
-        one(
-            "linked",
-            "64 items all linked, a chain of depth 16",
-            &linked,
-            &steep,
-        ),
-        one(
-            "bushy",
-            "the largest image, 61 kept nodes",
-            &largest,
-            &bushy(),
-        ),
-        one(
-            "comb",
-            "the largest image, 61 kept nodes down to depth 16",
-            &largest,
-            &comb(),
-        ),
-        margin(
-            "margin",
-            "margin: the largest image, 61 kept nodes",
-            &largest,
-            &bushy(),
-        ),
+    let on_largest = "the largest image, 61 kept nodes";
+    vec![
+        one("linked", "64 items all linked, depth 16", &linked, &steep),
+        one("bushy", on_largest, &largest, &bushy()),
+        one("comb", "the same down to depth 16", &largest, &comb()),
+        one("broom", "the same, most at depth 16", &largest, &broom()),
+        margin("margin", on_largest, &largest, &bushy()),
+        margin("margin-broom", "most at depth 16", &largest, &broom()),
+    ]
+}
+
+/// More items, more links, more nodes, each by itself.
+fn growth() -> Vec<Work> {
+    const STEPS: [(&str, usize, usize, u8); 9] = [
+        ("items-128", 128, 1024, 10),
+        ("items-256", 256, 1024, 10),
+        ("items-512", 512, 1024, 10),
+        ("links-1024", 512, 1024, 10),
+        ("links-2048", 512, 2048, 10),
+        ("links-4096", 512, 4096, 10),
+        ("nodes-16", 512, 4096, 5),
+        ("nodes-31", 512, 4096, 10),
+        ("nodes-61", 512, 4096, 20),
     ];
-    for (name, items) in [("items-128", 128), ("items-256", 256), ("items-512", 512)] {
-        let register = spread(items, 1024);
-        works.push(one(
-            name,
-            "growth: 1,024 links, 31 nodes",
-            &register,
-            &branches(10),
-        ));
-    }
-    for (name, links) in [
-        ("links-1024", 1024),
-        ("links-2048", 2048),
-        ("links-4096", 4096),
-    ] {
-        let register = spread(512, links);
-        works.push(one(
-            name,
-            "growth: 512 items, 31 nodes",
-            &register,
-            &branches(10),
-        ));
-    }
-    for (name, count) in [("nodes-16", 5), ("nodes-31", 10), ("nodes-61", 20)] {
-        let register = spread(512, 4096);
-        works.push(one(
-            name,
-            "growth: 512 items, 4,096 links",
-            &register,
-            &branches(count),
-        ));
-    }
-    works
+    let step = |(name, items, links, count)| {
+        let nodes = 1 + 3 * u32::from(count);
+        let what = format!("{items} items, {links} links, {nodes} nodes");
+        one(name, &what, &spread(items, links), &branches(count))
+    };
+    STEPS.into_iter().map(step).collect()
 }
 
 /// Items with links under a few roles.
