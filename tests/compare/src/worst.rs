@@ -100,8 +100,17 @@ pub fn broom() -> Node {
 /// 64 written nodes, of which the deepest is read last: on the way down to it
 /// leaves stand before each child that goes on.
 pub fn late() -> Node {
-    (0..MOST_DEPTH).rev().fold(Node::leaf(0), |below, depth| {
-        let before = if depth < MOST_DEPTH - 1 { 3 } else { 2 };
+    late_to(MOST_DEPTH)
+}
+
+/// The same with the last node at a depth of one's own choice.
+pub fn late_to(deepest: usize) -> Node {
+    (0..deepest).rev().fold(Node::leaf(0), |below, depth| {
+        let before = match depth {
+            0..=14 => 3,
+            15 => 2,
+            _ => 0,
+        };
         let mut children: Vec<(u8, Node)> = (0..before).map(|_| (1, Node::leaf(0))).collect();
         children.push((0, below));
         node(0, children)

@@ -7,7 +7,7 @@ use std::process::ExitCode;
 use compare::library;
 use compare::painted::Stack;
 use compare::worst::{
-    all_linked, broom, bushy, chain, chain_to, comb, fans, late, sixteen_on_the_last,
+    all_linked, broom, bushy, chain, chain_to, comb, fans, late, late_to, sixteen_on_the_last,
     sixteen_thresholds, triplets, wide,
 };
 use second::gen::{any_pair_bytes, Rng};
@@ -46,9 +46,11 @@ fn inputs() -> Vec<Input> {
         }
     }
     // One deeper than is allowed, which a reader comes to see.
-    let too_deep = chain_to(17, |_| 0);
-    roots.push(sixteen_thresholds(chain(|_| 0), &too_deep));
-    roots.push(too_deep);
+    for too_deep in [chain_to(17, |_| 0), late_to(17)] {
+        roots.push(sixteen_on_the_last(chain(|_| 0), &too_deep));
+        roots.push(sixteen_on_the_last(late(), &too_deep));
+        roots.push(too_deep);
+    }
     let mut list = Vec::new();
     for root in &roots {
         let message = requirement::encode(root);
