@@ -1,6 +1,7 @@
 /*
  * Svelgandur's calls from C. Link the static library libsvelgandur.a beside the
- * program; of other libraries it needs memset, memcpy and memmove at most.
+ * program; of other libraries it needs the C library's memset, memcpy and
+ * memmove at most.
  *
  * What a caller hands over
  *   A pointer and a length: that many bytes (or 16-bit or 64-bit numbers, each
@@ -25,6 +26,7 @@
  *              place: the byte place, counted from that side's first byte; 0 on
  *              the side of the call.
  *            SVELGANDUR_GOOD (1): what each call says below.
+ *            SVELGANDUR_NO (2): svelgandur_member alone.
  *
  *   After a refusal all other lent memory is as it was.
  *
@@ -56,9 +58,9 @@
  *   the register, then the requirement, each from left to right, and then tests
  *   its own numbers in the order in which the call lists them below.
  *
- * No call keeps anything after it returns, takes memory of its own beyond 64 KiB
- * of the stack, or writes to memory that it was not lent, so calls on different
- * memory may run at the same time.
+ * No call keeps anything after it returns, takes memory of its own other than
+ * the stack (96 KiB of it at most), or writes to memory that it was not lent, so
+ * calls on different memory may run at the same time.
  */
 #ifndef SVELGANDUR_H
 #define SVELGANDUR_H
@@ -73,11 +75,16 @@ extern "C" {
 /* answer[0] */
 #define SVELGANDUR_REFUSED 0
 #define SVELGANDUR_GOOD 1
+#define SVELGANDUR_NO 2
 
 /* answer[1] of a refusal */
 #define SVELGANDUR_REGISTER 0
 #define SVELGANDUR_REQUIREMENT 1
 #define SVELGANDUR_CALL 2
+
+/* In the map of a degree, in place of an item. */
+#define SVELGANDUR_DROPPED 65534
+#define SVELGANDUR_UNMAPPED 65535
 
 /* ---- reading ---- */
 
@@ -117,6 +124,68 @@ void svelgandur_read_requirement(const uint8_t *message, size_t message_length,
 void svelgandur_inner_part(const uint8_t *message, size_t message_length,
                            uint64_t k, uint64_t answer[4]);
 
+/* ---- one question: a register, a requirement, an item ---- */
+
+/*
+ * The degree of an item in a plain requirement, and the map that shows it.
+ *   image     a register image, all of the bytes. In a session: the first
+ *             3 + length bytes of the buffer.
+ *   message   a requirement message without thresholds.
+ *   item      from 0.
+ *   map       one number for each written node in reading order; map_length is
+ *             how many numbers fit. 64 are enough for every requirement.
+ *   answer    good: 1, numerator, denominator (in lowest terms), how many places
+ *             of the map were written: as many as nodes are written.
+ *             refused, on the register's side: 1 to 8; on the requirement's
+ *             side: 1 to 3, 7 to 14; on the call's side: 15, 16.
+ * After a good answer each written place of the map holds the item that the node
+ * goes to, or SVELGANDUR_DROPPED for a dropped node and all below it, or else
+ * SVELGANDUR_UNMAPPED where the node goes nowhere. The places behind keep their
+ * contents. Image and message are only read.
+ */
+void svelgandur_degree(const uint8_t *image, size_t image_length,
+                       const uint8_t *message, size_t message_length,
+                       uint64_t item, uint16_t *map, size_t map_length,
+                       uint64_t answer[4]);
+
+/*
+ * The margin of that degree N/D against p/q: N q - p D over D q.
+ *   image, message, item   as for the degree.
+ *   p, q      q from 1 to 1,000, p at most q, no common factor above 1.
+ *   answer    good: 1, the margin without its sign, what it stands over, and
+ *             1 where it is below zero, 0 where it is not. The fraction is not
+ *             brought to lowest terms. The margin is at most 3,486,784,401,000
+ *             either way.
+ *             refused, on the register's side: 1 to 8; on the requirement's
+ *             side: 1 to 3, 7 to 14; on the call's side: 15, 13.
+ * Image and message are only read.
+ */
+void svelgandur_margin(const uint8_t *image, size_t image_length,
+                       const uint8_t *message, size_t message_length,
+                       uint64_t item, uint64_t p, uint64_t q,
+                       uint64_t answer[4]);
+
+/*
+ * Whether an item meets a requirement, with or without thresholds, and the map
+ * that shows a yes.
+ *   image, item, map       as for the degree.
+ *   message   a requirement message.
+ *   answer    yes: SVELGANDUR_GOOD (1), how many places of the map were written
+ *             (as many as nodes are written), 0, 0.
+ *             no: SVELGANDUR_NO (2), 0, 0, 0.
+ *             refused, on the register's side: 1 to 8; on the requirement's
+ *             side: 1 to 3, 7 to 14; on the call's side: 15, 16. (16 comes before
+ *             the yes or no is known. 11 and 14 are for inner concepts only: the
+ *             outer tree may have any size.)
+ * After a yes each written place of the map holds the item that the node goes
+ * to, and the places behind keep their contents. A no writes nothing to the map.
+ * Image and message are only read.
+ */
+void svelgandur_member(const uint8_t *image, size_t image_length,
+                       const uint8_t *message, size_t message_length,
+                       uint64_t item, uint16_t *map, size_t map_length,
+                       uint64_t answer[4]);
+
 /*
  * ---- a session of trial edits ----
  *
@@ -128,6 +197,9 @@ void svelgandur_inner_part(const uint8_t *message, size_t message_length,
  *           the count have no bearing on any answer.
  * count     how many steps are in use. The caller holds it between calls: it is
  *           0 after opening, and afterwards what the last good answer said.
+ *
+ * A degree, a margin or a yes or no in a session is asked of the first
+ * 3 + length bytes of the buffer.
  *
  * A step as a number, lowest first:
  *   bit 0         1 where the fact was there before the edit, else 0

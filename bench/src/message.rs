@@ -5,38 +5,18 @@ use std::hint::black_box;
 use std::rc::Rc;
 
 use compare::library;
-use second::requirement::{encode, read, Comparison, Node, Threshold};
+use compare::sheet::{asking, threshold};
+use compare::worst::wide;
+use second::requirement::{encode, read, Comparison, Node};
 
 use crate::Work;
 
-fn leaf() -> Node {
-    Node {
-        names: 0,
-        thresholds: vec![],
-        children: vec![],
-    }
-}
-
-/// 64 nodes, so that a tree takes 703 bytes: the root and 63 equal children.
-fn wide() -> Node {
-    Node {
-        children: (0..63).map(|_| (0, leaf())).collect(),
-        ..leaf()
-    }
-}
-
 /// The longest message: 64 nodes, 16 thresholds, 64 nodes in each inner concept.
 pub fn longest() -> Work {
-    let threshold = || Threshold {
-        comparison: Comparison::AtLeast,
-        p: 1,
-        q: 1,
-        inner: wide(),
-        start: 0,
-        len: 0,
-    };
     let mut root = wide();
-    root.thresholds = (0..16).map(|_| threshold()).collect();
+    root.thresholds = (0..16)
+        .map(|_| threshold(Comparison::AtLeast, 1, 1, wide()))
+        .collect();
     reading("message", "the longest message", &root)
 }
 
@@ -48,20 +28,13 @@ pub fn costly() -> Work {
             0 => vec![],
             _ => vec![(0, halves(levels - 1)), (0, halves(levels - 1))],
         };
-        Node { children, ..leaf() }
+        Node {
+            children,
+            ..Node::leaf(0)
+        }
     }
-    let threshold = || Threshold {
-        comparison: Comparison::AtLeast,
-        p: 1,
-        q: 1,
-        inner: halves(5),
-        start: 0,
-        len: 0,
-    };
-    let root = Node {
-        thresholds: (0..16).map(|_| threshold()).collect(),
-        ..leaf()
-    };
+    let thresholds = (0..16).map(|_| threshold(Comparison::AtLeast, 1, 1, halves(5)));
+    let root = asking(thresholds.collect());
     reading("reduction", "16 inner concepts of equal halves", &root)
 }
 
@@ -70,8 +43,10 @@ fn reading(name: &'static str, what: &str, root: &Node) -> Work {
     let same_message = message.clone();
     Work {
         name,
-        what: what.to_string(),
-        bytes: message.len(),
+        what: format!("{what}, {} bytes", message.len()),
+        other: "second program",
+        // Each looks at its own answer.
+        same: Box::new(|| {}),
         library: Box::new(move || {
             let answer = black_box(library::read_requirement(black_box(&message)));
             assert_eq!(answer[0], 1);

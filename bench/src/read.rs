@@ -32,8 +32,13 @@ fn reading(name: &'static str, items: usize, links: usize) -> Work {
     let same_image = image.clone();
     Work {
         name,
-        what: format!("an image of {items} items and {links} links"),
-        bytes: image.len(),
+        what: format!(
+            "an image of {items} items and {links} links, {} bytes",
+            image.len()
+        ),
+        other: "second program",
+        // Each looks at its own answer.
+        same: Box::new(|| {}),
         library: Box::new(move || {
             let answer = black_box(library::read_register(black_box(&image), 0));
             assert_eq!(answer, [1, items as u64, links as u64, 0]);

@@ -137,7 +137,7 @@ static int as_it_was(struct lent lent) {
 struct call {
     const char *name;
     uint32_t sides[3];
-    uint64_t good, refused;
+    uint64_t good, no, refused;
 };
 
 #define N(number) (UINT32_C(1) << (number))
@@ -150,6 +150,9 @@ enum {
     READ_REGISTER,
     READ_REQUIREMENT,
     INNER_PART,
+    DEGREE,
+    MARGIN,
+    MEMBER,
     OPEN,
     EDIT_NAME,
     EDIT_LINK,
@@ -159,14 +162,17 @@ enum {
 };
 
 static struct call calls[CALLS] = {
-    {"read_register", {REGISTER, 0, 0}, 0, 0},
-    {"read_requirement", {0, REQUIREMENT, 0}, 0, 0},
-    {"inner_part", {N(0), 0, 0}, 0, 0},
-    {"open", {REGISTER, 0, 0}, 0, 0},
-    {"edit_name", {REGISTER, 0, N(15) | N(17) | N(18)}, 0, 0},
-    {"edit_link", {REGISTER, 0, N(7) | N(15) | N(17) | N(18) | N(20)}, 0, 0},
-    {"undo", {REGISTER, 0, N(17) | N(19) | N(20)}, 0, 0},
-    {"keep", {REGISTER, 0, N(17)}, 0, 0},
+    {"read_register", {REGISTER, 0, 0}, 0, 0, 0},
+    {"read_requirement", {0, REQUIREMENT, 0}, 0, 0, 0},
+    {"inner_part", {N(0), 0, 0}, 0, 0, 0},
+    {"degree", {REGISTER, REQUIREMENT, N(15) | N(16)}, 0, 0, 0},
+    {"margin", {REGISTER, REQUIREMENT, N(13) | N(15)}, 0, 0, 0},
+    {"member", {REGISTER, REQUIREMENT, N(15) | N(16)}, 0, 0, 0},
+    {"open", {REGISTER, 0, 0}, 0, 0, 0},
+    {"edit_name", {REGISTER, 0, N(15) | N(17) | N(18)}, 0, 0, 0},
+    {"edit_link", {REGISTER, 0, N(7) | N(15) | N(17) | N(18) | N(20)}, 0, 0, 0},
+    {"undo", {REGISTER, 0, N(17) | N(19) | N(20)}, 0, 0, 0},
+    {"keep", {REGISTER, 0, N(17)}, 0, 0, 0},
 };
 
 /* The four numbers, and one on either side of them. */
@@ -201,6 +207,12 @@ static int judged(int which, const struct answer *answer, size_t image,
         require(numbers[3] <= ends[numbers[1]], "a place outside");
         call->refused++;
         return 0;
+    }
+    if (numbers[0] == SVELGANDUR_NO) {
+        require(which == MEMBER, "a no that is not the call's own");
+        require(!numbers[1] && !numbers[2] && !numbers[3], "a no with numbers");
+        call->no++;
+        return 1;
     }
     require(numbers[0] == SVELGANDUR_GOOD, "no such kind");
     call->good++;
@@ -258,11 +270,18 @@ static void make_image(void) {
     mend_head(image, image_length);
 }
 
+/* How many items the image says that it has, where it says so. */
+static uint64_t items_said(void) {
+    uint64_t said = image_length < 5 ? 0 : image[3] * 256u + image[4];
+    return said ? said : 1;
+}
+
+static const unsigned char fractions[][2] = {{0, 1}, {1, 1}, {1, 2},
+                                             {1, 3}, {2, 3}, {3, 4}};
+
 static void make_node(int depth, int *nodes, int *thresholds);
 
 static void make_threshold(int *thresholds) {
-    static const unsigned char fractions[][2] = {
-        {0, 1}, {1, 1}, {1, 2}, {1, 3}, {2, 3}, {3, 4}};
     const unsigned char *fraction = fractions[below(6)];
     int inner_nodes = 1 + (int)below(8), none = 0;
     size_t length_at;
@@ -358,6 +377,66 @@ static void reading(void) {
     take_back(bytes);
 }
 
+/* After a good answer so many places hold an item, or a number that stands for
+ * none where there may be one; the others are as they were. */
+static void judge_map(struct lent map, uint64_t written, int may_be_none) {
+    size_t place;
+    require(written * 2 <= map.bytes, "more places than there are");
+    for (place = 0; place < map.bytes / 2; place++) {
+        uint16_t now, then;
+        memcpy(&now, map.at + 2 * place, 2);
+        memcpy(&then, map.before + 2 * place, 2);
+        if (place >= written)
+            require(now == then, "a place behind the nodes was written");
+        else
+            require(now < 512 || (may_be_none && now >= SVELGANDUR_DROPPED),
+                    "no item in the map");
+    }
+}
+
+static void questions(void) {
+    static uint16_t places[80];
+    struct lent img = lend(image, image_length, 1);
+    struct lent msg = lend(message, message_length, 1);
+    struct lent map = lend(places, 2 * (below(4) ? 64 : below(80)), 0);
+    uint16_t *map_at = (uint16_t *)(void *)map.at;
+    uint64_t item = number(items_said());
+    const unsigned char *fraction = fractions[below(6)];
+    struct answer answer = fresh();
+    svelgandur_degree(img.at, img.bytes, msg.at, msg.bytes, item, map_at,
+                      map.bytes / 2, answer.numbers);
+    if (judged(DEGREE, &answer, img.bytes, msg.bytes)) {
+        require(answer.numbers[1] <= answer.numbers[2] && answer.numbers[2],
+                "a degree above 1");
+        judge_map(map, answer.numbers[3], 1);
+    } else
+        require(as_it_was(map), "a refused degree wrote to the map");
+    memcpy(map.at, map.before, map.bytes);
+
+    answer = fresh();
+    svelgandur_member(img.at, img.bytes, msg.at, msg.bytes, item, map_at,
+                      map.bytes / 2, answer.numbers);
+    if (judged(MEMBER, &answer, img.bytes, msg.bytes) &&
+        answer.numbers[0] == SVELGANDUR_GOOD)
+        judge_map(map, answer.numbers[1], 0);
+    else
+        require(as_it_was(map), "a no or a refusal wrote to the map");
+
+    answer = fresh();
+    svelgandur_margin(img.at, img.bytes, msg.at, msg.bytes, item,
+                      below(4) ? fraction[0] : number(4),
+                      below(4) ? fraction[1] : number(5), answer.numbers);
+    if (judged(MARGIN, &answer, img.bytes, msg.bytes))
+        require(answer.numbers[1] <= answer.numbers[2] &&
+                    answer.numbers[2] <= UINT64_C(3486784401000) &&
+                    answer.numbers[3] <= 1,
+                "a margin out of range");
+    require(as_it_was(img) && as_it_was(msg), "an image or message was written");
+    take_back(map);
+    take_back(msg);
+    take_back(img);
+}
+
 /* ---- a session ---- */
 
 /* After an edit or an undo the buffer begins with an image, and all that was
@@ -391,11 +470,12 @@ static void edit_or_undo(struct lent buffer, struct lent log, uint64_t *count) {
                         answer.numbers);
     else if (which == EDIT_NAME)
         svelgandur_edit_name(buffer.at, buffer.bytes, log_at, steps, handed,
-                             below(2), number(4), number(64), answer.numbers);
+                             below(2), number(items_said()), number(64),
+                             answer.numbers);
     else
         svelgandur_edit_link(buffer.at, buffer.bytes, log_at, steps, handed,
-                             below(2), number(4), number(4), number(4),
-                             answer.numbers);
+                             below(2), number(items_said()), number(4),
+                             number(items_said()), answer.numbers);
     good = judged(which, &answer, buffer.bytes, 0);
     judge_buffer(buffer, good);
     for (place = 0; place < steps; place++)
@@ -464,14 +544,16 @@ int main(int words, char **word_list) {
         if (!below(3))
             damage(message, &message_length);
         reading();
+        questions();
         session();
     }
     for (which = 0; which < CALLS; which++) {
         const struct call *call = &calls[which];
-        uint64_t made = call->good + call->refused;
+        uint64_t made = call->good + call->no + call->refused;
         total += made;
-        printf("boundary: %s: %" PRIu64 " good, %" PRIu64 " refused\n",
-               call->name, call->good, call->refused);
+        printf("boundary: %s: %" PRIu64 " good, %" PRIu64 " no, %" PRIu64
+               " refused\n",
+               call->name, call->good, call->no, call->refused);
         require(call->good && call->refused, "a call with one answer only");
     }
     printf("boundary: %" PRIu64 " calls\n", total);

@@ -42,7 +42,7 @@ use Rattle.degree.specs.Asked.{Rows, readBoth, BothGood, BothOutcome, Bo
 use Rattle.degree.specs.Answers.{Told, paper, told, degreeRefused, paperMargin, marginOf, marginRefused}
 use Rattle.degree.proofs.Entry.{case-of, scale-small, graded-answer}
 
-lawful-bounds : (p q : ℕ) → T (lawful p q) → (p ≤ q) × (q ≤ mostQ)
+pub lawful-bounds : (p q : ℕ) → T (lawful p q) → (p ≤ q) × (q ≤ mostQ)
 lawful-bounds p q h =
     let c = and-both (leb 1 q && leb q mostQ && leb p q) (eqb (gcd p q) 1) h in
     let d = and-both (leb 1 q && leb q mostQ) (leb p q) (c .0) in
@@ -62,16 +62,21 @@ both-first next image message = go (readRegister image) (readPlain message)
     go (good g) (refused f) = refl
     go (refused f) b = refl
 
--- what is tested and answered then
+-- what is tested and answered after 15, and with it
+abbrev pub degreeThen : ℕ → ℕ → Register → Concept → Answer Found
+degreeThen item room g t =
+    refuseIf (ltb room (nodes t)) (onCall 16) >> good (record { degree = answered (judged g) t item; map = degreeMap (judged g) t item })
+
+abbrev pub marginThen : ℕ → ℕ → ℕ → Register → Concept → Answer Against
+marginThen item p q g t =
+    let d = answered (judged g) t item in
+    refuseIf (not (lawful p q)) (onCall 13) >> good (record { margin = margin d (p // q); over = marginOver d (p // q) })
+
 abbrev degreeNext : ℕ → ℕ → Register → Concept → Answer Found
-degreeNext item room g t =
-    inRange g item
-    >> (refuseIf (ltb room (nodes t)) (onCall 16) >> good (record { degree = answered (judged g) t item; map = degreeMap (judged g) t item }))
+degreeNext item room g t = inRange g item >> degreeThen item room g t
 
 abbrev marginNext : ℕ → ℕ → ℕ → Register → Concept → Answer Against
-marginNext item p q g t =
-    let d = answered (judged g) t item in
-    inRange g item >> (refuseIf (not (lawful p q)) (onCall 13) >> good (record { margin = margin d (p // q); over = marginOver d (p // q) }))
+marginNext item p q g t = inRange g item >> marginThen item p q g t
 
 module _ (image message : List ℕ) (item : ℕ) where
   -- the answer and the lent map afterwards

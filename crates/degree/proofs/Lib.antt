@@ -11,3 +11,5 @@ pub mod Plain
 pub mod Both
 pub mod Against
 pub mod Calls
+pub mod Table
+pub mod Promise

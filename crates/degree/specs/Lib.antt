@@ -2,3 +2,4 @@ pub mod Case
 pub mod Given
 pub mod Asked
 pub mod Answers
+pub mod Table

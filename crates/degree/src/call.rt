@@ -123,7 +123,7 @@ pub fn margin_of(image: &[u8], message: &[u8], item: usize, p: usize, q: usize) 
             links,
             nodes: _,
         } => {
-            if items <= item {
+            if item >= items {
                 return margin_refused(15);
             }
             if !requirement::allowed(p, q) {

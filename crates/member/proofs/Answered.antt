@@ -112,17 +112,17 @@ module _ (image message : List ℕ) (item : ℕ) (map : List ℕ) where
       abbrev few : ℕ
       few = length (i .register .names)
 
-      pub no-item : (r : Verdict) → r ≡ refusedCall 15 → items ≤ item → Ends map r
+      pub no-item : (r : Verdict) (number : ℕ) → r ≡ refusedCall number → number ≡ 15 → items ≤ item → Ends map r
       unfolding memberCall
-      no-item r e l =
-          ends-refused (onCall 15) r e
+      no-item r number e fifteen l =
+          ends-refused (onCall 15) r (e ∙ ap refusedCall fifteen)
           (took (readRegister image) _ (i .register) (i .read) ∙ took (readRequirement message) _ (q, u .places) (u .wanted)
           ∙ stop (leb few item) _ _ (at-most few item (omega (arith, i .items-are))))
 
-      pub no-room : (r : Verdict) → r ≡ refusedCall 16 → item < items → length map < n → Ends map r
+      pub no-room : (r : Verdict) (number : ℕ) → r ≡ refusedCall number → number ≡ 16 → item < items → length map < n → Ends map r
       unfolding memberCall
-      no-room r e l s =
-          ends-refused (onCall 16) r e
+      no-room r number e sixteen l s =
+          ends-refused (onCall 16) r (e ∙ ap refusedCall sixteen)
           (took (readRegister image) _ (i .register) (i .read) ∙ took (readRequirement message) _ (q, u .places) (u .wanted)
           ∙ pass (leb few item) _ _ (not-le few item (omega (arith, i .items-are)))
           ∙ stop (ltb (length map) (nodes q)) _ _ (below (length map) (nodes q) (omega (arith, u .nodes-are))))

@@ -107,9 +107,12 @@ row-same r e = record { size = r .size; done = λ x l. r .done x l ∙ e x l; re
 
 -- ---- the table, row by row
 
+pub stands-there : (s : List ℕ) (p there : ℕ) (h : Threshold) → p ≡ there → StandsAt s p h → StandsAt s there h
+stands-there s p there h e c = subst (λ (z : ℕ). StandsAt s z h) e c
+
 module _ (items : ℕ) (G : Graph ℕ) (hs : List Threshold) where
-  pub tabled-none : (table : List ℕ) → Tabled items G hs 0 table
-  tabled-none table k x l m = absurd (omega arith)
+  pub tabled-none : (n : ℕ) (table : List ℕ) → n ≤ 0 → Tabled items G hs n table
+  tabled-none n table z k x l m = absurd (omega arith)
 
   pub tabled-more : (n : ℕ) (old new : List ℕ) → Tabled items G hs n old → Rowed (λ x. passes G (getD hs n noThreshold) x) n old new items
       → Tabled items G hs (n + 1) new

@@ -13,7 +13,12 @@ use Rattle.register.specs.Reading.{Counts}
 use Rattle.meaning.specs.Requirement.{Requirement as RequirementTree}
 use Rattle.meaning.specs.Message.{Part}
 use Rattle.meaning.specs.Tree.{nodes}
-use Rattle.svelgandur.specs.Numbers.{four, sideNumber, refusalNumbers, numbers, counts, written, inUse}
+use Rattle.svelgandur.specs.Numbers.{four, sideNumber, refusalNumbers, numbers, counts, written, inUse, verdicts, degreeNumbers, belowZero, marginNumbers}
+use Rattle.member.specs.Call.{Said, yes, no}
+use lib.IntN.{ℤ, pos, negsuc, natAbs}
+use Rattle.meaning.specs.Fraction.{_//_}
+use Rattle.meaning.specs.Calls.{Against}
+use Rattle.degree.specs.Answers.{Told}
 
 -- the k-th of the four
 pub nth : (k : ℕ) {x y : List ℕ} → x ≡ y → getD x k 0 ≡ getD y k 0
@@ -73,3 +78,35 @@ requirements-apart x y e =
   where
     same-sizes : {a b m n : ℕ} → a ≡ b → m ≡ n → _≡_ {A = ℕ × ℕ} (a, m) (b, n)
     same-sizes e f = cc
+
+pub verdicts-apart : (x y : Answer Said) → numbers verdicts x ≡ numbers verdicts y → x ≡ y
+verdicts-apart = answers-apart verdicts same-verdict (λ a. kind a)
+  where
+    same-verdict : (a b : Said) → verdicts a ≡ verdicts b → a ≡ b
+    same-verdict (yes m) (yes n) e = ap yes (nth 1 e)
+    same-verdict (yes m) no e = absurd (omega (arith, nth 0 e))
+    same-verdict no (yes n) e = absurd (omega (arith, nth 0 e))
+    same-verdict no no e = refl
+
+    kind : (a : Said) → getD (verdicts a) 0 0 ≡ 0 → ⊥
+    kind (yes n) e = omega arith
+    kind no e = omega arith
+
+pub degrees-apart : (x y : Answer Told) → numbers degreeNumbers x ≡ numbers degreeNumbers y → x ≡ y
+degrees-apart = answers-apart degreeNumbers (λ a b e. same-told (nth 1 e) (nth 2 e) (nth 3 e)) (λ a e. omega arith)
+  where
+    same-told : {a b m n j k : ℕ} → a ≡ b → m ≡ n → j ≡ k → _≡_ {A = Told} (record { degree = a // m; places = j }) (record { degree = b // n; places = k })
+    same-told d e f = cc
+
+-- magnitude and sign tell margins apart
+signs-apart : (y z : ℤ) → natAbs y ≡ natAbs z → belowZero y ≡ belowZero z → y ≡ z
+signs-apart (pos m) (pos n) d e = ap pos d
+signs-apart (pos m) (negsuc n) d e = absurd (omega arith)
+signs-apart (negsuc m) (pos n) d e = absurd (omega arith)
+signs-apart (negsuc m) (negsuc n) d e = let z : m ≡ n = omega arith in ap negsuc z
+
+pub margins-apart : (x y : Answer Against) → numbers marginNumbers x ≡ numbers marginNumbers y → x ≡ y
+margins-apart = answers-apart marginNumbers (λ a b e. same-against (signs-apart (a .margin) (b .margin) (nth 1 e) (nth 3 e)) (nth 2 e)) (λ a e. omega arith)
+  where
+    same-against : {y z : ℤ} {m n : ℕ} → y ≡ z → m ≡ n → _≡_ {A = Against} (record { margin = y; over = m }) (record { margin = z; over = n })
+    same-against d e = cc

@@ -14,6 +14,10 @@ use Rattle.meaning.specs.Requirement.{Requirement as RequirementTree}
 use Rattle.meaning.specs.Message.{Part}
 use Rattle.register.specs.Reading.{Counts}
 use Rattle.requirement.specs.declared.Place.{Place}
+use Rattle.member.specs.Call.{Said, yes, no}
+use lib.IntN.{ℤ, pos, negsuc, natAbs}
+use Rattle.meaning.specs.Calls.{Against}
+use Rattle.degree.specs.Answers.{Told}
 
 abbrev pub four : ℕ → ℕ → ℕ → ℕ → List ℕ
 four kind a b c = kind ∷ a ∷ b ∷ c ∷ []
@@ -57,3 +61,20 @@ inUse n = four 1 n 0 0
 -- what asks an edit to add its fact: any number but 0
 abbrev pub isAdding : ℕ → Bool
 isAdding n = isSession n
+
+-- a yes or no: yes is 1, places written, 0, 0; no is 2, 0, 0, 0
+abbrev pub verdicts : Said → List ℕ
+verdicts (yes n) = four 1 n 0 0
+verdicts no = four 2 0 0 0
+
+-- a degree: 1, numerator, denominator, places written
+abbrev pub degreeNumbers : Told → List ℕ
+degreeNumbers t = four 1 (t .degree .num) (t .degree .den) (t .places)
+
+-- a margin: 1, its magnitude, what it is over, 1 where it is below zero and else 0
+abbrev pub belowZero : ℤ → ℕ
+belowZero (pos n) = 0
+belowZero (negsuc n) = 1
+
+abbrev pub marginNumbers : Against → List ℕ
+marginNumbers a = four 1 (natAbs (a .margin)) (a .over) (belowZero (a .margin))

@@ -6,6 +6,8 @@ use requirement::Message;
 
 mod answer;
 mod trial;
+pub mod yes_no;
+mod degrees;
 
 ghost use mathlib.Core.Path.{_≡_};
 ghost use Rattle.meaning.specs.Register.{readRegisterBy};

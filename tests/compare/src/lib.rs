@@ -12,12 +12,16 @@
 //! | `registers` | reading register images |
 //! | `requirements` | reading requirement messages, and their inner parts |
 //! | `worst` | the costliest registers and requirements |
+//! | `degrees` | the degree of an item, its map and its margin |
+//! | `members` | the yes or no for an item, and its map |
 //! | `steps` | a step of a session as a number of the log |
 //! | `sessions` | open, edit, undo and keep |
 
+pub mod degrees;
 pub mod fence;
 pub mod header;
 pub mod library;
+pub mod members;
 pub mod painted;
 pub mod part;
 pub mod registers;
@@ -31,4 +35,10 @@ pub mod worst;
 use part::Part;
 
 /// A further part is a module of its own and a line here.
-pub const PARTS: [Part; 3] = [registers::PART, requirements::PART, sessions::PART];
+pub const PARTS: [Part; 5] = [
+    registers::PART,
+    requirements::PART,
+    degrees::PART,
+    members::PART,
+    sessions::PART,
+];

@@ -5,13 +5,22 @@
 pub type Answer = [u64; 4];
 
 /// The declarations of the header, to hold it to what is called here.
-pub const DECLARATIONS: [&str; 8] = [
+pub const DECLARATIONS: [&str; 11] = [
     "void svelgandur_read_register(\
     const uint8_t *image, size_t image_length, uint64_t session, uint64_t answer[4])",
     "void svelgandur_read_requirement(\
     const uint8_t *message, size_t message_length, uint64_t answer[4])",
     "void svelgandur_inner_part(\
     const uint8_t *message, size_t message_length, uint64_t k, uint64_t answer[4])",
+    "void svelgandur_degree(\
+    const uint8_t *image, size_t image_length, const uint8_t *message, size_t message_length, \
+    uint64_t item, uint16_t *map, size_t map_length, uint64_t answer[4])",
+    "void svelgandur_margin(\
+    const uint8_t *image, size_t image_length, const uint8_t *message, size_t message_length, \
+    uint64_t item, uint64_t p, uint64_t q, uint64_t answer[4])",
+    "void svelgandur_member(\
+    const uint8_t *image, size_t image_length, const uint8_t *message, size_t message_length, \
+    uint64_t item, uint16_t *map, size_t map_length, uint64_t answer[4])",
     "void svelgandur_open(\
     uint8_t *buffer, size_t buffer_length, uint64_t answer[4])",
     "void svelgandur_edit_name(\
@@ -32,6 +41,36 @@ extern "C" {
     fn svelgandur_read_register(image: *const u8, length: usize, session: u64, answer: *mut u64);
     fn svelgandur_read_requirement(message: *const u8, length: usize, answer: *mut u64);
     fn svelgandur_inner_part(message: *const u8, length: usize, k: u64, answer: *mut u64);
+    fn svelgandur_degree(
+        image: *const u8,
+        image_length: usize,
+        message: *const u8,
+        message_length: usize,
+        item: u64,
+        map: *mut u16,
+        map_length: usize,
+        answer: *mut u64,
+    );
+    fn svelgandur_margin(
+        image: *const u8,
+        image_length: usize,
+        message: *const u8,
+        message_length: usize,
+        item: u64,
+        p: u64,
+        q: u64,
+        answer: *mut u64,
+    );
+    fn svelgandur_member(
+        image: *const u8,
+        image_length: usize,
+        message: *const u8,
+        message_length: usize,
+        item: u64,
+        map: *mut u16,
+        map_length: usize,
+        answer: *mut u64,
+    );
     fn svelgandur_open(buffer: *mut u8, length: usize, answer: *mut u64);
     fn svelgandur_edit_name(
         buffer: *mut u8,
@@ -102,6 +141,51 @@ pub fn read_requirement(message: &[u8]) -> Answer {
 
 pub fn inner_part(message: &[u8], k: u64) -> Answer {
     answered(|answer| unsafe { svelgandur_inner_part(message.as_ptr(), message.len(), k, answer) })
+}
+
+pub fn degree(image: &[u8], message: &[u8], item: u64, map: &mut [u16]) -> Answer {
+    answered(|answer| unsafe {
+        svelgandur_degree(
+            image.as_ptr(),
+            image.len(),
+            message.as_ptr(),
+            message.len(),
+            item,
+            map.as_mut_ptr(),
+            map.len(),
+            answer,
+        )
+    })
+}
+
+pub fn margin(image: &[u8], message: &[u8], item: u64, p: u64, q: u64) -> Answer {
+    answered(|answer| unsafe {
+        svelgandur_margin(
+            image.as_ptr(),
+            image.len(),
+            message.as_ptr(),
+            message.len(),
+            item,
+            p,
+            q,
+            answer,
+        )
+    })
+}
+
+pub fn member(image: &[u8], message: &[u8], item: u64, map: &mut [u16]) -> Answer {
+    answered(|answer| unsafe {
+        svelgandur_member(
+            image.as_ptr(),
+            image.len(),
+            message.as_ptr(),
+            message.len(),
+            item,
+            map.as_mut_ptr(),
+            map.len(),
+            answer,
+        )
+    })
 }
 
 pub fn open(buffer: &mut [u8]) -> Answer {

@@ -5,12 +5,12 @@
 use second::gen::registers::register_of;
 use second::gen::{
     action, damaged_register, fact, junk_fact, junk_step, largest_register, medium_register,
-    register_edges, small_register, Action, Palette, Rng,
+    register_edges, small_plain, small_register, Action, Palette, Rng,
 };
 use second::model::Model;
 use second::register::{self, Register};
 use second::session::{self as direct, Fact, Step};
-use second::{Refusal, Side};
+use second::{degree, requirement, Refusal, Side};
 
 use crate::fence;
 use crate::library;
@@ -22,6 +22,7 @@ const NAME: &str = "edit name";
 const LINK: &str = "edit link";
 const UNDO: &str = "undo";
 const KEEP: &str = "keep";
+const ASKED: &str = "degree in a session";
 
 const READING: (Side, &[u64]) = (Side::Register, &[1, 2, 3, 4, 5, 6, 7, 8]);
 
@@ -41,6 +42,7 @@ pub const PART: Part = Part {
         call(LINK, &[READING, (Side::Call, &[7, 15, 17, 18, 20])]),
         call(UNDO, &[READING, (Side::Call, &[17, 19, 20])]),
         call(KEEP, &[READING, (Side::Call, &[17])]),
+        call(ASKED, &[]),
     ],
     run,
 };
@@ -322,6 +324,30 @@ impl History {
         assert!(matches!(asked, Asked::Open) || answer == refused(Refusal::call(17)));
         Ok(())
     }
+
+    /// A degree asked of the image alone is that over the model's facts.
+    fn ask(&self, seen: &mut Seen, rng: &mut Rng, palette: &Palette) -> Result<(), Difference> {
+        let register = self.model.facts().register();
+        let message = requirement::encode(&small_plain(rng, palette));
+        let item = rng.below(register.items() as u64);
+        let buffer = &self.session.buffer;
+        let length = u16::from_be_bytes([buffer[1], buffer[2]]);
+        let image = &buffer[..3 + usize::from(length)];
+        let mut map = vec![7; 8];
+        let answer = library::degree(image, &message, item, &mut map);
+        let (num, den, values) = degree::degree(&register::encode(&register), &message, item, 8)
+            .expect("a good question");
+        let mut expected = vec![7; 8];
+        expected[..values.len()].copy_from_slice(&values);
+        let second = Outcome {
+            answer: [GOOD, num, den, values.len() as u64],
+            lent: expected,
+        };
+        let library = Outcome { answer, lent: map };
+        seen.compare(ASKED, library, second, || {
+            vec![("image", hex(image)), ("message", hex(&message))]
+        })
+    }
 }
 
 /// So many calls, some of them refused.
@@ -347,6 +373,9 @@ fn play(
             history.miscounted(seen, rng, asked)?;
         }
         history.call(seen, asked)?;
+        if rng.chance(16) {
+            history.ask(seen, rng, palette)?;
+        }
     }
     Ok(())
 }

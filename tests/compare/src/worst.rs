@@ -46,8 +46,13 @@ fn node(names: u64, children: Vec<(u8, Node)>) -> Node {
 
 /// A chain under role 0 to the greatest depth, each node with some names.
 pub fn chain(names: impl Fn(usize) -> u64) -> Node {
-    let last = Node::leaf(names(MOST_DEPTH));
-    (0..MOST_DEPTH)
+    chain_to(MOST_DEPTH, names)
+}
+
+/// A chain whose last node stands at a depth of one's own choice.
+pub fn chain_to(deepest: usize, names: impl Fn(usize) -> u64) -> Node {
+    let last = Node::leaf(names(deepest));
+    (0..deepest)
         .rev()
         .fold(last, |below, depth| node(names(depth), vec![(0, below)]))
 }
@@ -82,6 +87,36 @@ pub fn comb() -> Node {
     })
 }
 
+/// 61 nodes, all of them kept and most of them as deep as can be: a chain down
+/// to depth 15 with leaves at its end, as many as there are roles.
+pub fn broom() -> Node {
+    let leaves = |roles: std::ops::Range<u8>| roles.map(|role| (role, Node::leaf(0)));
+    let end = node(0, leaves(0..32).collect());
+    let mut last = vec![(0, end)];
+    last.extend(leaves(1..14));
+    (0..MOST_DEPTH - 2).fold(node(0, last), |below, _| node(0, vec![(0, below)]))
+}
+
+/// 64 written nodes, of which the deepest is read last: on the way down to it
+/// leaves stand before each child that goes on.
+pub fn late() -> Node {
+    late_to(MOST_DEPTH)
+}
+
+/// The same with the last node at a depth of one's own choice.
+pub fn late_to(deepest: usize) -> Node {
+    (0..deepest).rev().fold(Node::leaf(0), |below, depth| {
+        let before = match depth {
+            0..=14 => 3,
+            15 => 2,
+            _ => 0,
+        };
+        let mut children: Vec<(u8, Node)> = (0..before).map(|_| (1, Node::leaf(0))).collect();
+        children.push((0, below));
+        node(0, children)
+    })
+}
+
 /// 16 thresholds on the deepest nodes of a tree that has as many, all of them
 /// satisfied.
 pub fn sixteen_thresholds(outer: Node, inner: &Node) -> Node {
@@ -90,6 +125,22 @@ pub fn sixteen_thresholds(outer: Node, inner: &Node) -> Node {
     by_depth(&mut root, 0, &mut nodes);
     nodes.sort_by_key(|(depth, _)| std::cmp::Reverse(*depth));
     for (_, thresholds) in nodes.into_iter().take(MOST_THRESHOLDS) {
+        thresholds.push(threshold(Comparison::AtLeast, 0, 1, inner.clone()));
+    }
+    root
+}
+
+/// 16 thresholds on the last of the deepest nodes, the last of them with this
+/// inner concept and the others with an empty one: what is read last stands
+/// behind as much as can be.
+pub fn sixteen_on_the_last(outer: Node, inner: &Node) -> Node {
+    let mut root = outer;
+    let mut nodes = Vec::new();
+    by_depth(&mut root, 0, &mut nodes);
+    if let Some((_, thresholds)) = nodes.into_iter().max_by_key(|(depth, _)| *depth) {
+        for _ in 1..MOST_THRESHOLDS {
+            thresholds.push(threshold(Comparison::AtLeast, 0, 1, Node::leaf(0)));
+        }
         thresholds.push(threshold(Comparison::AtLeast, 0, 1, inner.clone()));
     }
     root

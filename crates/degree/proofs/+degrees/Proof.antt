@@ -309,7 +309,7 @@ degrees-loop-again : (t : ℕ) → degrees-lts.Need-loop-again (
   fill-ones-reads.Learnt,
 ) (degrees-at t) degrees.Post degrees-Inv-loop degrees-μ-loop
 degrees-loop-again t c =
-    (c .before .before .before .before .before .loop .inv .0, λ k. rest-at (c .before .before .wide2 .ensures .0) (rest-skip (c .before .before .before .before .before .loop .inv .1 k) (omega (arith, c .before .before .before .before .loop-test .taken, c .before .before .before .before .before .before .before .before .wide .ensures .0)) (c .if1 .taken)))
+    (c .before .before .before .before .before .loop .inv .0, λ k. rest-at (c .before .before .wide2 .ensures .0) (rest-skip (c .before .before .before .before .before .loop .inv .1 k) (omega (arith, c .before .before .before .before .loop-test .taken, c .before .before .before .before .before .before .before .before .wide .ensures .0)) (omega (arith, c .if1 .taken))))
 
 -- src/lib.rt:205:13
 degrees-sub-degrees : (t : ℕ) → degrees-lts.Need-sub-degrees (

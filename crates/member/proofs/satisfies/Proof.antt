@@ -18,15 +18,15 @@ mul-limit c =
 
 returns : tie.Need-returns
 returns c =
-    sym (ap (λ (z : Comparison). compares z (c .before .args .number // c .before .args .scale) (c .before .args .p // c .before .args .q)) (is-less (c .before .args .how) (c .if1 .taken)))
+    sym (ap (λ (z : Comparison). compares z (c .before .args .number // c .before .args .scale) (c .before .args .p // c .before .args .q)) (is-less (c .before .args .how) (omega (arith, c .if1 .taken))))
 
 returns-2 : tie.Need-returns-2
 returns-2 c =
-    sym (ap (λ (z : Comparison). compares z (c .before .before .args .number // c .before .before .args .scale) (c .before .before .args .p // c .before .before .args .q)) (is-at-most (c .before .before .args .how) (c .if2 .taken)))
+    sym (ap (λ (z : Comparison). compares z (c .before .before .args .number // c .before .before .args .scale) (c .before .before .args .p // c .before .before .args .q)) (is-at-most (c .before .before .args .how) (omega (arith, c .if2 .taken))))
 
 returns-3 : tie.Need-returns-3
 returns-3 c =
-    sym (ap (λ (z : Comparison). compares z (c .before .before .before .args .number // c .before .before .before .args .scale) (c .before .before .before .args .p // c .before .before .before .args .q)) (is-greater (c .before .before .before .args .how) (c .if3 .taken)))
+    sym (ap (λ (z : Comparison). compares z (c .before .before .before .args .number // c .before .before .before .args .scale) (c .before .before .before .args .p // c .before .before .before .args .q)) (is-greater (c .before .before .before .args .how) (omega (arith, c .if3 .taken))))
 
 returns-4 : tie.Need-returns-4
 returns-4 c =

@@ -1,3 +1,5 @@
+-- `requirement::read_concept` meets its contract: the reader of a node leaves rows that hold the concept.
+-- Assumes nothing.
 use borrow.Author.Needs.{needs}
 use Rattle.requirement.proofs.read_concept.Statement.{statement}
 use Rattle.requirement.proofs.read_concept.Tie as tie

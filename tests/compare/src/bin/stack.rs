@@ -1,16 +1,23 @@
 //! How much of the stack each call uses, at most, over the costliest inputs
-//! and many others. Fails above 64 KiB.
+//! and many others. Fails above 64 KiB, and for calls that read a message above
+//! 96 KiB.
 
 use std::process::ExitCode;
 
 use compare::library;
 use compare::painted::Stack;
-use compare::worst::{all_linked, bushy, chain, comb, fans, sixteen_thresholds, triplets, wide};
+use compare::worst::{
+    all_linked, broom, bushy, chain, chain_to, comb, fans, late, late_to, sixteen_on_the_last,
+    sixteen_thresholds, triplets, wide,
+};
 use second::gen::{any_pair_bytes, Rng};
 use second::register;
 use second::requirement::{self, Node};
 
 const MOST: usize = 64 * 1024;
+/// The readers of a message call each other, and each of them itself for what
+/// stands beside: that needs more.
+const MOST_FOR_A_MESSAGE: usize = 96 * 1024;
 
 /// What a call is asked of: an image and a message.
 struct Input {
@@ -28,12 +35,21 @@ fn inputs() -> Vec<Input> {
         chain(|depth| depth as u64 & 7),
         wide(),
         triplets(),
+        broom(),
+        late(),
     ];
     let mut roots: Vec<Node> = trees.to_vec();
     for outer in &trees {
         for inner in &trees {
             roots.push(sixteen_thresholds(outer.clone(), inner));
+            roots.push(sixteen_on_the_last(outer.clone(), inner));
         }
+    }
+    // One deeper than is allowed, which a reader comes to see.
+    for too_deep in [chain_to(17, |_| 0), late_to(17)] {
+        roots.push(sixteen_on_the_last(chain(|_| 0), &too_deep));
+        roots.push(sixteen_on_the_last(late(), &too_deep));
+        roots.push(too_deep);
     }
     let mut list = Vec::new();
     for root in &roots {
@@ -57,36 +73,45 @@ fn inputs() -> Vec<Input> {
 const ITEM: u64 = 0;
 
 /// Each call with what it does to one input.
-type Work = fn(&Input, &mut [u8], &mut [u64]);
+type Work = fn(&Input, &mut [u8], &mut [u64], &mut [u16]);
 
-const CALLS: [(&str, Work); 8] = [
-    ("read_register", |input, _, _| {
+const CALLS: [(&str, usize, Work); 11] = [
+    ("read_register", MOST, |input, _, _, _| {
         library::read_register(&input.image, 0);
     }),
-    ("read_requirement", |input, _, _| {
+    ("read_requirement", MOST_FOR_A_MESSAGE, |input, _, _, _| {
         library::read_requirement(&input.message);
     }),
-    ("inner_part", |input, _, _| {
+    ("inner_part", MOST_FOR_A_MESSAGE, |input, _, _, _| {
         library::inner_part(&input.message, 15);
     }),
-    ("open", |_, buffer, _| {
+    ("degree", MOST_FOR_A_MESSAGE, |input, _, _, map| {
+        library::degree(&input.image, &input.message, ITEM, map);
+    }),
+    ("margin", MOST_FOR_A_MESSAGE, |input, _, _, _| {
+        library::margin(&input.image, &input.message, ITEM, 2, 3);
+    }),
+    ("member", MOST_FOR_A_MESSAGE, |input, _, _, map| {
+        library::member(&input.image, &input.message, ITEM, map);
+    }),
+    ("open", MOST, |_, buffer, _, _| {
         library::open(buffer);
     }),
-    ("edit_name", |_, buffer, log| {
+    ("edit_name", MOST, |_, buffer, log, _| {
         library::edit_name(buffer, log, 0, 1, ITEM, 63);
     }),
-    ("edit_link", |_, buffer, log| {
+    ("edit_link", MOST, |_, buffer, log, _| {
         library::edit_link(buffer, log, 0, 0, [ITEM, 0, 0]);
         library::edit_link(buffer, log, 1, 1, [ITEM, 0, 0]);
     }),
-    ("undo", |_, buffer, log| {
+    ("undo", MOST, |_, buffer, log, _| {
         // The link of item 0 under role 0 to itself: taken away, and put back.
         log[0] = 2;
         library::undo(buffer, log, 1);
         log[0] = 3;
         library::undo(buffer, log, 1);
     }),
-    ("keep", |_, buffer, log| {
+    ("keep", MOST, |_, buffer, log, _| {
         library::keep(buffer, log, 64);
     }),
 ];
@@ -98,34 +123,42 @@ fn main() -> ExitCode {
     let nothing = roomy.used(|| {
         std::hint::black_box(library::read_register(&[], 0));
     });
-    let stack = Stack::new(nothing + MOST);
     let mut too_much = false;
-    for (name, work) in CALLS {
-        let mut most = 0;
-        // Each costly input by itself, and all others in one go.
-        for some in inputs.chunks(40) {
-            let mut prepared: Vec<_> = some
-                .iter()
-                .map(|input| {
-                    let mut buffer = input.image.clone();
-                    buffer.extend([0; 5]);
-                    (input, buffer)
-                })
-                .collect();
-            let mut log = [0; 64];
-            let used = stack.used(|| {
-                for (input, buffer) in &mut prepared {
-                    work(input, buffer, &mut log);
-                }
-            });
-            most = most.max(used.saturating_sub(nothing));
-        }
+    for (name, bound, work) in CALLS {
+        let most = used(&roomy, work, &inputs).saturating_sub(nothing);
         println!("stack: svelgandur_{name}: {most} bytes");
-        too_much |= most > MOST;
+        if most > bound {
+            eprintln!("stack: svelgandur_{name}: more than {bound} bytes");
+            too_much = true;
+        } else {
+            // No more is there, also not of what a call leaves unwritten.
+            used(&Stack::new(nothing + bound), work, &inputs);
+        }
     }
-    if too_much {
-        eprintln!("stack: more than {MOST} bytes");
-        return ExitCode::FAILURE;
+    match too_much {
+        true => ExitCode::FAILURE,
+        false => ExitCode::SUCCESS,
     }
-    ExitCode::SUCCESS
+}
+
+/// The most that a call uses over all inputs, a thread's own among it.
+fn used(stack: &Stack, work: Work, inputs: &[Input]) -> usize {
+    let some = inputs.chunks(40).map(|some| {
+        let mut prepared: Vec<_> = some
+            .iter()
+            .map(|input| {
+                let mut buffer = input.image.clone();
+                buffer.extend([0; 5]);
+                (input, buffer)
+            })
+            .collect();
+        let mut log = [0; 64];
+        let mut map = [0; 64];
+        stack.used(|| {
+            for (input, buffer) in &mut prepared {
+                work(input, buffer, &mut log, &mut map);
+            }
+        })
+    });
+    some.max().unwrap_or(0)
 }

@@ -1,3 +1,5 @@
+-- `degree::call::against` meets its contract: N times q minus p times D, over D times q; no product wraps.
+-- Assumes nothing.
 use borrow.Author.Needs.{needs}
 use Rattle.degree.proofs.call.against.Statement.{statement}
 use Rattle.degree.proofs.call.against.Tie as tie

@@ -1,3 +1,5 @@
+-- `degree::call::degree_of` meets its contract: answer and map are those of the document's call, for every refusal too.
+-- Assumes nothing.
 use borrow.Author.Needs.{needs}
 use Rattle.degree.proofs.call.degree_of.Statement.{statement}
 use Rattle.degree.proofs.call.degree_of.Tie as tie

@@ -1,3 +1,5 @@
+-- `degree::call::difference` meets its contract: what the machine subtracts is the difference of the two numbers.
+-- Assumes nothing.
 use borrow.Author.Needs.{needs}
 use Rattle.degree.proofs.call.difference.Statement.{statement}
 use Rattle.degree.proofs.call.difference.Tie as tie

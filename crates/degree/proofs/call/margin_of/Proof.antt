@@ -1,3 +1,5 @@
+-- `degree::call::margin_of` meets its contract: the answer is that of the document's call, for every refusal too.
+-- Assumes nothing.
 use borrow.Author.Needs.{needs}
 use Rattle.degree.proofs.call.margin_of.Statement.{statement}
 use Rattle.degree.proofs.call.margin_of.Tie as tie

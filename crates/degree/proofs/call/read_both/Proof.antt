@@ -1,3 +1,5 @@
+-- `degree::call::read_both` meets its contract: the register, and then the plain requirement.
+-- Assumes nothing.
 use borrow.Author.Needs.{needs}
 use Rattle.degree.proofs.call.read_both.Statement.{statement}
 use Rattle.degree.proofs.call.read_both.Tie as tie

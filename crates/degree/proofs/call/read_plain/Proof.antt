@@ -1,3 +1,5 @@
+-- `degree::call::read_plain` meets its contract: the requirement's own faults, 11 at the first threshold, 14 at place 3, or marked rows.
+-- Assumes nothing.
 use borrow.Author.Needs.{needs}
 use Rattle.degree.proofs.call.read_plain.Statement.{statement}
 use Rattle.degree.proofs.call.read_plain.Tie as tie

@@ -1,3 +1,5 @@
+-- `member::call::decide` meets its contract: the image is read, or refused.
+-- Assumes nothing.
 use borrow.Author.Needs.{needs}
 use Rattle.member.proofs.call.decide.Statement.{statement}
 use Rattle.member.proofs.call.decide.Tie as tie

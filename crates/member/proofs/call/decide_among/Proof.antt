@@ -1,3 +1,5 @@
+-- `member::call::decide_among` meets its contract: each end is that of the call.
+-- Assumes nothing.
 use borrow.Author.Needs.{needs}
 use Rattle.member.proofs.call.decide_among.Statement.{statement}
 use Rattle.member.proofs.call.decide_among.Tie as tie
@@ -32,7 +34,7 @@ refused-requires c κs = search needs
 returns : tie.Need-returns
 returns c =
     let u = understood (c .before .before .before .before .before .before .before .before .before .before .before .before .before .before .before .before .before .before .before .args .message .now) _ _ _ _ (c .before .before .before .before .before .before .before .before .before .before .read-message .ensures) (c .before .before .before .m .given .1) in
-    no-item (c .before .before .before .before .before .before .before .before .before .before .before .before .before .before .before .before .before .before .before .args .image .now) (c .before .before .before .before .before .before .before .before .before .before .before .before .before .before .before .before .before .before .before .args .message .now) (c .before .before .before .before .before .before .before .before .before .before .before .before .before .before .before .before .before .before .before .args .item) (c .before .before .before .before .before .before .before .before .before .before .before .before .before .before .before .before .before .before .before .args .map .now) (c .before .before .before .before .before .before .before .before .before .before .before .before .before .before .before .before .before .before .before .pre) u _ (c .refused .ensures) (omega (arith, c .before .if1 .taken))
+    no-item (c .before .before .before .before .before .before .before .before .before .before .before .before .before .before .before .before .before .before .before .args .image .now) (c .before .before .before .before .before .before .before .before .before .before .before .before .before .before .before .before .before .before .before .args .message .now) (c .before .before .before .before .before .before .before .before .before .before .before .before .before .before .before .before .before .before .before .args .item) (c .before .before .before .before .before .before .before .before .before .before .before .before .before .before .before .before .before .before .before .args .map .now) (c .before .before .before .before .before .before .before .before .before .before .before .before .before .before .before .before .before .before .before .pre) u _ _ (c .refused .ensures) (omega arith) (omega (arith, c .before .if1 .taken))
 
 refused-requires-2 : tie.Need-refused-requires-2
 refused-requires-2 c κs = search needs
@@ -40,7 +42,7 @@ refused-requires-2 c κs = search needs
 returns-2 : tie.Need-returns-2
 returns-2 c =
     let u = understood (c .before .before .before .before .before .before .before .before .before .before .before .before .before .before .before .before .before .before .before .before .args .message .now) _ _ _ _ (c .before .before .before .before .before .before .before .before .before .before .before .read-message .ensures) (c .before .before .before .before .m .given .1) in
-    no-room (c .before .before .before .before .before .before .before .before .before .before .before .before .before .before .before .before .before .before .before .before .args .image .now) (c .before .before .before .before .before .before .before .before .before .before .before .before .before .before .before .before .before .before .before .before .args .message .now) (c .before .before .before .before .before .before .before .before .before .before .before .before .before .before .before .before .before .before .before .before .args .item) (c .before .before .before .before .before .before .before .before .before .before .before .before .before .before .before .before .before .before .before .before .args .map .now) (c .before .before .before .before .before .before .before .before .before .before .before .before .before .before .before .before .before .before .before .before .pre) u _ (c .refused2 .ensures) (omega (arith, c .before .before .if1 .left)) (omega (arith, c .before .if2 .taken))
+    no-room (c .before .before .before .before .before .before .before .before .before .before .before .before .before .before .before .before .before .before .before .before .args .image .now) (c .before .before .before .before .before .before .before .before .before .before .before .before .before .before .before .before .before .before .before .before .args .message .now) (c .before .before .before .before .before .before .before .before .before .before .before .before .before .before .before .before .before .before .before .before .args .item) (c .before .before .before .before .before .before .before .before .before .before .before .before .before .before .before .before .before .before .before .before .args .map .now) (c .before .before .before .before .before .before .before .before .before .before .before .before .before .before .before .before .before .before .before .before .pre) u _ _ (c .refused2 .ensures) (omega arith) (omega (arith, c .before .before .if1 .left)) (omega (arith, c .before .if2 .taken))
 
 decide-read-requires : tie.Need-decide-read-requires
 decide-read-requires c κs =

@@ -1,3 +1,5 @@
+-- `member::call::decide_read` meets its contract: the table and the rows make a case, which is settled.
+-- Assumes nothing.
 use borrow.Author.Needs.{needs}
 use Rattle.member.proofs.call.decide_read.Statement.{statement}
 use Rattle.member.proofs.call.decide_read.Tie as tie

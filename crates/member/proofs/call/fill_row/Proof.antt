@@ -1,9 +1,12 @@
+-- `member::call::fill_row` meets its contract: the row says which items satisfy the threshold.
+-- Assumes nothing.
 use borrow.Author.Needs.{needs}
 use Rattle.member.proofs.call.fill_row.Statement.{statement}
 use Rattle.member.proofs.call.fill_row.Tie as tie
 use native.Mathlib.Omega.{arith}
 use mathlib.Core.Path.{_≡_, sym}
-use Prim.Native.Nat.{ℕ, _≤_}
+use Prim.Native.Nat.{ℕ, _≤_, _+_}
+use Rattle.meaning.specs.Bytes.{number}
 use Rattle.fields.proofs.Known.{bytes-known}
 use Rattle.degree.proofs.Fill.{lent-length, back, back-whole, back-length, back-same}
 use Rattle.member.proofs.Inner.{most-items, passes-same, scale-fits, row-same}
@@ -52,15 +55,20 @@ shared-slice-read-judge c =
 
 judge-requires : tie.Need-judge-requires
 judge-requires c κs =
-    let most = most-items (c .before .before .before .before .before .before .before .before .before .before .before .args .image .now) (bytes-known (c .before .before .before .before .before .before .before .before .before .before .before .args .image .now) (c .before .before .before .before .before .before .before .before .before .before .shared-slice-known .given)) (c .before .before .before .before .before .before .before .before .before .before .before .pre .0) in
-    let one = c .before .before .before .before .before .before .before .before .before .before .before .pre .1 .0 in
-    let worked = c .before .before .before .before .before .before .grade .ensures (c .before .before .before .before .before .before .before .before .before .before .before .pre .0 .register) (c .before .before .before .before .before .before .before .before .before .before .before .pre .0 .read) (one .threshold) (one .stands) in (
-      omega (arith, back-length (c .before .before .before .before .before .before .before .before .before .before .before .args .items) most (c .before .before .before .before .before .before .grade .last .1 .1 .1 .1 .1 .0) (c .before .before .before .before .before .before .grade .kept .1 .1 .1 .1 .1 .0)),
-      c .before .before .before .before .before .before .before .before .before .before .before .pre .1 .1 .1,
-      c .before .before .before .before .before .before .before .before .before .before .before .pre .1 .1 .0,
-      scale-fits _ (one .threshold) (c .before .before .before .before .before .before .before .before .before .before .before .args .message .now) (c .before .before .before .before .before .before .before .before .before .before .before .args .first) (one .stands) _ _ _ worked,
-      omega (arith, c .before .before .before .before .two .ensures .0, one .stands .num, one .stands .low .0),
-      omega (arith, c .before .before .before .two2 .ensures .0, one .stands .den, one .stands .low .1),
+    let start = c .before .before .before .before .before .before .before .before .before .before .before in
+    let message = start .args .message .now in
+    let graded = c .before .before .before .before .before .before .grade in
+    let bytes = bytes-known (start .args .image .now) (c .before .before .before .before .before .before .before .before .before .before .shared-slice-known .given) in
+    let most = most-items (start .args .image .now) bytes (start .pre .0) in
+    let one = start .pre .1 .0 in
+    let h = one .threshold in
+    let worked = graded .ensures (start .pre .0 .register) (start .pre .0 .read) h (one .stands) in (
+      omega (arith, back-length (start .args .items) most (graded .last .1 .1 .1 .1 .1 .0) (graded .kept .1 .1 .1 .1 .1 .0)),
+      start .pre .1 .1 .1,
+      start .pre .1 .1 .0,
+      scale-fits _ h message (start .args .first) (one .stands) _ _ _ worked,
+      omega (arith, c .before .before .before .before .two .ensures .0, one .stands .num, one .stands .den, one .stands .low .0, one .stands .low .1),
+      omega (arith, c .before .before .before .two2 .ensures .0, one .stands .num, one .stands .den, one .stands .low .0, one .stands .low .1),
     )
 
 same-length : tie.Need-same-length
@@ -69,11 +77,18 @@ same-length c = search needs
 returns : tie.Need-returns
 returns c =
     λ g e h st.
-    let most = most-items (c .before .before .before .before .before .before .before .before .before .before .before .before .before .before .args .image .now) (bytes-known (c .before .before .before .before .before .before .before .before .before .before .before .before .before .before .args .image .now) (c .before .before .before .before .before .before .before .before .before .before .before .before .before .shared-slice-known .given)) (c .before .before .before .before .before .before .before .before .before .before .before .before .before .before .pre .0) in
-    let lent = c .before .before .before .before .before .before .before .before .before .grade .last .1 .1 .1 .1 .1 .0 in
+    let start = c .before .before .before .before .before .before .before .before .before .before .before .before .before .before in
+    let message = start .args .message .now in
+    let first = start .args .first in
+    let graded = c .before .before .before .before .before .before .before .before .before .grade in
+    let bytes = bytes-known (start .args .image .now) (c .before .before .before .before .before .before .before .before .before .before .before .before .before .shared-slice-known .given) in
+    let most = most-items (start .args .image .now) bytes (start .pre .0) in
+    let lent = graded .last .1 .1 .1 .1 .1 .0 in
+    let num : c .before .before .before .before .before .before .before .two .result ≡ number message (first + 1) 2 = omega (arith, c .before .before .before .before .before .before .before .two .ensures .0) in
+    let den : c .before .before .before .before .before .before .two2 .result ≡ number message (first + 3) 2 = omega (arith, c .before .before .before .before .before .before .two2 .ensures .0) in
+    let same = back-same (start .args .items) most lent (graded .kept .1 .1 .1 .1 .1 .0) in
     row-same (c .before .before .judge .ensures)
-    (passes-same g h (c .before .before .before .before .before .before .before .before .before .before .before .before .before .before .args .message .now) (c .before .before .before .before .before .before .before .before .before .before .before .before .before .before .args .first) st _ _ lent (c .before .before .before .before .before .before .before .before .before .grade .ensures g e h st) _ _ (c .before .before .before .before .before .before .before .two .ensures .0) (c .before .before .before .before .before .before .two2 .ensures .0)
-    (back (c .before .before .before .before .before .before .before .before .before .before .before .before .before .before .args .items) lent) (back-same (c .before .before .before .before .before .before .before .before .before .before .before .before .before .before .args .items) most lent (c .before .before .before .before .before .before .before .before .before .grade .kept .1 .1 .1 .1 .1 .0)))
+    (passes-same g h message first st _ _ lent (graded .ensures g e h st) _ _ num den (back (start .args .items) lent) same)
 
 pub fill-row-spec : {M : Type 1} → statement M
 fill-row-spec =

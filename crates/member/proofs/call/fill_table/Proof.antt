@@ -1,13 +1,15 @@
+-- `member::call::fill_table` meets its contract: each row says which items satisfy its threshold.
+-- Assumes nothing.
 use Rattle.member.proofs.call.fill_table.Statement.{statement}
 use Rattle.member.proofs.call.fill_table.Tie as tie
 use native.Mathlib.Omega.{arith}
-use mathlib.Core.Path.{_≡_, refl, sym, subst, _∙_}
+use mathlib.Core.Path.{_≡_, refl, _∙_}
 use Prim.Native.Nat.{ℕ, _≤_, _-_}
 use lib.ListN.{length, getD}
 use Rattle.meaning.specs.Refusal.{good}
 use Rattle.meaning.specs.Register.{Register, readBuffer, judged}
-use Rattle.member.specs.Call.{AllStand, StandsAt, Tabled, noThreshold}
-use Rattle.member.proofs.Inner.{tabled-none, tabled-more, tabled-all}
+use Rattle.member.specs.Call.{AllStand, Tabled, noThreshold}
+use Rattle.member.proofs.Inner.{stands-there, tabled-none, tabled-more, tabled-all}
 use borrow.Author.Needs.{needs}
 
 abbrev Inv-loop : tie.InvT-loop
@@ -20,7 +22,7 @@ abbrev μ-loop : tie.MeasureT-loop
 
 loop-holds : tie.Need-loop-holds Inv-loop μ-loop
 loop-holds c =
-    ((λ g e a. tabled-none (c .before .before .before .args .items) (judged g) (a .thresholds) (c .before .before .before .args .table .now)), refl, omega arith)
+    ((λ g e a. tabled-none (c .before .before .before .args .items) (judged g) (a .thresholds) _ (c .before .before .before .args .table .now) (omega arith)), refl, omega arith)
 
 mul-wide : tie.Need-mul-wide Inv-loop μ-loop
 mul-wide c = search needs
@@ -34,10 +36,14 @@ wide-requires c κs = search needs
 
 fill-row-requires : tie.Need-fill-row-requires Inv-loop μ-loop
 fill-row-requires c κs =
-    let a = c .before .before .before .before .before .before .before .before .pre .1 .0 in
+    let pre = c .before .before .before .before .before .before .before .before .pre in
+    let a = pre .1 .0 in
     let k = c .before .before .before .before .loop .k in
-    let here = subst (λ (p : ℕ). StandsAt (c .before .before .before .before .before .before .before .before .args .message .now) p (getD (a .thresholds) k noThreshold)) (sym (c .before .wide .ensures)) (a .each k (c .before .before .before .loop-test .taken)) in
-    (c .before .before .before .before .before .before .before .before .pre .0, (record { threshold = getD (a .thresholds) k noThreshold; stands = here }, (omega (arith, c .before .before .before .before .before .before .before .before .pre .1 .1 .0), omega (arith, c .before .before .before .before .before .before .before .before .pre .1 .1 .1, c .before .before .before .before .loop .inv .1))))
+    let h = getD (a .thresholds) k noThreshold in
+    let place : getD (c .before .before .before .before .before .before .before .before .args .firsts .now) k 0 ≡ c .before .wide .result = omega (arith, c .before .wide .ensures) in
+    let here = stands-there _ _ _ h place (a .each k (c .before .before .before .loop-test .taken)) in
+    let room = c .before .before .before .before .loop .inv .1 in
+    (pre .0, (record { threshold = h; stands = here }, (omega (arith, pre .1 .1 .0), omega (arith, pre .1 .1 .1, room))))
 
 add-k : tie.Need-add-k Inv-loop μ-loop
 add-k c = search needs
@@ -50,8 +56,10 @@ loop-again c = (
   (λ g e a.
       let k = c .before .before .before .before .before .before .before .loop .k in
       let h = getD (a .thresholds) k noThreshold in
-      let here = subst (λ (p : ℕ). StandsAt (c .before .before .before .before .before .before .before .before .before .before .before .args .message .now) p h) (sym (c .before .before .before .before .wide .ensures)) (a .each k (c .before .before .before .before .before .before .loop-test .taken)) in
-      tabled-more (c .before .before .before .before .before .before .before .before .before .before .before .args .items) (judged g) (a .thresholds) k _ _ (c .before .before .before .before .before .before .before .loop .inv .0 g e a) (c .before .before .fill-row .ensures g e h here)),
+      let place : getD (c .before .before .before .before .before .before .before .before .before .before .before .args .firsts .now) k 0 ≡ c .before .before .before .before .wide .result = omega (arith, c .before .before .before .before .wide .ensures) in
+      let here = stands-there _ _ _ h place (a .each k (c .before .before .before .before .before .before .loop-test .taken)) in
+      let before = c .before .before .before .before .before .before .before .loop .inv .0 g e a in
+      tabled-more (c .before .before .before .before .before .before .before .before .before .before .before .args .items) (judged g) (a .thresholds) k _ _ before (c .before .before .fill-row .ensures g e h here)),
   c .before .before .fill-row .kept .1 .1 .1 .1 .1 .1 .0 ∙ c .before .before .before .before .before .before .before .loop .inv .1,
   omega arith,
 )

@@ -1,3 +1,5 @@
+-- `member::call::grade` meets its contract: the degrees are those in the inner concept.
+-- Assumes nothing.
 use borrow.Author.Needs.{needs}
 use Rattle.member.proofs.call.grade.Statement.{statement}
 use Rattle.member.proofs.call.grade.Tie as tie
