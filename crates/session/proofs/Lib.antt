@@ -1,5 +1,4 @@
 pub mod Stores
-pub mod Bits
 pub mod Place
 pub mod Parts
 pub mod Changes
