@@ -42,6 +42,7 @@ pub mod Shown
 pub mod YesShown
 -- Sessions, and demand 3
 pub mod SessionNames
+pub mod NamesChanged
 pub mod SessionLinks
 pub mod SessionFacts
 pub mod SessionCalls

@@ -134,7 +134,7 @@ inner-back s end p r bs l e =
 
 -- ---- a threshold
 
-decoded : (c : Comparison) → (comparison (code c) ≡ c) × (code c ≤ 3)
+pub decoded : (c : Comparison) → (comparison (code c) ≡ c) × (code c ≤ 3)
 decoded less = (refl, omega arith)
 decoded atMost = (refl, omega arith)
 decoded greater = (refl, omega arith)
@@ -150,7 +150,7 @@ coded (suc (suc (suc n))) h = omega arith
 abbrev rules : ℕ → ℕ → ℕ → Bool
 rules n p q = leb n 3 && lawful p q
 
-lawful-open : (p q : ℕ) → T (lawful p q) → (q ≤ mostQ) × (p ≤ q)
+pub lawful-open : (p q : ℕ) → T (lawful p q) → (q ≤ mostQ) × (p ≤ q)
 lawful-open p q h =
     let c = and-both (leb 1 q && leb q mostQ && leb p q) (eqb (gcd p q) 1) h in
     let d = and-both (leb 1 q && leb q mostQ) (leb p q) (c .0) in

@@ -12,8 +12,9 @@ use lib.Seq.{getD-set-same, getD-set-other}
 use borrow.Author.Count.{below-more}
 use borrow.Author.Tests.{eq-eqb, ne-eqb, eqb-true, eqb-false}
 use Rattle.meaning.specs.Names.{has}
-use Rattle.member.specs.Table.{cell, withBit, Rowed, ruledAt}
-use Rattle.member.proofs.Bits.{with-has}
+use Rattle.meaning.specs.Session.{withName}
+use Rattle.meaning.proofs.SessionNames.{with-has}
+use Rattle.member.specs.Table.{cell, Rowed, ruledAt}
 
 pub rowed-none : (f : ℕ → Bool) (n : ℕ) (old : List ℕ) → Rowed f n old old 0
 rowed-none f n old = record {
@@ -30,7 +31,7 @@ module _ (f : ℕ → Bool) (n : ℕ) (old new : List ℕ) (i : ℕ) (v : Bool) 
   abbrev after : List ℕ
   after = set new i w
 
-  module _ (ew : w ≡ withBit v n (getD new i 0)) where
+  module _ (ew : w ≡ withName v n (getD new i 0)) where
     here : (j : ℕ) → cell after j i ≡ cond (eqb n j) v (cell new j i)
     here j = ap (λ (a : ℕ). has a j) (getD-set-same new i w 0 h ∙ ew) ∙ with-has v n (getD new i 0) j
 

@@ -1,4 +1,3 @@
-pub mod Bits
 pub mod Fill
 pub mod Targets
 pub mod Search

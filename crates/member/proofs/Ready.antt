@@ -1,26 +1,22 @@
 -- A message that was read: each of its thresholds stands where reading found it, and with their table its rows make a case.
 -- Assumes nothing.
-use mathlib.Core.Path.{_≡_, refl, sym, ap, subst, _∙_}
-use mathlib.Core.Bool.{_&&_}
+use mathlib.Core.Path.{_≡_, sym, ap, subst, _∙_}
 use mathlib.Core.List.{List, [], _∷_, Forall₂, Forall₂·nil, Forall₂·cons}
 use Prim.Native.Nat.{ℕ, zero, suc, _+_, _≤_, _<_}
 use native.Mathlib.Nat.{le-trans, le-of-eq}
 use native.Mathlib.Omega.{arith}
-use lib.Dec.{T, leb, eqb, leb→le}
 use lib.ListN.{length, getD}
-use Rattle.meaning.specs.Bytes.{number, Bytes}
-use Rattle.meaning.specs.Refusal.{good}
-use Rattle.meaning.specs.Tree.{Concept, nodes}
-use Rattle.meaning.specs.Fraction.{gcd, Comparison, less, atMost, greater, atLeast}
-use Rattle.meaning.specs.Register.{Register, readBuffer, judged}
-use Rattle.meaning.specs.Requirement.{Threshold, Requirement, bare}
-use Rattle.meaning.specs.Message.{mostQ, lawful, code, comparison, soundInner, conceptBytes, Spot, Part, readInner, readRequirement, thresholdsOf}
+use Rattle.meaning.specs.Bytes.{Bytes}
+use Rattle.meaning.specs.Tree.{nodes}
+use Rattle.meaning.specs.Register.{judged}
+use Rattle.meaning.specs.Requirement.{Threshold, bare}
+use Rattle.meaning.specs.Message.{lawful, comparison, soundInner, Part, readInner, thresholdsOf}
 use Rattle.meaning.specs.Rows.{Holds}
 use Rattle.meaning.proofs.Tests.{and-both}
 use Rattle.meaning.proofs.Reading.{number-one}
 use Rattle.meaning.proofs.Rows.{opened}
 use Rattle.meaning.proofs.Image.{image-fits}
-use Rattle.meaning.proofs.MessageLabel.{PartAt, inner-read, sound-inner}
+use Rattle.meaning.proofs.MessageLabel.{PartAt, decoded, lawful-open, inner-read, sound-inner}
 use Rattle.meaning.proofs.Message.{Accepted, read-back, accepted-length, parts-stand, parts-length, partsIn}
 use Rattle.register.specs.Image.{Asked}
 use Rattle.requirement.specs.Reading.{noPart}
@@ -28,18 +24,6 @@ use Rattle.member.specs.Table.{Ruled}
 use Rattle.member.specs.Case.{Case}
 use Rattle.member.specs.Call.{noThreshold, StandsAt, AllStand, Tabled, Ready}
 use Rattle.member.proofs.Messages.{message-ruled}
-
-decoded : (c : Comparison) → comparison (code c) ≡ c
-decoded less = refl
-decoded atMost = refl
-decoded greater = refl
-decoded atLeast = refl
-
-lawful-open : (p q : ℕ) → T (lawful p q) → (q ≤ mostQ) × (p ≤ q)
-lawful-open p q h =
-    let c = and-both (leb 1 q && leb q mostQ && leb p q) (eqb (gcd p q) 1) h in
-    let d = and-both (leb 1 q && leb q mostQ) (leb p q) (c .0) in
-    (leb→le q mostQ (and-both (leb 1 q) (leb q mostQ) (d .0) .1), leb→le p q (d .1))
 
 -- a threshold that was read
 part-stands : (s : List ℕ) (x : Part) (h : Threshold) → PartAt s (length s) x h → length s ≤ 65538 → StandsAt s (x .first) h
@@ -49,7 +33,7 @@ part-stands s x h c short =
     let low = lawful-open (h .limit .num) (h .limit .den) (ok .0) in
     let read = inner-read s (p + 7) (h .inner) (ok .1) (c .here .stands) in
     record {
-      how = ap comparison (sym (number-one s p) ∙ c .here .how) ∙ decoded (h .how);
+      how = ap comparison (sym (number-one s p) ∙ c .here .how) ∙ decoded (h .how) .0;
       num = c .here .num;
       den = c .here .den;
       low = (le-trans (low .1) (low .0), low .0);

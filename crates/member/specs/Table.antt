@@ -2,11 +2,11 @@
 -- The rows of a requirement's written nodes say which items meet them; those of its thresholds, which items satisfy them.
 -- Assumes nothing.
 use mathlib.Core.Path.{_≡_}
-use mathlib.Core.Bool.{Bool, true, false, _&&_, _||_, not, cond}
+use mathlib.Core.Bool.{Bool, true, false, _&&_, _||_, not}
 use mathlib.Core.List.{List}
 use mathlib.Core.Option.{Option, some}
 use mathlib.Core.Option.{none as nowhere}
-use Prim.Native.Nat.{ℕ, zero, suc, _+_, _-_, _^_, _≤_, _<_}
+use Prim.Native.Nat.{ℕ, zero, suc, _+_, _≤_, _<_}
 use lib.Dec.{eqb}
 use lib.ListN.{length, getD}
 use Rattle.meaning.specs.Names.{has}
@@ -17,11 +17,6 @@ use Rattle.meaning.specs.Requirement.{Label, Requirement, every, passes, member
 -- row n, item x
 abbrev pub cell : List ℕ → ℕ → ℕ → Bool
 cell m n x = has (getD m x 0) n
-
--- a set with the bit k or without it
-abbrev pub withBit : Bool → ℕ → ℕ → ℕ
-withBit true k a = cond (has a k) a (a + 2 ^ k)
-withBit false k a = cond (has a k) (a - 2 ^ k) a
 
 -- Up to item i the row n says f, and nothing else has changed.
 pub record Rowed (f : ℕ → Bool) (n : ℕ) (old new : List ℕ) (i : ℕ) : Type 0 where

@@ -119,7 +119,8 @@ fn decide_read(
     map: &mut [u16],
 ) -> bool
     requires { ⌜ Ready (now image) items links (now message) (now names) (now roles) (now ends) (now owners) (now firsts) parts item (length (now map)) ⌝ }
-    ensures { λ r. ⌜ ((k : Ready (now (image .entry)) items links (now (message .entry)) (now (names .entry)) (now (roles .entry)) (now (ends .entry)) (now (owners .entry)) (now (firsts .entry)) parts item (length (now (map .entry))))
+    ensures { λ r. ⌜ ((k : Ready (now (image .entry)) items links (now (message .entry)) (now (names .entry)) (now (roles .entry)) (now (ends .entry))
+        (now (owners .entry)) (now (firsts .entry)) parts item (length (now (map .entry))))
         → Settled (k .register) (k .requirement) item (now (map .entry)) (now (map .exit)) r) ⌝ }
 {
     let mut table = [0u64; 512];

@@ -14,8 +14,9 @@ ghost use Rattle.meaning.specs.Message.{comparison};
 ghost use Rattle.meaning.specs.Register.{judged, targets};
 ghost use Rattle.meaning.specs.Whole.{any};
 ghost use Rattle.meaning.specs.Shown.{yesMap};
+ghost use Rattle.meaning.specs.Session.{withName};
 ghost use Rattle.register.specs.Image.{Asked, Image, Begins};
-ghost use Rattle.member.specs.Table.{cell, withBit, Rowed, ruledAt};
+ghost use Rattle.member.specs.Table.{cell, Rowed, ruledAt};
 ghost use Rattle.member.specs.Case.{Case, Done, Walk, Sought, Settled};
 
 // Of an item's links under a role: the lowest-numbered end that meets a node (65535 where there is none), and where the links of the
@@ -52,7 +53,7 @@ fn on(set: u64, k: usize) -> bool
 // The set with the bit k or without it; `there`: whether it is in the set.
 fn with_bit(set: u64, k: usize, there: bool, yes: bool) -> u64
     requires { ⌜ (k < 64) × (there ≡ has set k) ⌝ }
-    ensures { λ r. ⌜ r ≡ withBit yes k set ⌝ }
+    ensures { λ r. ⌜ r ≡ withName yes k set ⌝ }
 {
     if there {
         if yes {
@@ -68,7 +69,7 @@ fn with_bit(set: u64, k: usize, there: bool, yes: bool) -> u64
 
 fn marked(set: u64, k: usize, yes: bool) -> u64
     requires { ⌜ k < 64 ⌝ }
-    ensures { λ r. ⌜ r ≡ withBit yes k set ⌝ }
+    ensures { λ r. ⌜ r ≡ withName yes k set ⌝ }
 {
     with_bit(set, k, on(set, k), yes)
 }

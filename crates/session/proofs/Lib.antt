@@ -4,7 +4,6 @@ pub mod Log
 pub mod Recorded
 pub mod PlayedRecords
 pub mod Stores
-pub mod Bits
 pub mod Place
 pub mod Parts
 pub mod Changes

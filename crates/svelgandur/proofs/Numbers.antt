@@ -41,6 +41,10 @@ same-refusal a b c = cc
 refusals-apart : (q r : Refusal) → refusalNumbers q ≡ refusalNumbers r → q ≡ r
 refusals-apart q r e = same-refusal (sides-apart (q .side) (r .side) (nth 1 e)) (nth 2 e) (nth 3 e)
 
+-- four numbers are the same, each by itself
+pub four-same : {k a b c k′ a′ b′ c′ : ℕ} → k ≡ k′ → a ≡ a′ → b ≡ b′ → c ≡ c′ → four k a b c ≡ four k′ a′ b′ c′
+four-same e f g h = cc
+
 -- `says` gives a good answer's numbers: they tell these apart, and their kind is not 0
 module _ {A : Type 0} (says : A → List ℕ) (tells : (a b : A) → says a ≡ says b → a ≡ b) (kind : (a : A) → getD (says a) 0 0 ≡ 0 → ⊥) where
   pub answers-apart : (x y : Answer A) → numbers says x ≡ numbers says y → x ≡ y

@@ -4,7 +4,7 @@ use Rattle.member.proofs.with_bit.Statement.{statement}
 use Rattle.member.proofs.with_bit.Tie as tie
 use Prim.Native.Nat.{_≤_, _+_, _-_}
 use native.Mathlib.Omega.{arith}
-use Rattle.member.proofs.Bits.{off-le, bit-off, bit-on, on-fits}
+use Rattle.meaning.proofs.NamesChanged.{off-le, name-off, name-on, on-fits}
 
 returns : tie.Need-returns
 returns c = search needs
@@ -18,7 +18,7 @@ sub-result c =
 
 returns-2 : tie.Need-returns-2
 returns-2 c =
-    bit-off (c .before .before .args .set) (c .before .before .args .k) (c .before .before .args .there) (c .before .before .args .yes) (c .before .before .pre .0) (c .before .before .pre .1) (c .before .if1 .taken) (c .if2 .left)
+    name-off (c .before .before .args .set) (c .before .before .args .k) (c .before .before .args .there) (c .before .before .args .yes) (c .before .before .pre .0) (c .before .before .pre .1) (c .before .if1 .taken) (c .if2 .left)
 
 shl-result-2 : tie.Need-shl-result-2
 shl-result-2 c = search needs
@@ -29,7 +29,7 @@ add-result c =
 
 returns-3 : tie.Need-returns-3
 returns-3 c =
-    bit-on (c .before .before .args .set) (c .before .before .args .k) (c .before .before .args .there) (c .before .before .args .yes) (c .before .before .pre .0) (c .before .before .pre .1) (c .before .if1 .left) (c .if3 .taken)
+    name-on (c .before .before .args .set) (c .before .before .args .k) (c .before .before .args .there) (c .before .before .args .yes) (c .before .before .pre .0) (c .before .before .pre .1) (c .before .if1 .left) (c .if3 .taken)
 
 returns-4 : tie.Need-returns-4
 returns-4 c = search needs

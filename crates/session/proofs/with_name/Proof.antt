@@ -5,7 +5,7 @@ use Rattle.session.proofs.with_name.Statement.{statement}
 use Rattle.session.proofs.with_name.Tie as tie
 use Prim.Native.Nat.{_≤_, _+_, _-_}
 use native.Mathlib.Omega.{arith}
-use Rattle.session.proofs.Bits.{off-le, name-off, name-on, on-fits}
+use Rattle.meaning.proofs.NamesChanged.{off-le, name-off, name-on, on-fits}
 
 returns : tie.Need-returns
 returns c = search needs

@@ -26,7 +26,8 @@ returns c = search needs
 
 returns-2 : tie.Need-returns-2
 returns-2 c =
-    image-unread (c .before .before .before .before .before .before .before .args .image .now) (c .before .before .before .before .before .before .before .args .message .now) (c .before .before .before .before .before .before .before .args .item) (c .before .before .before .before .before .before .before .args .map .now) _ (image-refused (c .before .before .before .before .before .before .before .args .image .now) _ _ (c .before .r2 .given .1) (c .before .before .before .read .ensures))
+    let start = c .before .before .before .before .before .before .before in
+    image-unread (start .args .image .now) (start .args .message .now) (start .args .item) (start .args .map .now) _ (image-refused (start .args .image .now) _ _ (c .before .r2 .given .1) (c .before .before .before .read .ensures))
 
 pub decide-spec : {M : Type 1} → statement M
 decide-spec =

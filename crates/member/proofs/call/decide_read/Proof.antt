@@ -13,21 +13,23 @@ slice-aggregate-fill-table c = search needs
 
 fill-table-requires : tie.Need-fill-table-requires
 fill-table-requires c κs =
-    let image-bytes = bytes-known (c .before .before .before .before .args .image .now) (c .before .before .before .shared-slice-known .given) in
-    let message-bytes = bytes-known (c .before .before .before .before .args .message .now) (c .before .before .shared-slice-known2 .given) in
-    (ready-asked (c .before .before .before .before .pre), (ready-stand (c .before .before .before .before .pre) message-bytes, (c .before .before .before .before .pre .most, omega (arith, ready-most (c .before .before .before .before .pre) image-bytes, zeros-length))))
+    let start = c .before .before .before .before in
+    let image-bytes = bytes-known (start .args .image .now) (c .before .before .before .shared-slice-known .given) in
+    let message-bytes = bytes-known (start .args .message .now) (c .before .before .shared-slice-known2 .given) in
+    (ready-asked (start .pre), (ready-stand (start .pre) message-bytes, (start .pre .most, omega (arith, ready-most (start .pre) image-bytes, zeros-length))))
 
 slice-aggregate-settle : tie.Need-slice-aggregate-settle
 slice-aggregate-settle c = search needs
 
 settle-requires : tie.Need-settle-requires
 settle-requires c κs =
-    let image-bytes = bytes-known (c .before .before .before .before .before .before .before .before .args .image .now) (c .before .before .before .before .before .before .before .shared-slice-known .given) in
-    let message-bytes = bytes-known (c .before .before .before .before .before .before .before .before .args .message .now) (c .before .before .before .before .before .before .shared-slice-known2 .given) in
+    let start = c .before .before .before .before .before .before .before .before in
+    let image-bytes = bytes-known (start .args .image .now) (c .before .before .before .before .before .before .before .shared-slice-known .given) in
+    let message-bytes = bytes-known (start .args .message .now) (c .before .before .before .before .before .before .shared-slice-known2 .given) in
     let table = c .before .before .before .fill-table .last .1 .1 .1 .1 .1 .1 .0 in
-    let filled = c .before .before .before .fill-table .ensures (c .before .before .before .before .before .before .before .before .pre .register) (c .before .before .before .before .before .before .before .before .pre .read) (ready-stand (c .before .before .before .before .before .before .before .before .pre) message-bytes) in
+    let filled = c .before .before .before .fill-table .ensures (start .pre .register) (start .pre .read) (ready-stand (start .pre) message-bytes) in
     let long = c .before .before .before .fill-table .kept .1 .1 .1 .1 .1 .1 .0 in
-    (ready-case (c .before .before .before .before .before .before .before .before .pre) image-bytes message-bytes table filled, (c .before .before .before .before .before .before .before .before .pre .most, omega (arith, ready-most (c .before .before .before .before .before .before .before .before .pre) image-bytes, zeros-length, long), c .before .before .before .before .before .before .before .before .pre .inside, ready-room (c .before .before .before .before .before .before .before .before .pre)))
+    (ready-case (start .pre) image-bytes message-bytes table filled, (start .pre .most, omega (arith, ready-most (start .pre) image-bytes, zeros-length, long), start .pre .inside, ready-room (start .pre)))
 
 same-length : tie.Need-same-length
 same-length c = search needs
@@ -35,8 +37,9 @@ same-length c = search needs
 returns : tie.Need-returns
 returns c =
     λ k.
-    let image-bytes = bytes-known (c .before .before .before .before .before .before .before .before .before .before .before .args .image .now) (c .before .before .before .before .before .before .before .before .before .before .shared-slice-known .given) in
-    let message-bytes = bytes-known (c .before .before .before .before .before .before .before .before .before .before .before .args .message .now) (c .before .before .before .before .before .before .before .before .before .shared-slice-known2 .given) in
+    let start = c .before .before .before .before .before .before .before .before .before .before .before in
+    let image-bytes = bytes-known (start .args .image .now) (c .before .before .before .before .before .before .before .before .before .before .shared-slice-known .given) in
+    let message-bytes = bytes-known (start .args .message .now) (c .before .before .before .before .before .before .before .before .before .shared-slice-known2 .given) in
     let table = c .before .before .before .before .before .before .fill-table .last .1 .1 .1 .1 .1 .1 .0 in
     c .before .before .settle .ensures (ready-case k image-bytes message-bytes table (c .before .before .before .before .before .before .fill-table .ensures (k .register) (k .read) (ready-stand k message-bytes)))
 

@@ -34,22 +34,27 @@ slice-aggregate-read-concept-3 c = search needs
 
 read-concept-requires : tie.Need-read-concept-requires
 read-concept-requires c κs =
-    (inner-here (c .before .before .before .before .before .before .before .args .message .now) (c .before .before .before .before .before .before .before .args .first) (c .before .before .before .before .before .before .before .pre .1 .0 .threshold) (c .before .before .before .before .before .before .before .pre .1 .0 .stands) (c .before .before .before .two .result) (c .before .before .before .two .ensures .0), search needs)
+    let start = c .before .before .before .before .before .before .before in
+    (inner-here (start .args .message .now) (start .args .first) (start .pre .1 .0 .threshold) (start .pre .1 .0 .stands) (c .before .before .before .two .result) (c .before .before .before .two .ensures .0), search needs)
 
 reduce-requires : tie.Need-reduce-requires
 reduce-requires c κs =
-    inner-held (c .before .before .before .before .before .before .before .before .before .before .before .before .before .before .before .args .message .now) (c .before .before .before .before .before .before .before .before .before .before .before .before .before .before .before .args .first) (c .before .before .before .before .before .before .before .before .before .before .before .before .before .before .before .pre .1 .0 .threshold) (c .before .before .before .before .before .before .before .before .before .before .before .before .before .before .before .pre .1 .0 .stands) (c .before .before .before .before .before .before .before .before .before .before .before .two .result) (c .before .before .before .before .before .before .before .before .before .before .before .two .ensures .0) _ _ _ (c .before .before .before .before .before .before .before .read-concept .ensures)
+    let start = c .before .before .before .before .before .before .before .before .before .before .before .before .before .before .before in
+    inner-held (start .args .message .now) (start .args .first) (start .pre .1 .0 .threshold) (start .pre .1 .0 .stands) (c .before .before .before .before .before .before .before .before .before .before .before .two .result) (c .before .before .before .before .before .before .before .before .before .before .before .two .ensures .0) _ _ _ (c .before .before .before .before .before .before .before .read-concept .ensures)
 
 degrees-requires : tie.Need-degrees-requires
 degrees-requires c κs =
-    (inner-case (c .before .before .before .before .before .before .before .before .before .before .before .before .before .before .before .before .before .before .before .before .before .args .message .now) (c .before .before .before .before .before .before .before .before .before .before .before .before .before .before .before .before .before .before .before .before .before .args .first) (c .before .before .before .before .before .before .before .before .before .before .before .before .before .before .before .before .before .before .before .before .before .pre .1 .0 .threshold) (c .before .before .before .before .before .before .before .before .before .before .before .before .before .before .before .before .before .before .before .before .before .pre .1 .0 .stands) (c .before .before .before .before .before .before .before .before .before .before .before .before .before .before .before .before .before .two .result) (c .before .before .before .before .before .before .before .before .before .before .before .before .before .before .before .before .before .two .ensures .0) _ _ _ (c .before .before .before .before .before .before .before .before .before .before .before .before .before .read-concept .ensures) (c .before .before .before .before .before .before .before .before .before .before .before .before .before .before .before .before .before .before .before .before .before .pre .0 .register) (bytes-known (c .before .before .before .before .before .before .before .before .before .before .before .before .before .before .before .before .before .before .before .before .before .args .image .now) (c .before .before .before .before .before .before .before .before .before .before .before .before .before .before .before .before .before .before .before .before .shared-slice-known .given)) (c .before .before .before .before .before .before .before .before .before .before .before .before .before .before .before .before .before .before .before .before .before .pre .0 .read) (c .before .before .before .before .before .before .before .before .before .before .before .before .before .before .before .before .before .before .before .before .before .pre .0 .holds .0) (c .before .before .before .before .before .before .before .before .before .before .before .before .before .before .before .before .before .before .before .before .before .pre .0 .holds .1) _ (c .before .before .before .before .before .reduce .ensures), c .before .before .before .before .before .before .before .before .before .before .before .before .before .before .before .before .before .before .before .before .before .pre .1 .1)
+    let start = c .before .before .before .before .before .before .before .before .before .before .before .before .before .before .before .before .before .before .before .before .before in
+    (inner-case (start .args .message .now) (start .args .first) (start .pre .1 .0 .threshold) (start .pre .1 .0 .stands) (c .before .before .before .before .before .before .before .before .before .before .before .before .before .before .before .before .before .two .result) (c .before .before .before .before .before .before .before .before .before .before .before .before .before .before .before .before .before .two .ensures .0) _ _ _ (c .before .before .before .before .before .before .before .before .before .before .before .before .before .read-concept .ensures) (start .pre .0 .register) (bytes-known (start .args .image .now) (c .before .before .before .before .before .before .before .before .before .before .before .before .before .before .before .before .before .before .before .before .shared-slice-known .given)) (start .pre .0 .read) (start .pre .0 .holds .0) (start .pre .0 .holds .1) _ (c .before .before .before .before .before .reduce .ensures), start .pre .1 .1)
 
 same-length : tie.Need-same-length
 same-length c = search needs
 
 returns : tie.Need-returns
 returns c =
-    λ g e h st. let of = asked-of (c .before .before .before .before .before .before .before .before .before .before .before .before .before .before .before .before .before .before .before .before .before .before .before .before .args .image .now) _ (c .before .before .before .before .before .before .before .before .before .before .before .before .before .before .before .before .before .before .before .before .before .before .before .before .pre .0) g e in c .before .before .degrees .ensures (inner-case (c .before .before .before .before .before .before .before .before .before .before .before .before .before .before .before .before .before .before .before .before .before .before .before .before .args .message .now) (c .before .before .before .before .before .before .before .before .before .before .before .before .before .before .before .before .before .before .before .before .before .before .before .before .args .first) h st (c .before .before .before .before .before .before .before .before .before .before .before .before .before .before .before .before .before .before .before .before .two .result) (c .before .before .before .before .before .before .before .before .before .before .before .before .before .before .before .before .before .before .before .before .two .ensures .0) _ _ _ (c .before .before .before .before .before .before .before .before .before .before .before .before .before .before .before .before .read-concept .ensures) g (bytes-known (c .before .before .before .before .before .before .before .before .before .before .before .before .before .before .before .before .before .before .before .before .before .before .before .before .args .image .now) (c .before .before .before .before .before .before .before .before .before .before .before .before .before .before .before .before .before .before .before .before .before .before .before .shared-slice-known .given)) e (of .0) (of .1) _ (c .before .before .before .before .before .before .before .before .reduce .ensures))
+    λ g e h st.
+    let start = c .before .before .before .before .before .before .before .before .before .before .before .before .before .before .before .before .before .before .before .before .before .before .before .before in
+    let of = asked-of (start .args .image .now) _ (start .pre .0) g e in c .before .before .degrees .ensures (inner-case (start .args .message .now) (start .args .first) h st (c .before .before .before .before .before .before .before .before .before .before .before .before .before .before .before .before .before .before .before .before .two .result) (c .before .before .before .before .before .before .before .before .before .before .before .before .before .before .before .before .before .before .before .before .two .ensures .0) _ _ _ (c .before .before .before .before .before .before .before .before .before .before .before .before .before .before .before .before .read-concept .ensures) g (bytes-known (start .args .image .now) (c .before .before .before .before .before .before .before .before .before .before .before .before .before .before .before .before .before .before .before .before .before .before .before .shared-slice-known .given)) e (of .0) (of .1) _ (c .before .before .before .before .before .before .before .before .reduce .ensures))
 
 pub grade-spec : {M : Type 1} → statement M
 grade-spec =

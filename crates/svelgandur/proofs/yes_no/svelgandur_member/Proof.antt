@@ -3,9 +3,11 @@
 use borrow.Author.Needs.{needs}
 use Rattle.svelgandur.proofs.yes_no.svelgandur_member.Statement.{statement}
 use Rattle.svelgandur.proofs.yes_no.svelgandur_member.Tie as tie
+use native.Mathlib.Omega.{arith}
 use mathlib.Core.Path.{_≡_, sym, _∙_, ap}
 use Rattle.member.specs.Call.{paper}
-use Rattle.svelgandur.specs.Numbers.{numbers, verdicts}
+use Rattle.svelgandur.specs.Numbers.{four, numbers, verdicts}
+use Rattle.svelgandur.proofs.Numbers.{four-same}
 
 decide-requires : tie.Need-decide-requires
 decide-requires c κs = search needs
@@ -33,21 +35,27 @@ same-length c = search needs
 
 returns : tie.Need-returns
 returns c =
-    (c .put .ensures ∙ ap (numbers verdicts) (sym (ap paper (c .before .before .before .r .given .1)) ∙ c .before .before .before .before .before .before .before .decide .ensures .0), c .before .before .before .before .before .before .before .decide .ensures .1)
+    let nodes = c .before .before .before .r .given .0 .0 in
+    let decided = c .before .before .before .before .before .before .before .decide in
+    let written : _ ≡ four 1 nodes 0 0 = c .put .ensures ∙ four-same (omega arith) (omega arith) (omega arith) (omega arith) in
+    (written ∙ ap (numbers verdicts) (sym (ap paper (c .before .before .before .r .given .1)) ∙ decided .ensures .0), decided .ensures .1)
 
 same-length-2 : tie.Need-same-length-2
 same-length-2 c = search needs
 
 returns-2 : tie.Need-returns-2
 returns-2 c =
-    (c .put2 .ensures ∙ ap (numbers verdicts) (sym (ap paper (c .before .before .enum-told .given .1)) ∙ c .before .before .before .before .before .before .decide .ensures .0), c .before .before .before .before .before .before .decide .ensures .1)
+    let decided = c .before .before .before .before .before .before .decide in
+    let written : _ ≡ four 2 0 0 0 = c .put2 .ensures ∙ four-same (omega arith) (omega arith) (omega arith) (omega arith) in
+    (written ∙ ap (numbers verdicts) (sym (ap paper (c .before .before .enum-told .given .1)) ∙ decided .ensures .0), decided .ensures .1)
 
 same-length-3 : tie.Need-same-length-3
 same-length-3 c = search needs
 
 returns-3 : tie.Need-returns-3
 returns-3 c =
-    (c .refuse .ensures ∙ ap (numbers verdicts) (sym (ap paper (c .before .before .before .r2 .given .1)) ∙ c .before .before .before .before .before .before .before .decide .ensures .0), c .before .before .before .before .before .before .before .decide .ensures .1)
+    let decided = c .before .before .before .before .before .before .before .decide in
+    (c .refuse .ensures ∙ ap (numbers verdicts) (sym (ap paper (c .before .before .before .r2 .given .1)) ∙ decided .ensures .0), decided .ensures .1)
 
 pub svelgandur-member-spec : {M : Type 1} → statement M
 svelgandur-member-spec =

@@ -1,14 +1,14 @@
--- A set of names as the code changes it.
+-- A set of names as code changes it: the bit of a name is added or taken away.
 -- Assumes nothing.
-use mathlib.Core.Path.{_≡_, refl, sym, ap, ap₂, _∙_, subst}
+use mathlib.Core.Path.{_≡_, sym, ap, _∙_, subst}
 use mathlib.Core.Bool.{Bool, true, false, cond}
 use Prim.Native.Nat.{ℕ, _+_, _*_, _-_, _%_, _^_, _≤_, _<_}
 use native.Mathlib.Omega.{arith}
 use lib.Dec.{lit≤}
 use lib.Pow.{shl-exact}
 use Rattle.meaning.specs.Names.{has}
 use Rattle.meaning.specs.Session.{withName}
 use Rattle.meaning.proofs.SessionNames.{with-below, has-part}
 
 -- 1 moved to the place of the name
 abbrev pub bitAt : ℕ → ℕ
