@@ -40,6 +40,7 @@ use Rattle.degree.specs.Case.{Case, mostScale}
 use Rattle.degree.specs.Given.{drawn, Graded}
 use Rattle.degree.specs.Asked.{Rows, readBoth, BothGood, BothOutcome, BothDone}
 use Rattle.degree.specs.Answers.{Told, paper, told, degreeRefused, paperMargin, marginOf, marginRefused}
+use Rattle.degree.specs.Table.{DegreePromise, MarginPromise}
 use Rattle.degree.proofs.Entry.{case-of, scale-small, graded-answer}
 
 pub lawful-bounds : (p q : ℕ) → T (lawful p q) → (p ≤ q) × (q ≤ mostQ)
@@ -81,11 +82,10 @@ marginNext item p q g t = inRange g item >> marginThen item p q g t
 module _ (image message : List ℕ) (item : ℕ) where
   -- the answer and the lent map afterwards
   abbrev DegreeDone : Answered → List ℕ → List ℕ → Type 0
-  DegreeDone r old new =
-      (paper r ≡ told (degreeCall image message item (length old))) × (new ≡ afterDegree old (degreeCall image message item (length old)))
+  DegreeDone r old new = DegreePromise image message item old new r
 
   abbrev MarginDone : ℕ → ℕ → Margin → Type 0
-  MarginDone p q r = paperMargin r ≡ marginCall image message item p q
+  MarginDone p q r = MarginPromise image message item p q r
 
   degree-no : (old : List ℕ) (f : Refusal) (r : Answered) → degreeCall image message item (length old) ≡ refused f → r ≡ RefusedDegree f → DegreeDone r old old
   unfolding told _>>=_
