@@ -1,11 +1,10 @@
 -- The two calls, of a register and a plain requirement that were read or refused: each test's refusal in the document's order, and the answers.
 -- Assumes nothing.
-use mathlib.Core.Path.{_≡_, refl, sym, ap, ap₂, subst, _∙_}
+use mathlib.Core.Path.{_≡_, refl, sym, ap, ap₂, _∙_}
 use mathlib.Core.Bool.{Bool, true, false, _&&_, not}
 use mathlib.Core.List.{List, map}
 use mathlib.Core.Option.{some}
 use Prim.Native.Nat.{ℕ, _≤_, _<_}
-use native.Mathlib.Nat.{le-trans}
 use native.Mathlib.Omega.{arith}
 use lib.Dec.{T, ltb, leb, eqb, leb→le}
 use lib.ListN.{length, getD, length-map}
@@ -14,7 +13,6 @@ use Rattle.meaning.specs.Refusal.{Answer, good, refused, onCall, refuseIf, _>>=
 use Rattle.meaning.specs.Bytes.{Bytes}
 use Rattle.meaning.specs.Tree.{Concept, nodes}
 use Rattle.meaning.specs.Register.{Register, judged, readRegister}
-use Rattle.meaning.specs.Reduce.{reduce}
 use Rattle.meaning.specs.Fraction.{Frac, _//_, gcd, lowest, margin, marginOver}
 use Rattle.meaning.specs.Degree.{degreeOf, answered}
 use Rattle.meaning.specs.Message.{mostQ, lawful}

@@ -7,7 +7,7 @@ use mathlib.Core.Logic.{_↔_, _⊎_, inl, inr}
 use mathlib.Core.Bool.{Bool, true, false, not}
 use mathlib.Core.List.{List, [], _∷_, _++_}
 use mathlib.Core.Option.{some}
-use Prim.Native.Nat.{ℕ, _≤_, _<_, _∣_}
+use Prim.Native.Nat.{ℕ, _≤_, _∣_}
 use native.Mathlib.Nat.{dvd-refl}
 use native.Mathlib.Omega.{arith}
 use lib.Dec.{ltb, ltb→lt}
@@ -15,11 +15,11 @@ use lib.IntN.{ℤ, pos, natAbs}
 use lib.ListN.{length, length-map}
 use lib.Seq.{sets}
 use Rattle.meaning.specs.declared.Refusal.{Refusal}
-use Rattle.meaning.specs.Refusal.{Answer, good, refused, onCall, refuseIf, _>>=_, _>>_}
+use Rattle.meaning.specs.Refusal.{Answer, good, refused, onCall, _>>=_, _>>_}
 use Rattle.meaning.specs.Bytes.{Bytes}
 use Rattle.meaning.specs.Tree.{Concept, nodes, roleAt, subtree}
 use Rattle.meaning.specs.Graph.{Graph}
-use Rattle.meaning.specs.Register.{Register, judged}
+use Rattle.meaning.specs.Register.{judged}
 use Rattle.meaning.specs.Whole.{WholeMap, held}
 use Rattle.meaning.specs.Fraction.{Frac, _//_, Same, Lowest, margin, marginOver, Comparison, compares}
 use Rattle.meaning.specs.Partial.{IsDegree}

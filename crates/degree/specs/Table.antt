@@ -8,7 +8,7 @@ use Prim.Native.Nat.{ℕ, _≤_, _<_}
 use lib.ListN.{length}
 use Rattle.meaning.specs.declared.Side.the-variants.{Requirement as requirement}
 use Rattle.meaning.specs.declared.Refusal.{Refusal}
-use Rattle.meaning.specs.Refusal.{Answer, good, refused, at, onCall}
+use Rattle.meaning.specs.Refusal.{good, refused, at, onCall}
 use Rattle.meaning.specs.Tree.{nodes}
 use Rattle.meaning.specs.Register.{Register, readRegister}
 use Rattle.meaning.specs.Reduce.{reduce, size, mostSize}
