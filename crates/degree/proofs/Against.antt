@@ -2,18 +2,16 @@
 -- Assumes nothing.
 use mathlib.Core.Path.{_≡_, refl, sym, ap, ap₂, subst, _∙_}
 use mathlib.Core.Bool.{Bool, true, false, cond}
-use Prim.Native.Nat.{ℕ, zero, suc, _+_, _*_, _-_, _^_, _≤_, _<_}
+use Prim.Native.Nat.{ℕ, zero, suc, _*_, _-_, _≤_}
 use native.Mathlib.Nat.{le-trans, mul-le-mul}
 use native.Mathlib.Omega.{arith}
-use lib.Dec.{ltb, ltb→lt, nltb→le}
+use lib.Dec.{ltb}
 use lib.IntN.{ℤ, pos, negsuc, subℕ, _-ℤ_}
-use lib.Signed.{mag}
 use mir.Syntax.{w64}
 use mir.Val.{SFits, toZ, ofZ, sel}
 use mir.Facts.{toZ-ofZ}
 use Rattle.meaning.specs.Fraction.{_//_}
 use Rattle.meaning.specs.Message.{mostQ}
-use Rattle.meaning.proofs.Tests.{holds, fails}
 use Rattle.meaning.proofs.Reading.{below, not-below}
 use Rattle.degree.specs.declared.call.Margin.the-variants.{Good as GoodMargin}
 use Rattle.degree.specs.Case.{mostScale}

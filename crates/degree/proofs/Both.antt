@@ -1,7 +1,6 @@
 -- A register that was read, and then a plain requirement: what the calls are asked of.
 -- Assumes nothing.
 use mathlib.Core.Path.{_≡_, refl, sym, ap, subst, _∙_}
-use mathlib.Core.Bool.{false}
 use mathlib.Core.List.{List}
 use Prim.Native.Nat.{ℕ}
 use native.Mathlib.Omega.{arith}
@@ -18,7 +17,7 @@ use Rattle.register.specs.Reading.{Counts, paper, counted}
 use Rattle.degree.specs.declared.call.Plain.{Plain}
 use Rattle.degree.specs.declared.call.Plain.the-variants.{Good as GoodPlain, Refused as RefusedPlain}
 use Rattle.degree.specs.declared.call.Both.the-variants.{Good as GoodBoth, Refused as RefusedBoth}
-use Rattle.degree.specs.Asked.{Rows, PlainOutcome, PlainDone, readBoth, BothGood, BothOutcome, BothDone}
+use Rattle.degree.specs.Asked.{Rows, PlainOutcome, PlainDone, readBoth, BothOutcome, BothDone}
 
 module _ (image message : List ℕ) (r : Reading) (says : paper r ≡ counted (readRegister image)) where
   pub register-refused : (A : Rows) (f : Refusal) → r ≡ RefusedReading f → BothDone image message A (RefusedBoth f)

@@ -1,11 +1,10 @@
 -- The two calls, of a register and a plain requirement that were read or refused: each test's refusal in the document's order, and the answers.
 -- Assumes nothing.
-use mathlib.Core.Path.{_≡_, refl, sym, ap, ap₂, subst, _∙_}
+use mathlib.Core.Path.{_≡_, refl, sym, ap, ap₂, _∙_}
 use mathlib.Core.Bool.{Bool, true, false, _&&_, not}
 use mathlib.Core.List.{List, map}
 use mathlib.Core.Option.{some}
 use Prim.Native.Nat.{ℕ, _≤_, _<_}
-use native.Mathlib.Nat.{le-trans}
 use native.Mathlib.Omega.{arith}
 use lib.Dec.{T, ltb, leb, eqb, leb→le}
 use lib.ListN.{length, getD, length-map}
@@ -14,7 +13,6 @@ use Rattle.meaning.specs.Refusal.{Answer, good, refused, onCall, refuseIf, _>>=
 use Rattle.meaning.specs.Bytes.{Bytes}
 use Rattle.meaning.specs.Tree.{Concept, nodes}
 use Rattle.meaning.specs.Register.{Register, judged, readRegister}
-use Rattle.meaning.specs.Reduce.{reduce}
 use Rattle.meaning.specs.Fraction.{Frac, _//_, gcd, lowest, margin, marginOver}
 use Rattle.meaning.specs.Degree.{degreeOf, answered}
 use Rattle.meaning.specs.Message.{mostQ, lawful}
@@ -40,6 +38,7 @@ use Rattle.degree.specs.Case.{Case, mostScale}
 use Rattle.degree.specs.Given.{drawn, Graded}
 use Rattle.degree.specs.Asked.{Rows, readBoth, BothGood, BothOutcome, BothDone}
 use Rattle.degree.specs.Answers.{Told, paper, told, degreeRefused, paperMargin, marginOf, marginRefused}
+use Rattle.degree.specs.Table.{DegreePromise, MarginPromise}
 use Rattle.degree.proofs.Entry.{case-of, scale-small, graded-answer}
 
 pub lawful-bounds : (p q : ℕ) → T (lawful p q) → (p ≤ q) × (q ≤ mostQ)
@@ -81,11 +80,10 @@ marginNext item p q g t = inRange g item >> marginThen item p q g t
 module _ (image message : List ℕ) (item : ℕ) where
   -- the answer and the lent map afterwards
   abbrev DegreeDone : Answered → List ℕ → List ℕ → Type 0
-  DegreeDone r old new =
-      (paper r ≡ told (degreeCall image message item (length old))) × (new ≡ afterDegree old (degreeCall image message item (length old)))
+  DegreeDone r old new = DegreePromise image message item old new r
 
   abbrev MarginDone : ℕ → ℕ → Margin → Type 0
-  MarginDone p q r = paperMargin r ≡ marginCall image message item p q
+  MarginDone p q r = MarginPromise image message item p q r
 
   degree-no : (old : List ℕ) (f : Refusal) (r : Answered) → degreeCall image message item (length old) ≡ refused f → r ≡ RefusedDegree f → DegreeDone r old old
   unfolding told _>>=_

@@ -1,9 +1,8 @@
 -- A message that was read into rows, and then 11, the drop rule and 14: the plain requirement that the document reads.
 -- Assumes nothing.
 use mathlib.Core.Path.{_≡_, refl, sym, ap, subst, _∙_}
-use mathlib.Core.Bool.{Bool, true, false}
 use mathlib.Core.List.{List, [], _∷_}
-use Prim.Native.Nat.{ℕ, suc, _≤_, _<_}
+use Prim.Native.Nat.{ℕ, _≤_, _<_}
 use native.Mathlib.Omega.{arith}
 use lib.Dec.{ltb}
 use lib.ListN.{length, getD}
@@ -17,7 +16,7 @@ use Rattle.meaning.specs.Requirement.{Requirement, bare}
 use Rattle.meaning.specs.Message.{Part, readRequirement}
 use Rattle.meaning.specs.Rows.{Holds, Marked}
 use Rattle.meaning.specs.Calls.{firstPart, readPlain}
-use Rattle.meaning.proofs.Reading.{took, stopped, halted, pass, stop, below, not-below}
+use Rattle.meaning.proofs.Reading.{took, stopped, pass, stop, below, not-below}
 use Rattle.meaning.proofs.InPlace.{size-in}
 use Rattle.meaning.proofs.Rows.{holds-nodes, holds-ended}
 use Rattle.reduction.specs.Held.{Held}

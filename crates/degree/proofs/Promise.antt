@@ -7,7 +7,7 @@ use mathlib.Core.Logic.{_↔_, _⊎_, inl, inr}
 use mathlib.Core.Bool.{Bool, true, false, not}
 use mathlib.Core.List.{List, [], _∷_, _++_}
 use mathlib.Core.Option.{some}
-use Prim.Native.Nat.{ℕ, _≤_, _<_, _∣_}
+use Prim.Native.Nat.{ℕ, _≤_, _∣_}
 use native.Mathlib.Nat.{dvd-refl}
 use native.Mathlib.Omega.{arith}
 use lib.Dec.{ltb, ltb→lt}
@@ -15,11 +15,11 @@ use lib.IntN.{ℤ, pos, natAbs}
 use lib.ListN.{length, length-map}
 use lib.Seq.{sets}
 use Rattle.meaning.specs.declared.Refusal.{Refusal}
-use Rattle.meaning.specs.Refusal.{Answer, good, refused, onCall, refuseIf, _>>=_, _>>_}
+use Rattle.meaning.specs.Refusal.{Answer, good, refused, onCall, _>>=_, _>>_}
 use Rattle.meaning.specs.Bytes.{Bytes}
 use Rattle.meaning.specs.Tree.{Concept, nodes, roleAt, subtree}
 use Rattle.meaning.specs.Graph.{Graph}
-use Rattle.meaning.specs.Register.{Register, judged}
+use Rattle.meaning.specs.Register.{judged}
 use Rattle.meaning.specs.Whole.{WholeMap, held}
 use Rattle.meaning.specs.Fraction.{Frac, _//_, Same, Lowest, margin, marginOver, Comparison, compares}
 use Rattle.meaning.specs.Partial.{IsDegree}
@@ -125,7 +125,7 @@ module _ (image message : List ℕ) (item : ℕ) where
   module _ (old new : List ℕ) (r : Answered) (h : DegreePromise image message item old new r) where
     row-result : (f : Refusal) → DegreeRow image message item (length old) f → r ≡ RefusedDegree f
     unfolding told _>>=_
-    row-result f x = paper-one r (RefusedDegree f) (h .answer ∙ ap told (degree-row (length old) f x))
+    row-result f x = paper-one r (RefusedDegree f) (h .0 ∙ ap told (degree-row (length old) f x))
 
     taken-result : (x : DegreeTakes image message item (length old))
         → r ≡ GoodDegree (found (length old) (x .ready) .degree .num) (found (length old) (x .ready) .degree .den) (nodes (bare (x .ready .tree)))
@@ -134,7 +134,7 @@ module _ (image message : List ℕ) (item : ℕ) where
         let G = judged (x .ready .register) in
         let t = bare (x .ready .tree) in
         let places : length (degreeMap G t item) ≡ nodes t = length-map (shown G t (some item)) markNumber ∙ degree-shows G t item .long in
-        paper-one r _ (h .answer ∙ ap told (degree-taken (length old) x) ∙ ap (λ (k : ℕ). good (record { degree = answered G t item; places = k })) places)
+        paper-one r _ (h .0 ∙ ap told (degree-taken (length old) x) ∙ ap (λ (k : ℕ). good (record { degree = answered G t item; places = k })) places)
 
     -- it is refused exactly when a row of the table holds, and then with that row's number and place; and the map is untouched
     pub refused-exactly : (f : Refusal) → (r ≡ RefusedDegree f) ↔ DegreeRow image message item (length old) f
@@ -149,7 +149,7 @@ module _ (image message : List ℕ) (item : ℕ) where
         go e (inr x) = let z = sym (taken-result x) ∙ e in let y : _≡_ {A = ℕ} 0 1 = cc in absurd (omega arith)
 
     pub refused-keeps : (f : Refusal) → r ≡ RefusedDegree f → new ≡ old
-    refused-keeps f e = h .map ∙ ap (afterDegree old) (degree-row (length old) f (refused-exactly f .0 e))
+    refused-keeps f e = h .1 ∙ ap (afterDegree old) (degree-row (length old) f (refused-exactly f .0 e))
 
     -- and taken exactly when none does
     pub good-exactly : ((n : ℕ) × (d : ℕ) × (k : ℕ) × (r ≡ GoodDegree n d k)) ↔ DegreeTakes image message item (length old)
@@ -187,7 +187,7 @@ module _ (image message : List ℕ) (item : ℕ) where
 
       -- the map shown is a partial map that reaches it, each child at the first successor of greatest degree; places behind it stay
       pub map-says : (new ≡ sets old 0 (degreeMap G t item)) × Shows G t item
-      map-says = (h .map ∙ ap (afterDegree old) (degree-taken (length old) x), degree-shows G t item)
+      map-says = (h .1 ∙ ap (afterDegree old) (degree-taken (length old) x), degree-shows G t item)
 
       -- "A child goes to the lowest-numbered among the successors of greatest degree": the links of an image rise
       pub map-lowest : Bytes image → (p : List ℕ) (k role : ℕ) (s : Concept) (z y : ℕ) → roleAt (reduce t) p k ≡ some role
@@ -198,7 +198,7 @@ module _ (image message : List ℕ) (item : ℕ) where
   -- any two results that the promise allows are equal
   pub one-degree-result : (old new new′ : List ℕ) (r s : Answered) → DegreePromise image message item old new r → DegreePromise image message item old new′ s
       → (r ≡ s) × (new ≡ new′)
-  one-degree-result old new new′ r s h k = (paper-one r s (h .answer ∙ sym (k .answer)), h .map ∙ sym (k .map))
+  one-degree-result old new new′ r s h k = (paper-one r s (h .0 ∙ sym (k .0)), h .1 ∙ sym (k .1))
 
   -- ---- the margin
 

@@ -5,7 +5,7 @@ use mathlib.Core.List.{List}
 use Prim.Native.Nat.{ℕ, _≤_}
 use lib.ListN.{length}
 use Rattle.meaning.specs.declared.Side.the-variants.{Requirement as requirement}
-use Rattle.meaning.specs.Refusal.{Answer, good, refused, at, onCall, _>>=_}
+use Rattle.meaning.specs.Refusal.{Answer, good, refused, at, _>>=_}
 use Rattle.meaning.specs.Tree.{Concept, nodes}
 use Rattle.meaning.specs.Register.{Register, readRegister}
 use Rattle.meaning.specs.Reduce.{mostSize}

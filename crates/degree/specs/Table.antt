@@ -8,7 +8,7 @@ use Prim.Native.Nat.{ℕ, _≤_, _<_}
 use lib.ListN.{length}
 use Rattle.meaning.specs.declared.Side.the-variants.{Requirement as requirement}
 use Rattle.meaning.specs.declared.Refusal.{Refusal}
-use Rattle.meaning.specs.Refusal.{Answer, good, refused, at, onCall}
+use Rattle.meaning.specs.Refusal.{good, refused, at, onCall}
 use Rattle.meaning.specs.Tree.{nodes}
 use Rattle.meaning.specs.Register.{Register, readRegister}
 use Rattle.meaning.specs.Reduce.{reduce, size, mostSize}
@@ -51,10 +51,10 @@ pub data DegreeRow (image message : List ℕ) (item room : ℕ) (f : Refusal) : 
   earlier : Early image message item f → DegreeRow image message item room f
   noRoom : (x : Ready image message item) → room < nodes (bare (x .tree)) → f ≡ onCall 16 → DegreeRow image message item room f
 
--- what the call promises of its result and of the lent map afterwards
-pub record DegreePromise (image message : List ℕ) (item : ℕ) (old new : List ℕ) (r : Answered) : Type 0 where
-  pub answer : paper r ≡ told (degreeCall image message item (length old))
-  pub map : new ≡ afterDegree old (degreeCall image message item (length old))
+-- what the call promises of its result and of the lent map afterwards, as its contract words it
+abbrev pub DegreePromise : List ℕ → List ℕ → ℕ → List ℕ → List ℕ → Answered → Type 0
+DegreePromise image message item old new r =
+    (paper r ≡ told (degreeCall image message item (length old))) × (new ≡ afterDegree old (degreeCall image message item (length old)))
 
 -- ---- the margin
 

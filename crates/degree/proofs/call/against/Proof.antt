@@ -4,7 +4,7 @@ use borrow.Author.Needs.{needs}
 use Rattle.degree.proofs.call.against.Statement.{statement}
 use Rattle.degree.proofs.call.against.Tie as tie
 use native.Mathlib.Omega.{arith}
-use Rattle.degree.proofs.Against.{Products, products, margin-is}
+use Rattle.degree.proofs.Against.{products, margin-is}
 
 mul-difference : tie.Need-mul-difference
 mul-difference c =
