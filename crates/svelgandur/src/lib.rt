@@ -5,9 +5,9 @@ use register::Reading;
 use requirement::Message;
 
 mod answer;
+mod degrees;
 mod trial;
 pub mod yes_no;
-mod degrees;
 
 ghost use mathlib.Core.Path.{_≡_};
 ghost use Rattle.meaning.specs.Register.{readRegisterBy};
