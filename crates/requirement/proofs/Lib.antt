@@ -7,3 +7,4 @@ pub mod Bare
 pub mod Whole
 pub mod Inner
 pub mod Concept
+pub mod Turns

@@ -1,5 +1,6 @@
 // Reading a requirement message: its nodes into rows in reading order, its thresholds into rows of their own.
-// The readers of node, thresholds and children call each other in a cycle, and the bytes left fall at each turn.
+// The readers of node, thresholds and children call each other in a cycle, and the bytes left fall at each turn. What stands side by side, children
+// and thresholds, is read in a loop, so that the stack grows with the depth alone.
 use fields::Head;
 use meaning::Refusal;
 use meaning::Side;
@@ -280,64 +281,59 @@ fn read_children(
         (arrays (now (names .entry)) (now (roles .entry)) (now (ends .entry)) (now (owners .entry)) (now (firsts .entry)))
         (arrays (now (names .exit)) (now (roles .exit)) (now (ends .exit)) (now (owners .exit)) (now (firsts .exit))) r ⌝ }
 {
-    if count == 0 {
-        return Read::Good {
-            next: at,
-            nodes: n,
-            parts,
-        };
-    }
-    if end - at < 1 {
-        return Read::Refused {
-            number: 1,
-            place: at,
-        };
-    }
-    let role = s[at];
-    if 31 < role {
-        return Read::Refused {
-            number: 7,
-            place: at,
-        };
-    }
-    let t = read_node(
-        s,
-        end,
-        at + 1,
-        left,
-        inner,
-        role,
-        n,
-        parts,
-        names,
-        roles,
-        ends,
-        owners,
-        firsts,
-    );
-    match t {
-        Read::Good {
-            next,
-            nodes,
-            parts: more,
-        } => {
-            read_children(
-                s,
-                end,
-                next,
-                left,
-                inner,
-                count - 1,
-                nodes,
-                more,
-                names,
-                roles,
-                ends,
-                owners,
-                firsts,
-            )
+    let mut here = at;
+    let mut rows = n;
+    let mut found = parts;
+    let mut k = count;
+    while 0 < k {
+        if end - here < 1 {
+            return Read::Refused {
+                number: 1,
+                place: here,
+            };
         }
-        Read::Refused { number, place } => Read::Refused { number, place },
+        let role = s[here];
+        if 31 < role {
+            return Read::Refused {
+                number: 7,
+                place: here,
+            };
+        }
+        let t = read_node(
+            s,
+            end,
+            here + 1,
+            left,
+            inner,
+            role,
+            rows,
+            found,
+            names,
+            roles,
+            ends,
+            owners,
+            firsts,
+        );
+        match t {
+            Read::Good {
+                next,
+                nodes,
+                parts: more,
+            } => {
+                here = next;
+                rows = nodes;
+                found = more;
+                k -= 1;
+            }
+            Read::Refused { number, place } => {
+                return Read::Refused { number, place };
+            }
+        }
+    }
+    Read::Good {
+        next: here,
+        nodes: rows,
+        parts: found,
     }
 }
 
@@ -357,21 +353,30 @@ fn read_thresholds(
     ensures { λ r. ⌜ ThresholdsDone (now (s .entry)) end owner count at parts
         (parted (now (owners .entry)) (now (firsts .entry))) (parted (now (owners .exit)) (now (firsts .exit))) r ⌝ }
 {
-    if count == 0 {
-        return Read::Good {
-            next: at,
-            nodes: 0,
-            parts,
-        };
+    let mut here = at;
+    let mut found = parts;
+    let mut k = count;
+    while 0 < k {
+        let t = read_threshold(s, end, here, owner, found, owners, firsts);
+        match t {
+            Read::Good {
+                next,
+                nodes: _,
+                parts: more,
+            } => {
+                here = next;
+                found = more;
+                k -= 1;
+            }
+            Read::Refused { number, place } => {
+                return Read::Refused { number, place };
+            }
+        }
     }
-    let t = read_threshold(s, end, at, owner, parts, owners, firsts);
-    match t {
-        Read::Good {
-            next,
-            nodes: _,
-            parts: more,
-        } => read_thresholds(s, end, next, owner, count - 1, more, owners, firsts),
-        Read::Refused { number, place } => Read::Refused { number, place },
+    Read::Good {
+        next: here,
+        nodes: 0,
+        parts: found,
     }
 }
 

@@ -41,6 +41,7 @@ use Rattle.requirement.specs.Reading.{InnerDone, Outcome, ThresholdsDone
 use Rattle.requirement.proofs.Outcomes.{is-refused, is-refused-by, parts-is-refused, parts-is-refused-by}
 use Rattle.requirement.proofs.Nodes.{node-cut-end, node-deep, node-many, node-forbidden, children-cut, children-role}
 use Rattle.requirement.proofs.Thresholds.{threshold-many, threshold-cut-end, threshold-rule, threshold-length-cut, threshold-past, inner-refused, inner-left, inner-large, inner-good}
+use Rattle.requirement.proofs.Turns.{Children, child-read, children-begun, Thresholds, threshold-read, thresholds-begun}
 use Rattle.requirement.proofs.Cycle.{some-parts, children-empty, child-stops, child-here, children-then, node-stops, children-here, children-stop, children-end, node-then, thresholds-empty, first-stops, others-here, thresholds-then, inner-stops, threshold-then, rule-kept, rule-broken, rule-above, inner-first, inner-short, inner-rows, inner-big, inner-whole}
 use borrow.Author.Needs.{needs}
 
@@ -123,236 +124,254 @@ read-thresholds-below t =
     (falls 3 read-thresholds-kinds.ps _<_ μ-read-thresholds t)
     read-thresholds.Pre
 
--- src/lib.rt:155:9
-read-children-returns : (t : ℕ) → read-children-lts.Need-returns (
+abbrev read-children-Inv-loop : read-children-lts.InvT-loop
+read-children-Inv-loop s end at left inner count n parts names₀ roles₀ ends₀ owners₀ firsts₀ here₀ rows₀ found₀ k₀ names roles ends owners firsts here rows found k =
+    Children inner s end left count at n parts (arrays names₀ roles₀ ends₀ owners₀ firsts₀) k here rows found (arrays names roles ends owners firsts)
+
+abbrev read-children-μ-loop : read-children-lts.MeasureT-loop
+read-children-μ-loop s end at left inner count n parts names₀ roles₀ ends₀ owners₀ firsts₀ here₀ rows₀ found₀ k₀ names roles ends owners firsts here rows found k =
+    k
+
+read-children-loop-holds : (t : ℕ) → read-children-lts.Need-loop-holds (
   read-node-below t,
   read-node.Post,
-  read-children-below t,
-  read-children.Post,
-) (read-children-at t) read-children.Post
-read-children-returns t c =
-    children-empty (c .before .before .before .before .before .before .before .args .inner) (c .before .before .before .before .before .before .before .args .s .now) (c .before .before .before .before .before .before .before .args .end) (c .before .before .before .before .before .before .before .args .left) (c .before .before .before .before .before .before .before .args .count) (c .before .before .before .before .before .before .before .args .at) (c .before .before .before .before .before .before .before .args .n) (c .before .before .before .before .before .before .before .args .parts) 0 (arrays (c .before .before .before .before .before .before .before .args .names .now) (c .before .before .before .before .before .before .before .args .roles .now) (c .before .before .before .before .before .before .before .args .ends .now) (c .before .before .before .before .before .before .before .args .owners .now) (c .before .before .before .before .before .before .before .args .firsts .now)) (arrays (c .before .before .before .before .before .before .before .args .names .now) (c .before .before .before .before .before .before .before .args .roles .now) (c .before .before .before .before .before .before .before .args .ends .now) (c .before .before .before .before .before .before .before .args .owners .now) (c .before .before .before .before .before .before .before .args .firsts .now)) (Good 0 0 0) (omega arith) (omega arith) (omega arith) (omega arith)
+) (read-children-at t) read-children.Post read-children-Inv-loop read-children-μ-loop
+read-children-loop-holds t c =
+    children-begun _ _ _ _ _ _ _ _ _ (c .before .before .before .before .before .before .pre .1 .0) (c .before .before .before .before .before .before .pre .1 .1)
 
--- src/lib.rt:157:8
-read-children-sub-if2 : (t : ℕ) → read-children-lts.Need-sub-if2 (
+read-children-sub-if1 : (t : ℕ) → read-children-lts.Need-sub-if1 (
   read-node-below t,
   read-node.Post,
-  read-children-below t,
-  read-children.Post,
-) (read-children-at t) read-children.Post
-read-children-sub-if2 t c = search needs
+) (read-children-at t) read-children.Post read-children-Inv-loop read-children-μ-loop
+read-children-sub-if1 t c = search needs
 
--- src/lib.rt:158:9
-read-children-returns-2 : (t : ℕ) → read-children-lts.Need-returns-2 (
-  read-node-below t,
-  read-node.Post,
-  read-children-below t,
-  read-children.Post,
-) (read-children-at t) read-children.Post
-read-children-returns-2 t c =
-    λ ps l h. is-refused _ _ _ _ _ _ _ _ 1 _ (children-cut (c .before .before .before .before .before .before .before .before .args .inner) (c .before .before .before .before .before .before .before .before .args .s .now) (c .before .before .before .before .before .before .before .before .args .end) (c .before .before .before .before .before .before .before .before .args .at) (c .before .before .before .before .before .before .before .before .args .n) ps (c .before .before .before .before .before .before .before .before .args .left) (c .before .before .before .before .before .before .before .before .args .count) (omega arith) (omega arith))
-
--- src/lib.rt:160:16
-read-children-shared-slice-read-role : (t : ℕ) → read-children-lts.Need-shared-slice-read-role (
-  read-node-below t,
-  read-node.Post,
-  read-children-below t,
-  read-children.Post,
-) (read-children-at t) read-children.Post
-read-children-shared-slice-read-role t c = search needs
-
--- src/lib.rt:162:9
-read-children-returns-3 : (t : ℕ) → read-children-lts.Need-returns-3 (
-  read-node-below t,
-  read-node.Post,
-  read-children-below t,
-  read-children.Post,
-) (read-children-at t) read-children.Post
-read-children-returns-3 t c =
-    let e = number-one (c .before .before .before .before .before .before .before .before .before .before .args .s .now) (c .before .before .before .before .before .before .before .before .before .before .args .at) in
-    λ ps l h. is-refused _ _ _ _ _ _ _ _ 7 _ (children-role (c .before .before .before .before .before .before .before .before .before .before .args .inner) (c .before .before .before .before .before .before .before .before .before .before .args .s .now) (c .before .before .before .before .before .before .before .before .before .before .args .end) (c .before .before .before .before .before .before .before .before .before .before .args .at) (c .before .before .before .before .before .before .before .before .before .before .args .n) ps (c .before .before .before .before .before .before .before .before .before .before .args .left) (c .before .before .before .before .before .before .before .before .before .before .args .count) (omega arith) (omega arith) (omega arith))
-
--- src/lib.rt:164:31
-read-children-add-read-node : (t : ℕ) → read-children-lts.Need-add-read-node (
-  read-node-below t,
-  read-node.Post,
-  read-children-below t,
-  read-children.Post,
-) (read-children-at t) read-children.Post
-read-children-add-read-node t c = search needs
-
--- src/lib.rt:164:9
-read-children-read-node-requires : (t : ℕ) → read-children-lts.Need-read-node-requires (
-  read-node-below t,
-  read-node.Post,
-  read-children-below t,
-  read-children.Post,
-) (read-children-at t) read-children.Post
-read-children-read-node-requires t c κs = search needs
-
--- src/lib.rt:166:22
-read-children-enum-known-t : (t : ℕ) → read-children-lts.Need-enum-known-t (
-  read-node-below t,
-  read-node.Post,
-  read-children-below t,
-  read-children.Post,
-) (read-children-at t) read-children.Post
-read-children-enum-known-t t c = search needs
-
--- src/lib.rt:167:54
-read-children-sub-read-children : (t : ℕ) → read-children-lts.Need-sub-read-children (
-  read-node-below t,
-  read-node.Post,
-  read-children-below t,
-  read-children.Post,
-) (read-children-at t) read-children.Post
-read-children-sub-read-children t c = search needs
-
--- src/lib.rt:167:13
-read-children-read-children-requires : (t : ℕ) → read-children-lts.Need-read-children-requires (
-  read-node-below t,
-  read-node.Post,
-  read-children-below t,
-  read-children.Post,
-) (read-children-at t) read-children.Post
-read-children-read-children-requires t c κs =
-    let q = some-parts (c .before .before .before .before .before .before .before .before .before .before .before .before .before .before .before .before .before .before .before .before .before .before .before .before .before .before .before .before .before .before .before .before .before .before .args .owners .now) (c .before .before .before .before .before .before .before .before .before .before .before .before .before .before .before .before .before .before .before .before .before .before .before .before .before .before .before .before .before .before .before .before .before .before .args .firsts .now) (c .before .before .before .before .before .before .before .before .before .before .before .before .before .before .before .before .before .before .before .before .before .before .before .before .before .before .before .before .before .before .before .before .before .before .args .parts) (le-trans (c .before .before .before .before .before .before .before .before .before .before .before .before .before .before .before .before .before .before .before .before .before .before .before .before .before .before .before .before .before .before .before .before .before .before .pre .1 .0 .room) (c .before .before .before .before .before .before .before .before .before .before .before .before .before .before .before .before .before .before .before .before .before .before .before .before .before .before .before .before .before .before .before .before .before .before .pre .1 .1 .parts .owners)) (le-trans (c .before .before .before .before .before .before .before .before .before .before .before .before .before .before .before .before .before .before .before .before .before .before .before .before .before .before .before .before .before .before .before .before .before .before .pre .1 .0 .room) (c .before .before .before .before .before .before .before .before .before .before .before .before .before .before .before .before .before .before .before .before .before .before .before .before .before .before .before .before .before .before .before .before .before .before .pre .1 .1 .parts .firsts)) in
-    let some′ : 0 < c .before .before .before .before .before .before .before .before .before .before .before .before .before .before .before .before .before .before .before .before .before .before .before .before .before .before .before .before .before .before .before .before .before .before .args .count = omega (arith, c .before .before .before .before .before .before .before .before .before .before .before .before .before .before .before .before .before .before .before .before .before .before .before .before .before .before .before .if1 .left) in
-    let fits : c .before .before .before .before .before .before .before .before .before .before .before .before .before .before .before .before .before .before .before .before .before .before .before .before .before .before .before .before .before .before .before .before .before .before .args .at + 1 ≤ c .before .before .before .before .before .before .before .before .before .before .before .before .before .before .before .before .before .before .before .before .before .before .before .before .before .before .before .before .before .before .before .before .before .before .args .end = omega (arith, c .before .before .before .before .before .before .before .before .before .before .before .before .before .before .before .before .before .before .before .before .before .before .before .before .before .before .if2 .left, c .before .before .before .before .before .before .before .before .before .before .before .before .before .before .before .before .before .before .before .before .before .before .before .before .before .before .before .before .before .before .before .before .before .before .pre .1 .0 .before) in
-    let e = number-one (c .before .before .before .before .before .before .before .before .before .before .before .before .before .before .before .before .before .before .before .before .before .before .before .before .before .before .before .before .before .before .before .before .before .before .args .s .now) (c .before .before .before .before .before .before .before .before .before .before .before .before .before .before .before .before .before .before .before .before .before .before .before .before .before .before .before .before .before .before .before .before .before .before .args .at) in
-    let low : number (c .before .before .before .before .before .before .before .before .before .before .before .before .before .before .before .before .before .before .before .before .before .before .before .before .before .before .before .before .before .before .before .before .before .before .args .s .now) (c .before .before .before .before .before .before .before .before .before .before .before .before .before .before .before .before .before .before .before .before .before .before .before .before .before .before .before .before .before .before .before .before .before .before .args .at) 1 ≤ 31 = omega (arith, c .before .before .before .before .before .before .before .before .before .before .before .before .before .before .before .before .before .before .before .before .before .before .before .before .if3 .left) in
-    let b = child-here (c .before .before .before .before .before .before .before .before .before .before .before .before .before .before .before .before .before .before .before .before .before .before .before .before .before .before .before .before .before .before .before .before .before .before .args .inner) (c .before .before .before .before .before .before .before .before .before .before .before .before .before .before .before .before .before .before .before .before .before .before .before .before .before .before .before .before .before .before .before .before .before .before .args .s .now) (c .before .before .before .before .before .before .before .before .before .before .before .before .before .before .before .before .before .before .before .before .before .before .before .before .before .before .before .before .before .before .before .before .before .before .args .end) (c .before .before .before .before .before .before .before .before .before .before .before .before .before .before .before .before .before .before .before .before .before .before .before .before .before .before .before .before .before .before .before .before .before .before .args .left) (c .before .before .before .before .before .before .before .before .before .before .before .before .before .before .before .before .before .before .before .before .before .before .before .before .before .before .before .before .before .before .before .before .before .before .args .count) (c .before .before .before .before .before .before .before .before .before .before .before .before .before .before .before .before .before .before .before .before .before .before .before .before .before .before .before .before .before .before .before .before .before .before .args .at) (c .before .before .before .before .before .before .before .before .before .before .before .before .before .before .before .before .before .before .before .before .before .before .before .before .before .before .before .before .before .before .before .before .before .before .args .n) (c .before .before .before .before .before .before .before .before .before .before .before .before .before .before .before .before .before .before .before .before .before .before .before .before .before .before .before .before .before .before .before .before .before .before .args .parts) (getD (c .before .before .before .before .before .before .before .before .before .before .before .before .before .before .before .before .before .before .before .before .before .before .before .before .before .before .before .before .before .before .before .before .before .before .args .s .now) (c .before .before .before .before .before .before .before .before .before .before .before .before .before .before .before .before .before .before .before .before .before .before .before .before .before .before .before .before .before .before .before .before .before .before .args .at) 0) _ _ _ some′ fits low (sym e) (c .before .before .before .before .before .before .before .before .before .before .before .before .before .before .before .before .before .before .read-node .ensures) _ _ _ (c .before .before .before .before .before .before .t .given .1) (q .0) (q .1) (q .2) in
-    let p = c .before .before .before .before .before .before .before .before .before .before .before .before .before .before .before .before .before .before .before .before .before .before .before .before .before .before .before .before .before .before .before .before .before .before .pre in
-    search needs
-
--- src/lib.rt:169:25
-read-children-enum-known-t-2 : (t : ℕ) → read-children-lts.Need-enum-known-t-2 (
-  read-node-below t,
-  read-node.Post,
-  read-children-below t,
-  read-children.Post,
-) (read-children-at t) read-children.Post
-read-children-enum-known-t-2 t c = search needs
-
--- src/lib.rt:146:1
 read-children-same-length : (t : ℕ) → read-children-lts.Need-same-length (
   read-node-below t,
   read-node.Post,
-  read-children-below t,
-  read-children.Post,
-) (read-children-at t) read-children.Post
-read-children-same-length t c = search needs
+) (read-children-at t) read-children.Post read-children-Inv-loop read-children-μ-loop
+read-children-same-length t c =
+    c .before .before .loop .inv .long .names
 
--- src/lib.rt:146:1
 read-children-same-length-2 : (t : ℕ) → read-children-lts.Need-same-length-2 (
   read-node-below t,
   read-node.Post,
-  read-children-below t,
-  read-children.Post,
-) (read-children-at t) read-children.Post
-read-children-same-length-2 t c = search needs
+) (read-children-at t) read-children.Post read-children-Inv-loop read-children-μ-loop
+read-children-same-length-2 t c =
+    c .before .before .loop .inv .long .roles
 
--- src/lib.rt:146:1
 read-children-same-length-3 : (t : ℕ) → read-children-lts.Need-same-length-3 (
   read-node-below t,
   read-node.Post,
-  read-children-below t,
-  read-children.Post,
-) (read-children-at t) read-children.Post
-read-children-same-length-3 t c = search needs
+) (read-children-at t) read-children.Post read-children-Inv-loop read-children-μ-loop
+read-children-same-length-3 t c =
+    c .before .before .loop .inv .long .ends
 
--- src/lib.rt:146:1
 read-children-same-length-4 : (t : ℕ) → read-children-lts.Need-same-length-4 (
   read-node-below t,
   read-node.Post,
-  read-children-below t,
-  read-children.Post,
-) (read-children-at t) read-children.Post
-read-children-same-length-4 t c = search needs
+) (read-children-at t) read-children.Post read-children-Inv-loop read-children-μ-loop
+read-children-same-length-4 t c =
+    c .before .before .loop .inv .long .parts .owners
 
--- src/lib.rt:146:1
 read-children-same-length-5 : (t : ℕ) → read-children-lts.Need-same-length-5 (
   read-node-below t,
   read-node.Post,
-  read-children-below t,
-  read-children.Post,
-) (read-children-at t) read-children.Post
-read-children-same-length-5 t c = search needs
+) (read-children-at t) read-children.Post read-children-Inv-loop read-children-μ-loop
+read-children-same-length-5 t c =
+    c .before .before .loop .inv .long .parts .firsts
 
--- src/lib.rt:146:1
-read-children-returns-4 : (t : ℕ) → read-children-lts.Need-returns-4 (
+read-children-returns : (t : ℕ) → read-children-lts.Need-returns (
   read-node-below t,
   read-node.Post,
-  read-children-below t,
-  read-children.Post,
-) (read-children-at t) read-children.Post
-read-children-returns-4 t c =
-    let some′ : 0 < c .before .before .before .before .before .before .before .before .before .before .before .before .before .before .before .before .before .before .before .before .before .before .before .before .before .before .before .before .before .before .before .before .before .before .before .before .before .before .before .before .before .before .before .before .before .args .count = omega (arith, c .before .before .before .before .before .before .before .before .before .before .before .before .before .before .before .before .before .before .before .before .before .before .before .before .before .before .before .before .before .before .before .before .before .before .before .before .before .before .if1 .left) in
-    let fits : c .before .before .before .before .before .before .before .before .before .before .before .before .before .before .before .before .before .before .before .before .before .before .before .before .before .before .before .before .before .before .before .before .before .before .before .before .before .before .before .before .before .before .before .before .before .args .at + 1 ≤ c .before .before .before .before .before .before .before .before .before .before .before .before .before .before .before .before .before .before .before .before .before .before .before .before .before .before .before .before .before .before .before .before .before .before .before .before .before .before .before .before .before .before .before .before .before .args .end = omega (arith, c .before .before .before .before .before .before .before .before .before .before .before .before .before .before .before .before .before .before .before .before .before .before .before .before .before .before .before .before .before .before .before .before .before .before .before .before .before .if2 .left, c .before .before .before .before .before .before .before .before .before .before .before .before .before .before .before .before .before .before .before .before .before .before .before .before .before .before .before .before .before .before .before .before .before .before .before .before .before .before .before .before .before .before .before .before .before .pre .1 .0 .before) in
-    let e = number-one (c .before .before .before .before .before .before .before .before .before .before .before .before .before .before .before .before .before .before .before .before .before .before .before .before .before .before .before .before .before .before .before .before .before .before .before .before .before .before .before .before .before .before .before .before .before .args .s .now) (c .before .before .before .before .before .before .before .before .before .before .before .before .before .before .before .before .before .before .before .before .before .before .before .before .before .before .before .before .before .before .before .before .before .before .before .before .before .before .before .before .before .before .before .before .before .args .at) in
-    let low : number (c .before .before .before .before .before .before .before .before .before .before .before .before .before .before .before .before .before .before .before .before .before .before .before .before .before .before .before .before .before .before .before .before .before .before .before .before .before .before .before .before .before .before .before .before .before .args .s .now) (c .before .before .before .before .before .before .before .before .before .before .before .before .before .before .before .before .before .before .before .before .before .before .before .before .before .before .before .before .before .before .before .before .before .before .before .before .before .before .before .before .before .before .before .before .before .args .at) 1 ≤ 31 = omega (arith, c .before .before .before .before .before .before .before .before .before .before .before .before .before .before .before .before .before .before .before .before .before .before .before .before .before .before .before .before .before .before .before .before .before .before .before .if3 .left) in
-    children-then (c .before .before .before .before .before .before .before .before .before .before .before .before .before .before .before .before .before .before .before .before .before .before .before .before .before .before .before .before .before .before .before .before .before .before .before .before .before .before .before .before .before .before .before .before .before .args .inner) (c .before .before .before .before .before .before .before .before .before .before .before .before .before .before .before .before .before .before .before .before .before .before .before .before .before .before .before .before .before .before .before .before .before .before .before .before .before .before .before .before .before .before .before .before .before .args .s .now) (c .before .before .before .before .before .before .before .before .before .before .before .before .before .before .before .before .before .before .before .before .before .before .before .before .before .before .before .before .before .before .before .before .before .before .before .before .before .before .before .before .before .before .before .before .before .args .end) (c .before .before .before .before .before .before .before .before .before .before .before .before .before .before .before .before .before .before .before .before .before .before .before .before .before .before .before .before .before .before .before .before .before .before .before .before .before .before .before .before .before .before .before .before .before .args .left) (c .before .before .before .before .before .before .before .before .before .before .before .before .before .before .before .before .before .before .before .before .before .before .before .before .before .before .before .before .before .before .before .before .before .before .before .before .before .before .before .before .before .before .before .before .before .args .count) (c .before .before .before .before .before .before .before .before .before .before .before .before .before .before .before .before .before .before .before .before .before .before .before .before .before .before .before .before .before .before .before .before .before .before .before .before .before .before .before .before .before .before .before .before .before .args .at) (c .before .before .before .before .before .before .before .before .before .before .before .before .before .before .before .before .before .before .before .before .before .before .before .before .before .before .before .before .before .before .before .before .before .before .before .before .before .before .before .before .before .before .before .before .before .args .n) (c .before .before .before .before .before .before .before .before .before .before .before .before .before .before .before .before .before .before .before .before .before .before .before .before .before .before .before .before .before .before .before .before .before .before .before .before .before .before .before .before .before .before .before .before .before .args .parts) (getD (c .before .before .before .before .before .before .before .before .before .before .before .before .before .before .before .before .before .before .before .before .before .before .before .before .before .before .before .before .before .before .before .before .before .before .before .before .before .before .before .before .before .before .before .before .before .args .s .now) (c .before .before .before .before .before .before .before .before .before .before .before .before .before .before .before .before .before .before .before .before .before .before .before .before .before .before .before .before .before .before .before .before .before .before .before .before .before .before .before .before .before .before .before .before .before .args .at) 0) _ _ _ some′ fits low (sym e) (c .before .before .before .before .before .before .before .before .before .before .before .before .before .before .before .before .before .before .before .before .before .before .before .before .before .before .before .before .before .read-node .ensures) _ _ _ (c .before .before .before .before .before .before .before .before .before .before .before .before .before .before .before .before .before .t .given .1) _ _ (c .before .before .before .before .before .before .before .before .before .before .read-children .ensures)
+) (read-children-at t) read-children.Post read-children-Inv-loop read-children-μ-loop
+read-children-returns t c =
+    c .before .before .loop .inv .rest _ _ (λ ps l h. is-refused _ _ _ _ _ _ _ _ 1 _ (children-cut (c .before .before .before .before .before .before .before .before .before .args .inner) (c .before .before .before .before .before .before .before .before .before .args .s .now) (c .before .before .before .before .before .before .before .before .before .args .end) (c .before .before .loop .here) (c .before .before .loop .rows) ps (c .before .before .before .before .before .before .before .before .before .args .left) (c .before .before .loop .k) (c .before .loop-test .taken) (omega (arith, c .if1 .taken, c .before .before .loop .inv .here .before))))
 
--- src/lib.rt:146:1
+read-children-shared-slice-read-role : (t : ℕ) → read-children-lts.Need-shared-slice-read-role (
+  read-node-below t,
+  read-node.Post,
+) (read-children-at t) read-children.Post read-children-Inv-loop read-children-μ-loop
+read-children-shared-slice-read-role t c =
+    omega (arith, c .before .if1 .left, c .before .before .before .loop .inv .here .before, c .before .before .before .loop .inv .here .inside)
+
 read-children-same-length-6 : (t : ℕ) → read-children-lts.Need-same-length-6 (
   read-node-below t,
   read-node.Post,
-  read-children-below t,
-  read-children.Post,
-) (read-children-at t) read-children.Post
-read-children-same-length-6 t c = search needs
+) (read-children-at t) read-children.Post read-children-Inv-loop read-children-μ-loop
+read-children-same-length-6 t c =
+    c .before .before .before .before .loop .inv .long .names
 
--- src/lib.rt:146:1
 read-children-same-length-7 : (t : ℕ) → read-children-lts.Need-same-length-7 (
   read-node-below t,
   read-node.Post,
-  read-children-below t,
-  read-children.Post,
-) (read-children-at t) read-children.Post
-read-children-same-length-7 t c = search needs
+) (read-children-at t) read-children.Post read-children-Inv-loop read-children-μ-loop
+read-children-same-length-7 t c =
+    c .before .before .before .before .loop .inv .long .roles
 
--- src/lib.rt:146:1
 read-children-same-length-8 : (t : ℕ) → read-children-lts.Need-same-length-8 (
   read-node-below t,
   read-node.Post,
-  read-children-below t,
-  read-children.Post,
-) (read-children-at t) read-children.Post
-read-children-same-length-8 t c = search needs
+) (read-children-at t) read-children.Post read-children-Inv-loop read-children-μ-loop
+read-children-same-length-8 t c =
+    c .before .before .before .before .loop .inv .long .ends
 
--- src/lib.rt:146:1
 read-children-same-length-9 : (t : ℕ) → read-children-lts.Need-same-length-9 (
   read-node-below t,
   read-node.Post,
-  read-children-below t,
-  read-children.Post,
-) (read-children-at t) read-children.Post
-read-children-same-length-9 t c = search needs
+) (read-children-at t) read-children.Post read-children-Inv-loop read-children-μ-loop
+read-children-same-length-9 t c =
+    c .before .before .before .before .loop .inv .long .parts .owners
 
--- src/lib.rt:146:1
 read-children-same-length-10 : (t : ℕ) → read-children-lts.Need-same-length-10 (
   read-node-below t,
   read-node.Post,
-  read-children-below t,
-  read-children.Post,
-) (read-children-at t) read-children.Post
-read-children-same-length-10 t c = search needs
+) (read-children-at t) read-children.Post read-children-Inv-loop read-children-μ-loop
+read-children-same-length-10 t c =
+    c .before .before .before .before .loop .inv .long .parts .firsts
 
--- src/lib.rt:146:1
-read-children-returns-5 : (t : ℕ) → read-children-lts.Need-returns-5 (
+read-children-returns-2 : (t : ℕ) → read-children-lts.Need-returns-2 (
   read-node-below t,
   read-node.Post,
-  read-children-below t,
-  read-children.Post,
-) (read-children-at t) read-children.Post
-read-children-returns-5 t c =
-    let some′ : 0 < c .before .before .before .before .before .before .before .before .before .before .before .before .before .before .before .before .before .before .before .before .before .before .before .before .before .before .before .before .before .args .count = omega (arith, c .before .before .before .before .before .before .before .before .before .before .before .before .before .before .before .before .before .before .before .before .before .before .if1 .left) in
-    let fits : c .before .before .before .before .before .before .before .before .before .before .before .before .before .before .before .before .before .before .before .before .before .before .before .before .before .before .before .before .before .args .at + 1 ≤ c .before .before .before .before .before .before .before .before .before .before .before .before .before .before .before .before .before .before .before .before .before .before .before .before .before .before .before .before .before .args .end = omega (arith, c .before .before .before .before .before .before .before .before .before .before .before .before .before .before .before .before .before .before .before .before .before .if2 .left, c .before .before .before .before .before .before .before .before .before .before .before .before .before .before .before .before .before .before .before .before .before .before .before .before .before .before .before .before .before .pre .1 .0 .before) in
-    let e = number-one (c .before .before .before .before .before .before .before .before .before .before .before .before .before .before .before .before .before .before .before .before .before .before .before .before .before .before .before .before .before .args .s .now) (c .before .before .before .before .before .before .before .before .before .before .before .before .before .before .before .before .before .before .before .before .before .before .before .before .before .before .before .before .before .args .at) in
-    let low : number (c .before .before .before .before .before .before .before .before .before .before .before .before .before .before .before .before .before .before .before .before .before .before .before .before .before .before .before .before .before .args .s .now) (c .before .before .before .before .before .before .before .before .before .before .before .before .before .before .before .before .before .before .before .before .before .before .before .before .before .before .before .before .before .args .at) 1 ≤ 31 = omega (arith, c .before .before .before .before .before .before .before .before .before .before .before .before .before .before .before .before .before .before .before .if3 .left) in
-    child-stops (c .before .before .before .before .before .before .before .before .before .before .before .before .before .before .before .before .before .before .before .before .before .before .before .before .before .before .before .before .before .args .inner) (c .before .before .before .before .before .before .before .before .before .before .before .before .before .before .before .before .before .before .before .before .before .before .before .before .before .before .before .before .before .args .s .now) (c .before .before .before .before .before .before .before .before .before .before .before .before .before .before .before .before .before .before .before .before .before .before .before .before .before .before .before .before .before .args .end) (c .before .before .before .before .before .before .before .before .before .before .before .before .before .before .before .before .before .before .before .before .before .before .before .before .before .before .before .before .before .args .left) (c .before .before .before .before .before .before .before .before .before .before .before .before .before .before .before .before .before .before .before .before .before .before .before .before .before .before .before .before .before .args .count) (c .before .before .before .before .before .before .before .before .before .before .before .before .before .before .before .before .before .before .before .before .before .before .before .before .before .before .before .before .before .args .at) (c .before .before .before .before .before .before .before .before .before .before .before .before .before .before .before .before .before .before .before .before .before .before .before .before .before .before .before .before .before .args .n) (c .before .before .before .before .before .before .before .before .before .before .before .before .before .before .before .before .before .before .before .before .before .before .before .before .before .before .before .before .before .args .parts) (getD (c .before .before .before .before .before .before .before .before .before .before .before .before .before .before .before .before .before .before .before .before .before .before .before .before .before .before .before .before .before .args .s .now) (c .before .before .before .before .before .before .before .before .before .before .before .before .before .before .before .before .before .before .before .before .before .before .before .before .before .before .before .before .before .args .at) 0) _ _ _ some′ fits low (sym e) (c .before .before .before .before .before .before .before .before .before .before .before .before .before .read-node .ensures) _ _ _ (c .before .t2 .given .1)
+) (read-children-at t) read-children.Post read-children-Inv-loop read-children-μ-loop
+read-children-returns-2 t c =
+    let e = number-one (c .before .before .before .before .before .before .before .before .before .before .before .args .s .now) (c .before .before .before .before .loop .here) in
+    c .before .before .before .before .loop .inv .rest _ _ (λ ps l h. is-refused _ _ _ _ _ _ _ _ 7 _ (children-role (c .before .before .before .before .before .before .before .before .before .before .before .args .inner) (c .before .before .before .before .before .before .before .before .before .before .before .args .s .now) (c .before .before .before .before .before .before .before .before .before .before .before .args .end) (c .before .before .before .before .loop .here) (c .before .before .before .before .loop .rows) ps (c .before .before .before .before .before .before .before .before .before .before .before .args .left) (c .before .before .before .before .loop .k) (c .before .before .before .loop-test .taken) (omega (arith, c .before .before .if1 .left, c .before .before .before .before .loop .inv .here .before)) (omega (arith, c .if2 .taken, e))))
 
--- src/lib.rt:237:55
+read-children-add-read-node : (t : ℕ) → read-children-lts.Need-add-read-node (
+  read-node-below t,
+  read-node.Post,
+) (read-children-at t) read-children.Post read-children-Inv-loop read-children-μ-loop
+read-children-add-read-node t c =
+    omega (arith, c .before .before .if1 .left, c .before .before .before .before .loop .inv .here .before, c .before .before .before .before .loop .inv .here .short)
+
+read-children-read-node-requires : (t : ℕ) → read-children-lts.Need-read-node-requires (
+  read-node-below t,
+  read-node.Post,
+) (read-children-at t) read-children.Post read-children-Inv-loop read-children-μ-loop
+read-children-read-node-requires t c κs = search needs
+
+read-children-enum-known-t : (t : ℕ) → read-children-lts.Need-enum-known-t (
+  read-node-below t,
+  read-node.Post,
+) (read-children-at t) read-children.Post read-children-Inv-loop read-children-μ-loop
+read-children-enum-known-t t c = search needs
+
+read-children-sub-k :
+    (t : ℕ) →
+    read-children-lts.Need-sub-k
+    (read-node-below t, read-node.Post)
+    (read-children-at t)
+    read-children.Post
+    read-children-Inv-loop
+    read-children-μ-loop
+read-children-sub-k t c = search needs
+
+read-children-loop-less : (t : ℕ) → read-children-lts.Need-loop-less (
+  read-node-below t,
+  read-node.Post,
+) (read-children-at t) read-children.Post read-children-Inv-loop read-children-μ-loop
+read-children-loop-less t c = search needs
+
+read-children-loop-again : (t : ℕ) → read-children-lts.Need-loop-again (
+  read-node-below t,
+  read-node.Post,
+) (read-children-at t) read-children.Post read-children-Inv-loop read-children-μ-loop
+read-children-loop-again t c =
+    let some′ : 0 < c .before .before .before .before .before .before .before .before .before .before .before .before .before .before .before .before .before .before .before .before .before .before .before .loop .k = c .before .before .before .before .before .before .before .before .before .before .before .before .before .before .before .before .before .before .before .before .before .before .loop-test .taken in
+    let fits : c .before .before .before .before .before .before .before .before .before .before .before .before .before .before .before .before .before .before .before .before .before .before .before .loop .here + 1 ≤ c .before .before .before .before .before .before .before .before .before .before .before .before .before .before .before .before .before .before .before .before .before .before .before .before .before .before .before .before .before .before .args .end = omega (arith, c .before .before .before .before .before .before .before .before .before .before .before .before .before .before .before .before .before .before .before .before .before .if1 .left, c .before .before .before .before .before .before .before .before .before .before .before .before .before .before .before .before .before .before .before .before .before .before .before .loop .inv .here .before) in
+    let e = number-one (c .before .before .before .before .before .before .before .before .before .before .before .before .before .before .before .before .before .before .before .before .before .before .before .before .before .before .before .before .before .before .args .s .now) (c .before .before .before .before .before .before .before .before .before .before .before .before .before .before .before .before .before .before .before .before .before .before .before .loop .here) in
+    let low : number (c .before .before .before .before .before .before .before .before .before .before .before .before .before .before .before .before .before .before .before .before .before .before .before .before .before .before .before .before .before .before .args .s .now) (c .before .before .before .before .before .before .before .before .before .before .before .before .before .before .before .before .before .before .before .before .before .before .before .loop .here) 1 ≤ 31 = omega (arith, c .before .before .before .before .before .before .before .before .before .before .before .before .before .before .before .before .before .before .before .if2 .left) in
+    child-read _ _ _ _ _ _ _ _ _ (c .before .before .before .before .before .before .before .before .before .before .before .before .before .before .before .before .before .before .before .before .before .before .before .loop .k) (c .before .before .before .before .before .before .before .before .before .before .before .before .before .before .before .before .before .before .before .before .before .before .before .loop .here) (c .before .before .before .before .before .before .before .before .before .before .before .before .before .before .before .before .before .before .before .before .before .before .before .loop .rows) (c .before .before .before .before .before .before .before .before .before .before .before .before .before .before .before .before .before .before .before .before .before .before .before .loop .found) (getD (c .before .before .before .before .before .before .before .before .before .before .before .before .before .before .before .before .before .before .before .before .before .before .before .before .before .before .before .before .before .before .args .s .now) (c .before .before .before .before .before .before .before .before .before .before .before .before .before .before .before .before .before .before .before .before .before .before .before .loop .here) 0) (arrays (c .before .before .before .before .before .before .before .before .before .before .before .before .before .before .before .before .before .before .before .before .before .before .before .loop .names) (c .before .before .before .before .before .before .before .before .before .before .before .before .before .before .before .before .before .before .before .before .before .before .before .loop .roles) (c .before .before .before .before .before .before .before .before .before .before .before .before .before .before .before .before .before .before .before .before .before .before .before .loop .ends) (c .before .before .before .before .before .before .before .before .before .before .before .before .before .before .before .before .before .before .before .before .before .before .before .loop .owners) (c .before .before .before .before .before .before .before .before .before .before .before .before .before .before .before .before .before .before .before .before .before .before .before .loop .firsts)) _ _ _ _ _ (c .before .before .before .before .before .before .before .before .before .before .before .before .before .before .before .before .before .before .before .before .before .before .before .loop .inv) some′ fits low (sym e) (c .before .before .before .before .before .before .before .before .before .before .before .before .before .read-node .ensures) (c .before .t .given .1) (search needs)
+
+read-children-enum-known-t-2 : (t : ℕ) → read-children-lts.Need-enum-known-t-2 (
+  read-node-below t,
+  read-node.Post,
+) (read-children-at t) read-children.Post read-children-Inv-loop read-children-μ-loop
+read-children-enum-known-t-2 t c = search needs
+
+read-children-same-length-11 : (t : ℕ) → read-children-lts.Need-same-length-11 (
+  read-node-below t,
+  read-node.Post,
+) (read-children-at t) read-children.Post read-children-Inv-loop read-children-μ-loop
+read-children-same-length-11 t c = search needs
+
+read-children-same-length-12 : (t : ℕ) → read-children-lts.Need-same-length-12 (
+  read-node-below t,
+  read-node.Post,
+) (read-children-at t) read-children.Post read-children-Inv-loop read-children-μ-loop
+read-children-same-length-12 t c = search needs
+
+read-children-same-length-13 : (t : ℕ) → read-children-lts.Need-same-length-13 (
+  read-node-below t,
+  read-node.Post,
+) (read-children-at t) read-children.Post read-children-Inv-loop read-children-μ-loop
+read-children-same-length-13 t c = search needs
+
+read-children-same-length-14 : (t : ℕ) → read-children-lts.Need-same-length-14 (
+  read-node-below t,
+  read-node.Post,
+) (read-children-at t) read-children.Post read-children-Inv-loop read-children-μ-loop
+read-children-same-length-14 t c = search needs
+
+read-children-same-length-15 : (t : ℕ) → read-children-lts.Need-same-length-15 (
+  read-node-below t,
+  read-node.Post,
+) (read-children-at t) read-children.Post read-children-Inv-loop read-children-μ-loop
+read-children-same-length-15 t c = search needs
+
+read-children-returns-3 : (t : ℕ) → read-children-lts.Need-returns-3 (
+  read-node-below t,
+  read-node.Post,
+) (read-children-at t) read-children.Post read-children-Inv-loop read-children-μ-loop
+read-children-returns-3 t c =
+    let some′ : 0 < c .before .before .before .before .before .before .before .before .before .before .before .before .before .before .before .before .before .before .before .before .before .before .before .loop .k = c .before .before .before .before .before .before .before .before .before .before .before .before .before .before .before .before .before .before .before .before .before .before .loop-test .taken in
+    let fits : c .before .before .before .before .before .before .before .before .before .before .before .before .before .before .before .before .before .before .before .before .before .before .before .loop .here + 1 ≤ c .before .before .before .before .before .before .before .before .before .before .before .before .before .before .before .before .before .before .before .before .before .before .before .before .before .before .before .before .before .before .args .end = omega (arith, c .before .before .before .before .before .before .before .before .before .before .before .before .before .before .before .before .before .before .before .before .before .if1 .left, c .before .before .before .before .before .before .before .before .before .before .before .before .before .before .before .before .before .before .before .before .before .before .before .loop .inv .here .before) in
+    let e = number-one (c .before .before .before .before .before .before .before .before .before .before .before .before .before .before .before .before .before .before .before .before .before .before .before .before .before .before .before .before .before .before .args .s .now) (c .before .before .before .before .before .before .before .before .before .before .before .before .before .before .before .before .before .before .before .before .before .before .before .loop .here) in
+    let low : number (c .before .before .before .before .before .before .before .before .before .before .before .before .before .before .before .before .before .before .before .before .before .before .before .before .before .before .before .before .before .before .args .s .now) (c .before .before .before .before .before .before .before .before .before .before .before .before .before .before .before .before .before .before .before .before .before .before .before .loop .here) 1 ≤ 31 = omega (arith, c .before .before .before .before .before .before .before .before .before .before .before .before .before .before .before .before .before .before .before .if2 .left) in
+    c .before .before .before .before .before .before .before .before .before .before .before .before .before .before .before .before .before .before .before .before .before .before .before .loop .inv .rest _ _ (child-stops (c .before .before .before .before .before .before .before .before .before .before .before .before .before .before .before .before .before .before .before .before .before .before .before .before .before .before .before .before .before .before .args .inner) (c .before .before .before .before .before .before .before .before .before .before .before .before .before .before .before .before .before .before .before .before .before .before .before .before .before .before .before .before .before .before .args .s .now) (c .before .before .before .before .before .before .before .before .before .before .before .before .before .before .before .before .before .before .before .before .before .before .before .before .before .before .before .before .before .before .args .end) (c .before .before .before .before .before .before .before .before .before .before .before .before .before .before .before .before .before .before .before .before .before .before .before .before .before .before .before .before .before .before .args .left) (c .before .before .before .before .before .before .before .before .before .before .before .before .before .before .before .before .before .before .before .before .before .before .before .loop .k) (c .before .before .before .before .before .before .before .before .before .before .before .before .before .before .before .before .before .before .before .before .before .before .before .loop .here) (c .before .before .before .before .before .before .before .before .before .before .before .before .before .before .before .before .before .before .before .before .before .before .before .loop .rows) (c .before .before .before .before .before .before .before .before .before .before .before .before .before .before .before .before .before .before .before .before .before .before .before .loop .found) (getD (c .before .before .before .before .before .before .before .before .before .before .before .before .before .before .before .before .before .before .before .before .before .before .before .before .before .before .before .before .before .before .args .s .now) (c .before .before .before .before .before .before .before .before .before .before .before .before .before .before .before .before .before .before .before .before .before .before .before .loop .here) 0) _ _ _ some′ fits low (sym e) (c .before .before .before .before .before .before .before .before .before .before .before .before .before .read-node .ensures) _ _ _ (c .before .t2 .given .1))
+
+read-children-same-length-16 : (t : ℕ) → read-children-lts.Need-same-length-16 (
+  read-node-below t,
+  read-node.Post,
+) (read-children-at t) read-children.Post read-children-Inv-loop read-children-μ-loop
+read-children-same-length-16 t c =
+    c .before .loop .inv .long .names
+
+read-children-same-length-17 : (t : ℕ) → read-children-lts.Need-same-length-17 (
+  read-node-below t,
+  read-node.Post,
+) (read-children-at t) read-children.Post read-children-Inv-loop read-children-μ-loop
+read-children-same-length-17 t c =
+    c .before .loop .inv .long .roles
+
+read-children-same-length-18 : (t : ℕ) → read-children-lts.Need-same-length-18 (
+  read-node-below t,
+  read-node.Post,
+) (read-children-at t) read-children.Post read-children-Inv-loop read-children-μ-loop
+read-children-same-length-18 t c =
+    c .before .loop .inv .long .ends
+
+read-children-same-length-19 : (t : ℕ) → read-children-lts.Need-same-length-19 (
+  read-node-below t,
+  read-node.Post,
+) (read-children-at t) read-children.Post read-children-Inv-loop read-children-μ-loop
+read-children-same-length-19 t c =
+    c .before .loop .inv .long .parts .owners
+
+read-children-same-length-20 : (t : ℕ) → read-children-lts.Need-same-length-20 (
+  read-node-below t,
+  read-node.Post,
+) (read-children-at t) read-children.Post read-children-Inv-loop read-children-μ-loop
+read-children-same-length-20 t c =
+    c .before .loop .inv .long .parts .firsts
+
+read-children-returns-4 : (t : ℕ) → read-children-lts.Need-returns-4 (
+  read-node-below t,
+  read-node.Post,
+) (read-children-at t) read-children.Post read-children-Inv-loop read-children-μ-loop
+read-children-returns-4 t c =
+    c .before .loop .inv .rest _ _ (children-empty (c .before .before .before .before .before .before .before .before .args .inner) (c .before .before .before .before .before .before .before .before .args .s .now) (c .before .before .before .before .before .before .before .before .args .end) (c .before .before .before .before .before .before .before .before .args .left) (c .before .loop .k) (c .before .loop .here) (c .before .loop .rows) (c .before .loop .found) 0 (arrays (c .before .loop .names) (c .before .loop .roles) (c .before .loop .ends) (c .before .loop .owners) (c .before .loop .firsts)) (arrays (c .before .loop .names) (c .before .loop .roles) (c .before .loop .ends) (c .before .loop .owners) (c .before .loop .firsts)) (Good 0 0 0) (omega (arith, c .loop-test .left)) (c .before .loop .inv .here .before) (c .before .loop .inv .here .few) (c .before .loop .inv .here .room))
+
 read-inner-slice-aggregate-read-node : (t : ℕ) → read-inner-lts.Need-slice-aggregate-read-node (
   read-node-below t,
   read-node.Post,
@@ -361,7 +380,6 @@ read-inner-slice-aggregate-read-node : (t : ℕ) → read-inner-lts.Need-slice-a
 ) (read-inner-at t) read-inner.Post
 read-inner-slice-aggregate-read-node t c = search needs
 
--- src/lib.rt:237:67
 read-inner-slice-aggregate-read-node-2 : (t : ℕ) → read-inner-lts.Need-slice-aggregate-read-node-2 (
   read-node-below t,
   read-node.Post,
@@ -370,7 +388,6 @@ read-inner-slice-aggregate-read-node-2 : (t : ℕ) → read-inner-lts.Need-slice
 ) (read-inner-at t) read-inner.Post
 read-inner-slice-aggregate-read-node-2 t c = search needs
 
--- src/lib.rt:237:79
 read-inner-slice-aggregate-read-node-3 : (t : ℕ) → read-inner-lts.Need-slice-aggregate-read-node-3 (
   read-node-below t,
   read-node.Post,
@@ -379,7 +396,6 @@ read-inner-slice-aggregate-read-node-3 : (t : ℕ) → read-inner-lts.Need-slice
 ) (read-inner-at t) read-inner.Post
 read-inner-slice-aggregate-read-node-3 t c = search needs
 
--- src/lib.rt:237:90
 read-inner-slice-aggregate-read-node-4 : (t : ℕ) → read-inner-lts.Need-slice-aggregate-read-node-4 (
   read-node-below t,
   read-node.Post,
@@ -388,7 +404,6 @@ read-inner-slice-aggregate-read-node-4 : (t : ℕ) → read-inner-lts.Need-slice
 ) (read-inner-at t) read-inner.Post
 read-inner-slice-aggregate-read-node-4 t c = search needs
 
--- src/lib.rt:237:103
 read-inner-slice-aggregate-read-node-5 : (t : ℕ) → read-inner-lts.Need-slice-aggregate-read-node-5 (
   read-node-below t,
   read-node.Post,
@@ -397,7 +412,6 @@ read-inner-slice-aggregate-read-node-5 : (t : ℕ) → read-inner-lts.Need-slice
 ) (read-inner-at t) read-inner.Post
 read-inner-slice-aggregate-read-node-5 t c = search needs
 
--- src/lib.rt:237:9
 read-inner-read-node-requires : (t : ℕ) → read-inner-lts.Need-read-node-requires (
   read-node-below t,
   read-node.Post,
@@ -406,7 +420,6 @@ read-inner-read-node-requires : (t : ℕ) → read-inner-lts.Need-read-node-requ
 ) (read-inner-at t) read-inner.Post
 read-inner-read-node-requires t c κs = search needs
 
--- src/lib.rt:239:22
 read-inner-enum-known-t : (t : ℕ) → read-inner-lts.Need-enum-known-t (
   read-node-below t,
   read-node.Post,
@@ -415,7 +428,6 @@ read-inner-enum-known-t : (t : ℕ) → read-inner-lts.Need-enum-known-t (
 ) (read-inner-at t) read-inner.Post
 read-inner-enum-known-t t c = search needs
 
--- src/lib.rt:241:17
 read-inner-returns : (t : ℕ) → read-inner-lts.Need-returns (
   read-node-below t,
   read-node.Post,
@@ -425,7 +437,6 @@ read-inner-returns : (t : ℕ) → read-inner-lts.Need-returns (
 read-inner-returns t c =
     inner-short (c .before .before .before .before .before .before .before .before .before .before .before .before .before .before .before .before .args .s .now) (c .before .before .before .before .before .before .before .before .before .before .before .before .before .before .before .before .args .stop) (c .before .before .before .before .before .before .before .before .before .before .before .before .before .before .before .before .args .at) _ _ _ (c .before .before .before .before .before .before .before .before .before .read-node .ensures) _ _ _ (c .before .before .t .given .1) (omega (arith, c .if1 .taken))
 
--- src/lib.rt:243:21
 read-inner-reduced-size-requires : (t : ℕ) → read-inner-lts.Need-reduced-size-requires (
   read-node-below t,
   read-node.Post,
@@ -435,7 +446,6 @@ read-inner-reduced-size-requires : (t : ℕ) → read-inner-lts.Need-reduced-siz
 read-inner-reduced-size-requires t c κs =
     inner-rows (c .before .before .before .before .before .before .before .before .before .before .before .before .before .before .before .before .before .before .before .args .s .now) (c .before .before .before .before .before .before .before .before .before .before .before .before .before .before .before .before .before .before .before .args .stop) (c .before .before .before .before .before .before .before .before .before .before .before .before .before .before .before .before .before .before .before .args .at) _ _ _ (c .before .before .before .before .before .before .before .before .before .before .before .before .read-node .ensures) _ _ _ (c .before .before .before .before .before .t .given .1)
 
--- src/lib.rt:244:17
 read-inner-returns-2 : (t : ℕ) → read-inner-lts.Need-returns-2 (
   read-node-below t,
   read-node.Post,
@@ -445,7 +455,6 @@ read-inner-returns-2 : (t : ℕ) → read-inner-lts.Need-returns-2 (
 read-inner-returns-2 t c =
     inner-big (c .before .before .before .before .before .before .before .before .before .before .before .before .before .before .before .before .before .before .before .before .before .args .s .now) (c .before .before .before .before .before .before .before .before .before .before .before .before .before .before .before .before .before .before .before .before .before .args .stop) (c .before .before .before .before .before .before .before .before .before .before .before .before .before .before .before .before .before .before .before .before .before .args .at) _ _ _ (c .before .before .before .before .before .before .before .before .before .before .before .before .before .before .read-node .ensures) _ _ _ (c .before .before .before .before .before .before .before .t .given .1) (omega (arith, c .before .before .before .before .before .if1 .left)) _ (c .before .reduced-size .ensures .0) (omega (arith, c .if2 .taken))
 
--- src/lib.rt:248:25
 read-inner-enum-known-t-2 : (t : ℕ) → read-inner-lts.Need-enum-known-t-2 (
   read-node-below t,
   read-node.Post,
@@ -454,7 +463,6 @@ read-inner-enum-known-t-2 : (t : ℕ) → read-inner-lts.Need-enum-known-t-2 (
 ) (read-inner-at t) read-inner.Post
 read-inner-enum-known-t-2 t c = search needs
 
--- src/lib.rt:228:1
 read-inner-returns-3 : (t : ℕ) → read-inner-lts.Need-returns-3 (
   read-node-below t,
   read-node.Post,
@@ -464,7 +472,6 @@ read-inner-returns-3 : (t : ℕ) → read-inner-lts.Need-returns-3 (
 read-inner-returns-3 t c =
     inner-whole (c .before .before .before .before .before .before .before .before .before .before .before .before .before .before .before .before .before .before .before .before .before .args .s .now) (c .before .before .before .before .before .before .before .before .before .before .before .before .before .before .before .before .before .before .before .before .before .args .stop) (c .before .before .before .before .before .before .before .before .before .before .before .before .before .before .before .before .before .before .before .before .before .args .at) _ _ _ (c .before .before .before .before .before .before .before .before .before .before .before .before .before .before .read-node .ensures) _ _ _ (c .before .before .before .before .before .before .before .t .given .1) (omega (arith, c .before .before .before .before .before .if1 .left)) _ (c .before .reduced-size .ensures .0) (omega (arith, c .if2 .left))
 
--- src/lib.rt:228:1
 read-inner-returns-4 : (t : ℕ) → read-inner-lts.Need-returns-4 (
   read-node-below t,
   read-node.Post,
@@ -474,7 +481,6 @@ read-inner-returns-4 : (t : ℕ) → read-inner-lts.Need-returns-4 (
 read-inner-returns-4 t c =
     inner-first (c .before .before .before .before .before .before .before .before .before .before .before .before .before .before .before .args .s .now) (c .before .before .before .before .before .before .before .before .before .before .before .before .before .before .before .args .stop) (c .before .before .before .before .before .before .before .before .before .before .before .before .before .before .before .args .at) _ _ _ (c .before .before .before .before .before .before .before .before .read-node .ensures) _ _ (c .before .t2 .given .1)
 
--- src/lib.rt:113:8
 read-node-sub-if1 : (t : ℕ) → read-node-lts.Need-sub-if1 (
   node-cut-reads.Asked,
   node-cut-reads.Learnt,
@@ -491,7 +497,6 @@ read-node-sub-if1 : (t : ℕ) → read-node-lts.Need-sub-if1 (
 ) (read-node-at t) read-node.Post
 read-node-sub-if1 t c = search needs
 
--- src/lib.rt:114:25
 read-node-sub-node-cut : (t : ℕ) → read-node-lts.Need-sub-node-cut (
   node-cut-reads.Asked,
   node-cut-reads.Learnt,
@@ -508,7 +513,6 @@ read-node-sub-node-cut : (t : ℕ) → read-node-lts.Need-sub-node-cut (
 ) (read-node-at t) read-node.Post
 read-node-sub-node-cut t c = search needs
 
--- src/lib.rt:114:9
 read-node-node-cut-requires : (t : ℕ) → read-node-lts.Need-node-cut-requires (
   node-cut-reads.Asked,
   node-cut-reads.Learnt,
@@ -525,7 +529,6 @@ read-node-node-cut-requires : (t : ℕ) → read-node-lts.Need-node-cut-requires
 ) (read-node-at t) read-node.Post
 read-node-node-cut-requires t c κs = search needs
 
--- src/lib.rt:114:9
 read-node-returns : (t : ℕ) → read-node-lts.Need-returns (
   node-cut-reads.Asked,
   node-cut-reads.Learnt,
@@ -545,7 +548,6 @@ read-node-returns t c =
     let h : c .before .before .before .before .before .before .before .before .args .end - c .before .before .before .before .before .before .before .before .args .at < 10 = omega (arith, c .before .if1 .taken) in
     λ ps len held. is-refused-by _ _ _ _ _ _ _ _ _ 1 _ (c .node-cut .ensures) (node-cut-end (c .before .before .before .before .before .before .before .before .args .inner) (c .before .before .before .before .before .before .before .before .args .s .now) (c .before .before .before .before .before .before .before .before .args .end) (c .before .before .before .before .before .before .before .before .args .at) (c .before .before .before .before .before .before .before .before .args .n) ps (c .before .before .before .before .before .before .before .before .args .left) l h)
 
--- src/lib.rt:117:9
 read-node-returns-2 : (t : ℕ) → read-node-lts.Need-returns-2 (
   node-cut-reads.Asked,
   node-cut-reads.Learnt,
@@ -565,7 +567,6 @@ read-node-returns-2 t c =
     let z : c .before .before .before .before .before .before .before .before .args .left ≡ 0 = omega (arith, c .if2 .taken) in
     λ ps l h. is-refused _ _ _ _ _ _ _ _ 9 _ (node-deep (c .before .before .before .before .before .before .before .before .args .inner) (c .before .before .before .before .before .before .before .before .args .s .now) (c .before .before .before .before .before .before .before .before .args .end) (c .before .before .before .before .before .before .before .before .args .at) (c .before .before .before .before .before .before .before .before .args .n) ps fits (c .before .before .before .before .before .before .before .before .args .left) z)
 
--- src/lib.rt:120:9
 read-node-returns-3 : (t : ℕ) → read-node-lts.Need-returns-3 (
   node-cut-reads.Asked,
   node-cut-reads.Learnt,
@@ -586,7 +587,6 @@ read-node-returns-3 t c =
     let many : 64 ≤ c .before .before .before .before .before .before .before .before .before .args .n = omega (arith, c .if3 .taken) in
     λ ps l h. is-refused _ _ _ _ _ _ _ _ 10 _ (node-many (c .before .before .before .before .before .before .before .before .before .args .inner) (c .before .before .before .before .before .before .before .before .before .args .s .now) (c .before .before .before .before .before .before .before .before .before .args .end) (c .before .before .before .before .before .before .before .before .before .args .at) (c .before .before .before .before .before .before .before .before .before .args .n) ps fits (c .before .before .before .before .before .before .before .before .before .args .left) some′ many)
 
--- src/lib.rt:122:32
 read-node-add-one : (t : ℕ) → read-node-lts.Need-add-one (
   node-cut-reads.Asked,
   node-cut-reads.Learnt,
@@ -603,7 +603,6 @@ read-node-add-one : (t : ℕ) → read-node-lts.Need-add-one (
 ) (read-node-at t) read-node.Post
 read-node-add-one t c = search needs
 
--- src/lib.rt:122:9
 read-node-one-requires : (t : ℕ) → read-node-lts.Need-one-requires (
   node-cut-reads.Asked,
   node-cut-reads.Learnt,
@@ -620,7 +619,6 @@ read-node-one-requires : (t : ℕ) → read-node-lts.Need-one-requires (
 ) (read-node-at t) read-node.Post
 read-node-one-requires t c κs = search needs
 
--- src/lib.rt:123:8
 read-node-forbidden-requires : (t : ℕ) → read-node-lts.Need-forbidden-requires (
   node-cut-reads.Asked,
   node-cut-reads.Learnt,
@@ -637,7 +635,6 @@ read-node-forbidden-requires : (t : ℕ) → read-node-lts.Need-forbidden-requir
 ) (read-node-at t) read-node.Post
 read-node-forbidden-requires t c κs = search needs
 
--- src/lib.rt:124:51
 read-node-add-t31 : (t : ℕ) → read-node-lts.Need-add-t31 (
   node-cut-reads.Asked,
   node-cut-reads.Learnt,
@@ -654,7 +651,6 @@ read-node-add-t31 : (t : ℕ) → read-node-lts.Need-add-t31 (
 ) (read-node-at t) read-node.Post
 read-node-add-t31 t c = search needs
 
--- src/lib.rt:124:9
 read-node-returns-4 : (t : ℕ) → read-node-lts.Need-returns-4 (
   node-cut-reads.Asked,
   node-cut-reads.Learnt,
@@ -676,7 +672,6 @@ read-node-returns-4 t c =
     let held = sym (c .before .forbidden .ensures ∙ ap (λ (z : ℕ). c .before .before .before .before .before .before .before .before .before .before .before .before .args .inner && ltb 0 z) (c .before .before .one .ensures .0)) ∙ c .if4 .taken in
     λ ps l h. is-refused _ _ _ _ _ _ _ _ 11 _ (node-forbidden (c .before .before .before .before .before .before .before .before .before .before .before .before .args .inner) (c .before .before .before .before .before .before .before .before .before .before .before .before .args .s .now) (c .before .before .before .before .before .before .before .before .before .before .before .before .args .end) (c .before .before .before .before .before .before .before .before .before .before .before .before .args .at) (c .before .before .before .before .before .before .before .before .before .before .before .before .args .n) ps fits room (c .before .before .before .before .before .before .before .before .before .before .before .before .args .left) some′ held)
 
--- src/lib.rt:126:16
 read-node-eight-requires : (t : ℕ) → read-node-lts.Need-eight-requires (
   node-cut-reads.Asked,
   node-cut-reads.Learnt,
@@ -693,7 +688,6 @@ read-node-eight-requires : (t : ℕ) → read-node-lts.Need-eight-requires (
 ) (read-node-at t) read-node.Post
 read-node-eight-requires t c κs = search needs
 
--- src/lib.rt:126:5
 read-node-mul-names : (t : ℕ) → read-node-lts.Need-mul-names (
   node-cut-reads.Asked,
   node-cut-reads.Learnt,
@@ -710,7 +704,6 @@ read-node-mul-names : (t : ℕ) → read-node-lts.Need-mul-names (
 ) (read-node-at t) read-node.Post
 read-node-mul-names t c = search needs
 
--- src/lib.rt:126:5
 read-node-slice-write-names : (t : ℕ) → read-node-lts.Need-slice-write-names (
   node-cut-reads.Asked,
   node-cut-reads.Learnt,
@@ -727,7 +720,6 @@ read-node-slice-write-names : (t : ℕ) → read-node-lts.Need-slice-write-names
 ) (read-node-at t) read-node.Post
 read-node-slice-write-names t c = search needs
 
--- src/lib.rt:127:5
 read-node-slice-write-roles : (t : ℕ) → read-node-lts.Need-slice-write-roles (
   node-cut-reads.Asked,
   node-cut-reads.Learnt,
@@ -744,7 +736,6 @@ read-node-slice-write-roles : (t : ℕ) → read-node-lts.Need-slice-write-roles
 ) (read-node-at t) read-node.Post
 read-node-slice-write-roles t c = search needs
 
--- src/lib.rt:128:37
 read-node-add-read-thresholds : (t : ℕ) → read-node-lts.Need-add-read-thresholds (
   node-cut-reads.Asked,
   node-cut-reads.Learnt,
@@ -761,7 +752,6 @@ read-node-add-read-thresholds : (t : ℕ) → read-node-lts.Need-add-read-thresh
 ) (read-node-at t) read-node.Post
 read-node-add-read-thresholds t c = search needs
 
--- src/lib.rt:128:9
 read-node-read-thresholds-requires : (t : ℕ) → read-node-lts.Need-read-thresholds-requires (
   node-cut-reads.Asked,
   node-cut-reads.Learnt,
@@ -778,7 +768,6 @@ read-node-read-thresholds-requires : (t : ℕ) → read-node-lts.Need-read-thres
 ) (read-node-at t) read-node.Post
 read-node-read-thresholds-requires t c κs = search needs
 
--- src/lib.rt:130:22
 read-node-enum-known-t : (t : ℕ) → read-node-lts.Need-enum-known-t (
   node-cut-reads.Asked,
   node-cut-reads.Learnt,
@@ -795,7 +784,6 @@ read-node-enum-known-t : (t : ℕ) → read-node-lts.Need-enum-known-t (
 ) (read-node-at t) read-node.Post
 read-node-enum-known-t t c = search needs
 
--- src/lib.rt:131:39
 read-node-add-one-2 : (t : ℕ) → read-node-lts.Need-add-one-2 (
   node-cut-reads.Asked,
   node-cut-reads.Learnt,
@@ -812,7 +800,6 @@ read-node-add-one-2 : (t : ℕ) → read-node-lts.Need-add-one-2 (
 ) (read-node-at t) read-node.Post
 read-node-add-one-2 t c = search needs
 
--- src/lib.rt:131:17
 read-node-one-requires-2 : (t : ℕ) → read-node-lts.Need-one-requires-2 (
   node-cut-reads.Asked,
   node-cut-reads.Learnt,
@@ -829,7 +816,6 @@ read-node-one-requires-2 : (t : ℕ) → read-node-lts.Need-one-requires-2 (
 ) (read-node-at t) read-node.Post
 read-node-one-requires-2 t c κs = search needs
 
--- src/lib.rt:132:49
 read-node-sub-read-children : (t : ℕ) → read-node-lts.Need-sub-read-children (
   node-cut-reads.Asked,
   node-cut-reads.Learnt,
@@ -846,7 +832,6 @@ read-node-sub-read-children : (t : ℕ) → read-node-lts.Need-sub-read-children
 ) (read-node-at t) read-node.Post
 read-node-sub-read-children t c = search needs
 
--- src/lib.rt:132:72
 read-node-add-read-children : (t : ℕ) → read-node-lts.Need-add-read-children (
   node-cut-reads.Asked,
   node-cut-reads.Learnt,
@@ -863,7 +848,6 @@ read-node-add-read-children : (t : ℕ) → read-node-lts.Need-add-read-children
 ) (read-node-at t) read-node.Post
 read-node-add-read-children t c = search needs
 
--- src/lib.rt:132:17
 read-node-read-children-requires : (t : ℕ) → read-node-lts.Need-read-children-requires (
   node-cut-reads.Asked,
   node-cut-reads.Learnt,
@@ -902,7 +886,6 @@ read-node-read-children-requires t c κs =
       ),
     )
 
--- src/lib.rt:134:30
 read-node-enum-known-c : (t : ℕ) → read-node-lts.Need-enum-known-c (
   node-cut-reads.Asked,
   node-cut-reads.Learnt,
@@ -919,7 +902,6 @@ read-node-enum-known-c : (t : ℕ) → read-node-lts.Need-enum-known-c (
 ) (read-node-at t) read-node.Post
 read-node-enum-known-c t c = search needs
 
--- src/lib.rt:135:31
 read-node-cast-ends : (t : ℕ) → read-node-lts.Need-cast-ends (
   node-cut-reads.Asked,
   node-cut-reads.Learnt,
@@ -943,7 +925,6 @@ read-node-cast-ends t c =
     let b = children-end (c .before .before .before .before .before .before .before .before .before .before .before .before .before .before .before .before .before .before .before .before .before .before .before .before .before .before .before .before .before .before .before .before .before .before .before .before .before .before .before .before .before .before .before .args .inner) (c .before .before .before .before .before .before .before .before .before .before .before .before .before .before .before .before .before .before .before .before .before .before .before .before .before .before .before .before .before .before .before .before .before .before .before .before .before .before .before .before .before .before .before .args .s .now) (c .before .before .before .before .before .before .before .before .before .before .before .before .before .before .before .before .before .before .before .before .before .before .before .before .before .before .before .before .before .before .before .before .before .before .before .before .before .before .before .before .before .before .before .args .end) (c .before .before .before .before .before .before .before .before .before .before .before .before .before .before .before .before .before .before .before .before .before .before .before .before .before .before .before .before .before .before .before .before .before .before .before .before .before .before .before .before .before .before .before .args .left) (c .before .before .before .before .before .before .before .before .before .before .before .before .before .before .before .before .before .before .before .before .before .before .before .before .before .before .before .before .before .before .before .before .before .before .before .before .before .before .before .before .before .before .before .args .at) (c .before .before .before .before .before .before .before .before .before .before .before .before .before .before .before .before .before .before .before .before .before .before .before .before .before .before .before .before .before .before .before .before .before .before .before .before .before .before .before .before .before .before .before .args .n) (c .before .before .before .before .before .before .before .before .before .before .before .before .before .before .before .before .before .before .before .before .before .before .before .before .before .before .before .before .before .before .before .before .before .before .before .before .before .before .before .before .before .before .before .args .parts) (c .before .before .before .before .before .before .before .before .before .before .before .before .before .before .before .before .before .before .before .before .before .before .before .before .before .before .before .before .before .before .before .before .before .before .before .before .before .before .before .before .before .before .before .args .role) (c .before .before .before .before .before .before .before .before .before .before .before .before .before .before .before .before .before .before .before .before .before .before .before .before .before .before .before .before .before .before .eight .result) (c .before .before .before .before .before .before .before .before .before .before .before .before .before .before .before .before .before .before .before .before .before .before .before .before .before .before .before .before .before .before .before .before .before .before .before .before .before .before .before .before .before .before .before .args .names .now) (c .before .before .before .before .before .before .before .before .before .before .before .before .before .before .before .before .before .before .before .before .before .before .before .before .before .before .before .before .before .before .before .before .before .before .before .before .before .before .before .before .before .before .before .args .roles .now) (c .before .before .before .before .before .before .before .before .before .before .before .before .before .before .before .before .before .before .before .before .before .before .before .before .before .before .before .before .before .before .before .before .before .before .before .before .before .before .before .before .before .before .before .args .ends .now) (c .before .before .before .before .before .before .before .before .before .before .before .before .before .before .before .before .before .before .before .before .before .before .before .before .before .before .before .before .before .before .before .before .before .before .before .before .before .before .before .before .before .before .before .args .owners .now) (c .before .before .before .before .before .before .before .before .before .before .before .before .before .before .before .before .before .before .before .before .before .before .before .before .before .before .before .before .before .before .before .before .before .before .before .before .before .before .before .before .before .before .before .args .firsts .now) _ _ fits room some′ (c .before .before .before .before .before .before .before .before .before .before .before .before .before .before .before .before .before .before .before .before .before .before .before .before .before .before .before .before .before .before .before .before .before .one .result) (c .before .before .before .before .before .before .before .before .before .before .before .before .before .before .before .before .before .before .before .before .before .before .before .before .before .before .before .before .before .before .before .before .before .one .ensures .0) free (c .before .before .before .before .before .before .before .before .before .before .before .before .before .before .before .before .before .before .before .before .before .before .before .before .before .before .before .before .before .before .eight .ensures) (c .before .before .before .before .before .before .before .before .before .before .before .before .before .before .before .before .before .before .before .before .before .before .before .before .before .before .before .read-thresholds .ensures) _ _ _ (c .before .before .before .before .before .before .before .before .before .before .before .before .before .before .before .before .before .before .before .before .before .t .given .1) _ _ _ _ (c .before .before .before .before .before .before .before .before .before .before .before .before .before .before .before .before .before .before .before .one2 .ensures .0) refl (c .before .before .before .before .before .before .before .before .before .before .before .before .before .read-children .ensures) _ _ _ (c .before .c .given .1) (q .0) (q .1) (q .2) in
     omega (arith, b .1)
 
--- src/lib.rt:135:21
 read-node-slice-write-ends : (t : ℕ) → read-node-lts.Need-slice-write-ends (
   node-cut-reads.Asked,
   node-cut-reads.Learnt,
@@ -961,7 +942,6 @@ read-node-slice-write-ends : (t : ℕ) → read-node-lts.Need-slice-write-ends (
 read-node-slice-write-ends t c =
     omega (arith, c .before .before .before .before .before .before .before .before .before .before .before .before .before .before .before .before .before .before .before .before .before .before .before .before .before .before .before .before .before .before .before .before .before .before .if3 .left, c .before .before .before .before .before .before .before .before .before .before .before .before .before .before .before .before .before .before .before .before .before .before .before .before .before .before .before .before .before .before .before .before .before .before .before .before .before .before .before .before .before .before .before .pre .1 .1 .ends, c .before .before .before .before .before .before .before .before .before .before .before .before .before .read-children .kept .1 .1 .1 .1 .1 .1 .1 .1 .1 .1 .0)
 
--- src/lib.rt:138:33
 read-node-enum-known-c-2 : (t : ℕ) → read-node-lts.Need-enum-known-c-2 (
   node-cut-reads.Asked,
   node-cut-reads.Learnt,
@@ -978,7 +958,6 @@ read-node-enum-known-c-2 : (t : ℕ) → read-node-lts.Need-enum-known-c-2 (
 ) (read-node-at t) read-node.Post
 read-node-enum-known-c-2 t c = search needs
 
--- src/lib.rt:141:25
 read-node-enum-known-t-2 : (t : ℕ) → read-node-lts.Need-enum-known-t-2 (
   node-cut-reads.Asked,
   node-cut-reads.Learnt,
@@ -995,7 +974,6 @@ read-node-enum-known-t-2 : (t : ℕ) → read-node-lts.Need-enum-known-t-2 (
 ) (read-node-at t) read-node.Post
 read-node-enum-known-t-2 t c = search needs
 
--- src/lib.rt:105:1
 read-node-same-length : (t : ℕ) → read-node-lts.Need-same-length (
   node-cut-reads.Asked,
   node-cut-reads.Learnt,
@@ -1013,7 +991,6 @@ read-node-same-length : (t : ℕ) → read-node-lts.Need-same-length (
 read-node-same-length t c =
     omega (arith, c .before .before .before .before .before .before .before .before .before .before .before .before .before .read-children .kept .1 .1 .1 .1 .1 .1 .1 .1 .0, length-set (c .before .before .before .before .before .before .before .before .before .before .before .before .before .before .before .before .before .before .before .before .before .before .before .before .before .before .before .before .before .before .before .before .before .before .before .before .before .before .before .before .before .before .before .args .names .now) (c .before .before .before .before .before .before .before .before .before .before .before .before .before .before .before .before .before .before .before .before .before .before .before .before .before .before .before .before .before .before .before .before .before .before .before .before .before .before .before .before .before .before .before .args .n) (c .before .before .before .before .before .before .before .before .before .before .before .before .before .before .before .before .before .before .before .before .before .before .before .before .before .before .before .before .before .before .eight .result))
 
--- src/lib.rt:105:1
 read-node-same-length-2 : (t : ℕ) → read-node-lts.Need-same-length-2 (
   node-cut-reads.Asked,
   node-cut-reads.Learnt,
@@ -1031,7 +1008,6 @@ read-node-same-length-2 : (t : ℕ) → read-node-lts.Need-same-length-2 (
 read-node-same-length-2 t c =
     omega (arith, c .before .before .before .before .before .before .before .before .before .before .before .before .before .read-children .kept .1 .1 .1 .1 .1 .1 .1 .1 .1 .0, length-set (c .before .before .before .before .before .before .before .before .before .before .before .before .before .before .before .before .before .before .before .before .before .before .before .before .before .before .before .before .before .before .before .before .before .before .before .before .before .before .before .before .before .before .before .args .roles .now) (c .before .before .before .before .before .before .before .before .before .before .before .before .before .before .before .before .before .before .before .before .before .before .before .before .before .before .before .before .before .before .before .before .before .before .before .before .before .before .before .before .before .before .before .args .n) (c .before .before .before .before .before .before .before .before .before .before .before .before .before .before .before .before .before .before .before .before .before .before .before .before .before .before .before .before .before .before .before .before .before .before .before .before .before .before .before .before .before .before .before .args .role))
 
--- src/lib.rt:105:1
 read-node-same-length-3 : (t : ℕ) → read-node-lts.Need-same-length-3 (
   node-cut-reads.Asked,
   node-cut-reads.Learnt,
@@ -1048,7 +1024,6 @@ read-node-same-length-3 : (t : ℕ) → read-node-lts.Need-same-length-3 (
 ) (read-node-at t) read-node.Post
 read-node-same-length-3 t c = search needs
 
--- src/lib.rt:105:1
 read-node-same-length-4 : (t : ℕ) → read-node-lts.Need-same-length-4 (
   node-cut-reads.Asked,
   node-cut-reads.Learnt,
@@ -1065,7 +1040,6 @@ read-node-same-length-4 : (t : ℕ) → read-node-lts.Need-same-length-4 (
 ) (read-node-at t) read-node.Post
 read-node-same-length-4 t c = search needs
 
--- src/lib.rt:105:1
 read-node-same-length-5 : (t : ℕ) → read-node-lts.Need-same-length-5 (
   node-cut-reads.Asked,
   node-cut-reads.Learnt,
@@ -1082,7 +1056,6 @@ read-node-same-length-5 : (t : ℕ) → read-node-lts.Need-same-length-5 (
 ) (read-node-at t) read-node.Post
 read-node-same-length-5 t c = search needs
 
--- src/lib.rt:105:1
 read-node-returns-5 : (t : ℕ) → read-node-lts.Need-returns-5 (
   node-cut-reads.Asked,
   node-cut-reads.Learnt,
@@ -1105,7 +1078,6 @@ read-node-returns-5 t c =
     node-then (c .before .before .before .before .before .before .before .before .before .before .before .before .before .before .before .before .before .before .before .before .before .before .before .before .before .before .before .before .before .before .before .before .before .before .before .before .before .before .before .before .before .before .before .args .inner) (c .before .before .before .before .before .before .before .before .before .before .before .before .before .before .before .before .before .before .before .before .before .before .before .before .before .before .before .before .before .before .before .before .before .before .before .before .before .before .before .before .before .before .before .args .s .now) (c .before .before .before .before .before .before .before .before .before .before .before .before .before .before .before .before .before .before .before .before .before .before .before .before .before .before .before .before .before .before .before .before .before .before .before .before .before .before .before .before .before .before .before .args .end) (c .before .before .before .before .before .before .before .before .before .before .before .before .before .before .before .before .before .before .before .before .before .before .before .before .before .before .before .before .before .before .before .before .before .before .before .before .before .before .before .before .before .before .before .args .left) (c .before .before .before .before .before .before .before .before .before .before .before .before .before .before .before .before .before .before .before .before .before .before .before .before .before .before .before .before .before .before .before .before .before .before .before .before .before .before .before .before .before .before .before .args .at) (c .before .before .before .before .before .before .before .before .before .before .before .before .before .before .before .before .before .before .before .before .before .before .before .before .before .before .before .before .before .before .before .before .before .before .before .before .before .before .before .before .before .before .before .args .n) (c .before .before .before .before .before .before .before .before .before .before .before .before .before .before .before .before .before .before .before .before .before .before .before .before .before .before .before .before .before .before .before .before .before .before .before .before .before .before .before .before .before .before .before .args .parts) (c .before .before .before .before .before .before .before .before .before .before .before .before .before .before .before .before .before .before .before .before .before .before .before .before .before .before .before .before .before .before .before .before .before .before .before .before .before .before .before .before .before .before .before .args .role) (c .before .before .before .before .before .before .before .before .before .before .before .before .before .before .before .before .before .before .before .before .before .before .before .before .before .before .before .before .before .before .eight .result) (c .before .before .before .before .before .before .before .before .before .before .before .before .before .before .before .before .before .before .before .before .before .before .before .before .before .before .before .before .before .before .before .before .before .before .before .before .before .before .before .before .before .before .before .args .names .now) (c .before .before .before .before .before .before .before .before .before .before .before .before .before .before .before .before .before .before .before .before .before .before .before .before .before .before .before .before .before .before .before .before .before .before .before .before .before .before .before .before .before .before .before .args .roles .now) (c .before .before .before .before .before .before .before .before .before .before .before .before .before .before .before .before .before .before .before .before .before .before .before .before .before .before .before .before .before .before .before .before .before .before .before .before .before .before .before .before .before .before .before .args .ends .now) (c .before .before .before .before .before .before .before .before .before .before .before .before .before .before .before .before .before .before .before .before .before .before .before .before .before .before .before .before .before .before .before .before .before .before .before .before .before .before .before .before .before .before .before .args .owners .now) (c .before .before .before .before .before .before .before .before .before .before .before .before .before .before .before .before .before .before .before .before .before .before .before .before .before .before .before .before .before .before .before .before .before .before .before .before .before .before .before .before .before .before .before .args .firsts .now) _ _ fits room some′ (c .before .before .before .before .before .before .before .before .before .before .before .before .before .before .before .before .before .before .before .before .before .before .before .before .before .before .before .before .before .before .before .before .before .one .result) (c .before .before .before .before .before .before .before .before .before .before .before .before .before .before .before .before .before .before .before .before .before .before .before .before .before .before .before .before .before .before .before .before .before .one .ensures .0) free (c .before .before .before .before .before .before .before .before .before .before .before .before .before .before .before .before .before .before .before .before .before .before .before .before .before .before .before .before .before .before .eight .ensures) (c .before .before .before .before .before .before .before .before .before .before .before .before .before .before .before .before .before .before .before .before .before .before .before .before .before .before .before .read-thresholds .ensures) _ _ _ (c .before .before .before .before .before .before .before .before .before .before .before .before .before .before .before .before .before .before .before .before .before .t .given .1) _ _ _ _ (c .before .before .before .before .before .before .before .before .before .before .before .before .before .before .before .before .before .before .before .one2 .ensures .0) refl (c .before .before .before .before .before .before .before .before .before .before .before .before .before .read-children .ensures) _ _ _
     (omega (arith, c .before .before .before .before .before .before .before .before .before .before .before .before .before .before .before .before .before .before .before .before .before .before .before .before .before .before .before .before .before .before .before .before .before .before .before .before .before .before .before .before .before .before .before .pre .1 .1 .names)) (omega (arith, c .before .before .before .before .before .before .before .before .before .before .before .before .before .before .before .before .before .before .before .before .before .before .before .before .before .before .before .before .before .before .before .before .before .before .before .before .before .before .before .before .before .before .before .pre .1 .1 .roles)) (omega (arith, c .before .before .before .before .before .before .before .before .before .before .before .before .before .before .before .before .before .before .before .before .before .before .before .before .before .before .before .before .before .before .before .before .before .before .before .before .before .before .before .before .before .before .before .pre .1 .1 .ends, c .before .before .before .before .before .before .before .before .before .before .before .before .before .read-children .kept .1 .1 .1 .1 .1 .1 .1 .1 .1 .1 .0)) (c .before .c .given .1)
 
--- src/lib.rt:105:1
 read-node-same-length-6 : (t : ℕ) → read-node-lts.Need-same-length-6 (
   node-cut-reads.Asked,
   node-cut-reads.Learnt,
@@ -1123,7 +1095,6 @@ read-node-same-length-6 : (t : ℕ) → read-node-lts.Need-same-length-6 (
 read-node-same-length-6 t c =
     omega (arith, c .before .before .before .before .before .before .before .before .before .before .before .before .before .read-children .kept .1 .1 .1 .1 .1 .1 .1 .1 .0, length-set (c .before .before .before .before .before .before .before .before .before .before .before .before .before .before .before .before .before .before .before .before .before .before .before .before .before .before .before .before .before .before .before .before .before .before .before .before .before .before .before .before .before .before .before .args .names .now) (c .before .before .before .before .before .before .before .before .before .before .before .before .before .before .before .before .before .before .before .before .before .before .before .before .before .before .before .before .before .before .before .before .before .before .before .before .before .before .before .before .before .before .before .args .n) (c .before .before .before .before .before .before .before .before .before .before .before .before .before .before .before .before .before .before .before .before .before .before .before .before .before .before .before .before .before .before .eight .result))
 
--- src/lib.rt:105:1
 read-node-same-length-7 : (t : ℕ) → read-node-lts.Need-same-length-7 (
   node-cut-reads.Asked,
   node-cut-reads.Learnt,
@@ -1141,7 +1112,6 @@ read-node-same-length-7 : (t : ℕ) → read-node-lts.Need-same-length-7 (
 read-node-same-length-7 t c =
     omega (arith, c .before .before .before .before .before .before .before .before .before .before .before .before .before .read-children .kept .1 .1 .1 .1 .1 .1 .1 .1 .1 .0, length-set (c .before .before .before .before .before .before .before .before .before .before .before .before .before .before .before .before .before .before .before .before .before .before .before .before .before .before .before .before .before .before .before .before .before .before .before .before .before .before .before .before .before .before .before .args .roles .now) (c .before .before .before .before .before .before .before .before .before .before .before .before .before .before .before .before .before .before .before .before .before .before .before .before .before .before .before .before .before .before .before .before .before .before .before .before .before .before .before .before .before .before .before .args .n) (c .before .before .before .before .before .before .before .before .before .before .before .before .before .before .before .before .before .before .before .before .before .before .before .before .before .before .before .before .before .before .before .before .before .before .before .before .before .before .before .before .before .before .before .args .role))
 
--- src/lib.rt:105:1
 read-node-same-length-8 : (t : ℕ) → read-node-lts.Need-same-length-8 (
   node-cut-reads.Asked,
   node-cut-reads.Learnt,
@@ -1158,7 +1128,6 @@ read-node-same-length-8 : (t : ℕ) → read-node-lts.Need-same-length-8 (
 ) (read-node-at t) read-node.Post
 read-node-same-length-8 t c = search needs
 
--- src/lib.rt:105:1
 read-node-same-length-9 : (t : ℕ) → read-node-lts.Need-same-length-9 (
   node-cut-reads.Asked,
   node-cut-reads.Learnt,
@@ -1175,7 +1144,6 @@ read-node-same-length-9 : (t : ℕ) → read-node-lts.Need-same-length-9 (
 ) (read-node-at t) read-node.Post
 read-node-same-length-9 t c = search needs
 
--- src/lib.rt:105:1
 read-node-same-length-10 : (t : ℕ) → read-node-lts.Need-same-length-10 (
   node-cut-reads.Asked,
   node-cut-reads.Learnt,
@@ -1192,7 +1160,6 @@ read-node-same-length-10 : (t : ℕ) → read-node-lts.Need-same-length-10 (
 ) (read-node-at t) read-node.Post
 read-node-same-length-10 t c = search needs
 
--- src/lib.rt:105:1
 read-node-returns-6 : (t : ℕ) → read-node-lts.Need-returns-6 (
   node-cut-reads.Asked,
   node-cut-reads.Learnt,
@@ -1214,7 +1181,6 @@ read-node-returns-6 t c =
     let free = sym (c .before .before .before .before .before .before .before .before .before .before .before .before .before .before .before .before .before .before .before .before .before .before .before .before .before .before .before .before .before .before .before .before .forbidden .ensures) ∙ c .before .before .before .before .before .before .before .before .before .before .before .before .before .before .before .before .before .before .before .before .before .before .before .before .before .before .before .before .before .before .before .if4 .left in
     children-stop (c .before .before .before .before .before .before .before .before .before .before .before .before .before .before .before .before .before .before .before .before .before .before .before .before .before .before .before .before .before .before .before .before .before .before .before .before .before .before .before .before .before .before .before .args .inner) (c .before .before .before .before .before .before .before .before .before .before .before .before .before .before .before .before .before .before .before .before .before .before .before .before .before .before .before .before .before .before .before .before .before .before .before .before .before .before .before .before .before .before .before .args .s .now) (c .before .before .before .before .before .before .before .before .before .before .before .before .before .before .before .before .before .before .before .before .before .before .before .before .before .before .before .before .before .before .before .before .before .before .before .before .before .before .before .before .before .before .before .args .end) (c .before .before .before .before .before .before .before .before .before .before .before .before .before .before .before .before .before .before .before .before .before .before .before .before .before .before .before .before .before .before .before .before .before .before .before .before .before .before .before .before .before .before .before .args .left) (c .before .before .before .before .before .before .before .before .before .before .before .before .before .before .before .before .before .before .before .before .before .before .before .before .before .before .before .before .before .before .before .before .before .before .before .before .before .before .before .before .before .before .before .args .at) (c .before .before .before .before .before .before .before .before .before .before .before .before .before .before .before .before .before .before .before .before .before .before .before .before .before .before .before .before .before .before .before .before .before .before .before .before .before .before .before .before .before .before .before .args .n) (c .before .before .before .before .before .before .before .before .before .before .before .before .before .before .before .before .before .before .before .before .before .before .before .before .before .before .before .before .before .before .before .before .before .before .before .before .before .before .before .before .before .before .before .args .parts) (c .before .before .before .before .before .before .before .before .before .before .before .before .before .before .before .before .before .before .before .before .before .before .before .before .before .before .before .before .before .before .before .before .before .before .before .before .before .before .before .before .before .before .before .args .role) (c .before .before .before .before .before .before .before .before .before .before .before .before .before .before .before .before .before .before .before .before .before .before .before .before .before .before .before .before .before .before .eight .result) (c .before .before .before .before .before .before .before .before .before .before .before .before .before .before .before .before .before .before .before .before .before .before .before .before .before .before .before .before .before .before .before .before .before .before .before .before .before .before .before .before .before .before .before .args .names .now) (c .before .before .before .before .before .before .before .before .before .before .before .before .before .before .before .before .before .before .before .before .before .before .before .before .before .before .before .before .before .before .before .before .before .before .before .before .before .before .before .before .before .before .before .args .roles .now) (c .before .before .before .before .before .before .before .before .before .before .before .before .before .before .before .before .before .before .before .before .before .before .before .before .before .before .before .before .before .before .before .before .before .before .before .before .before .before .before .before .before .before .before .args .ends .now) (c .before .before .before .before .before .before .before .before .before .before .before .before .before .before .before .before .before .before .before .before .before .before .before .before .before .before .before .before .before .before .before .before .before .before .before .before .before .before .before .before .before .before .before .args .owners .now) (c .before .before .before .before .before .before .before .before .before .before .before .before .before .before .before .before .before .before .before .before .before .before .before .before .before .before .before .before .before .before .before .before .before .before .before .before .before .before .before .before .before .before .before .args .firsts .now) _ _ fits room some′ (c .before .before .before .before .before .before .before .before .before .before .before .before .before .before .before .before .before .before .before .before .before .before .before .before .before .before .before .before .before .before .before .before .before .one .result) (c .before .before .before .before .before .before .before .before .before .before .before .before .before .before .before .before .before .before .before .before .before .before .before .before .before .before .before .before .before .before .before .before .before .one .ensures .0) free (c .before .before .before .before .before .before .before .before .before .before .before .before .before .before .before .before .before .before .before .before .before .before .before .before .before .before .before .before .before .before .eight .ensures) (c .before .before .before .before .before .before .before .before .before .before .before .before .before .before .before .before .before .before .before .before .before .before .before .before .before .before .before .read-thresholds .ensures) _ _ _ (c .before .before .before .before .before .before .before .before .before .before .before .before .before .before .before .before .before .before .before .before .before .t .given .1) _ _ _ _ (c .before .before .before .before .before .before .before .before .before .before .before .before .before .before .before .before .before .before .before .one2 .ensures .0) refl (c .before .before .before .before .before .before .before .before .before .before .before .before .before .read-children .ensures) _ _ _ (c .before .c2 .given .1)
 
--- src/lib.rt:105:1
 read-node-same-length-11 : (t : ℕ) → read-node-lts.Need-same-length-11 (
   node-cut-reads.Asked,
   node-cut-reads.Learnt,
@@ -1231,7 +1197,6 @@ read-node-same-length-11 : (t : ℕ) → read-node-lts.Need-same-length-11 (
 ) (read-node-at t) read-node.Post
 read-node-same-length-11 t c = search needs
 
--- src/lib.rt:105:1
 read-node-same-length-12 : (t : ℕ) → read-node-lts.Need-same-length-12 (
   node-cut-reads.Asked,
   node-cut-reads.Learnt,
@@ -1248,7 +1213,6 @@ read-node-same-length-12 : (t : ℕ) → read-node-lts.Need-same-length-12 (
 ) (read-node-at t) read-node.Post
 read-node-same-length-12 t c = search needs
 
--- src/lib.rt:105:1
 read-node-same-length-13 : (t : ℕ) → read-node-lts.Need-same-length-13 (
   node-cut-reads.Asked,
   node-cut-reads.Learnt,
@@ -1265,7 +1229,6 @@ read-node-same-length-13 : (t : ℕ) → read-node-lts.Need-same-length-13 (
 ) (read-node-at t) read-node.Post
 read-node-same-length-13 t c = search needs
 
--- src/lib.rt:105:1
 read-node-same-length-14 : (t : ℕ) → read-node-lts.Need-same-length-14 (
   node-cut-reads.Asked,
   node-cut-reads.Learnt,
@@ -1282,7 +1245,6 @@ read-node-same-length-14 : (t : ℕ) → read-node-lts.Need-same-length-14 (
 ) (read-node-at t) read-node.Post
 read-node-same-length-14 t c = search needs
 
--- src/lib.rt:105:1
 read-node-returns-7 : (t : ℕ) → read-node-lts.Need-returns-7 (
   node-cut-reads.Asked,
   node-cut-reads.Learnt,
@@ -1304,7 +1266,6 @@ read-node-returns-7 t c =
     let free = sym (c .before .before .before .before .before .before .before .before .before .before .before .before .forbidden .ensures) ∙ c .before .before .before .before .before .before .before .before .before .before .before .if4 .left in
     node-stops (c .before .before .before .before .before .before .before .before .before .before .before .before .before .before .before .before .before .before .before .before .before .before .before .args .inner) (c .before .before .before .before .before .before .before .before .before .before .before .before .before .before .before .before .before .before .before .before .before .before .before .args .s .now) (c .before .before .before .before .before .before .before .before .before .before .before .before .before .before .before .before .before .before .before .before .before .before .before .args .end) (c .before .before .before .before .before .before .before .before .before .before .before .before .before .before .before .before .before .before .before .before .before .before .before .args .left) (c .before .before .before .before .before .before .before .before .before .before .before .before .before .before .before .before .before .before .before .before .before .before .before .args .at) (c .before .before .before .before .before .before .before .before .before .before .before .before .before .before .before .before .before .before .before .before .before .before .before .args .n) (c .before .before .before .before .before .before .before .before .before .before .before .before .before .before .before .before .before .before .before .before .before .before .before .args .parts) (c .before .before .before .before .before .before .before .before .before .before .before .before .before .before .before .before .before .before .before .before .before .before .before .args .role) (c .before .before .before .before .before .before .before .before .before .before .eight .result) (c .before .before .before .before .before .before .before .before .before .before .before .before .before .before .before .before .before .before .before .before .before .before .before .args .names .now) (c .before .before .before .before .before .before .before .before .before .before .before .before .before .before .before .before .before .before .before .before .before .before .before .args .roles .now) (c .before .before .before .before .before .before .before .before .before .before .before .before .before .before .before .before .before .before .before .before .before .before .before .args .ends .now) (c .before .before .before .before .before .before .before .before .before .before .before .before .before .before .before .before .before .before .before .before .before .before .before .args .owners .now) (c .before .before .before .before .before .before .before .before .before .before .before .before .before .before .before .before .before .before .before .before .before .before .before .args .firsts .now) _ _ fits room some′ (c .before .before .before .before .before .before .before .before .before .before .before .before .before .one .result) (c .before .before .before .before .before .before .before .before .before .before .before .before .before .one .ensures .0) free (c .before .before .before .before .before .before .before .before .before .before .eight .ensures) (c .before .before .before .before .before .before .before .read-thresholds .ensures) _ _ _ (c .before .t2 .given .1)
 
--- src/lib.rt:198:9
 read-threshold-returns : (t : ℕ) → read-threshold-lts.Need-returns (
   threshold-cut-reads.Asked,
   threshold-cut-reads.Learnt,
@@ -1318,7 +1279,6 @@ read-threshold-returns : (t : ℕ) → read-threshold-lts.Need-returns (
 read-threshold-returns t c =
     λ n ps l h. parts-is-refused _ _ _ _ _ _ 12 _ (threshold-many (c .before .before .before .before .args .s .now) (c .before .before .before .before .args .end) (c .before .before .before .before .args .owner) (c .before .before .before .before .args .at) n ps (omega (arith, l, c .if1 .taken)))
 
--- src/lib.rt:200:8
 read-threshold-sub-if2 : (t : ℕ) → read-threshold-lts.Need-sub-if2 (
   threshold-cut-reads.Asked,
   threshold-cut-reads.Learnt,
@@ -1331,7 +1291,6 @@ read-threshold-sub-if2 : (t : ℕ) → read-threshold-lts.Need-sub-if2 (
 ) (read-threshold-at t) read-threshold.Post
 read-threshold-sub-if2 t c = search needs
 
--- src/lib.rt:201:30
 read-threshold-sub-threshold-cut : (t : ℕ) → read-threshold-lts.Need-sub-threshold-cut (
   threshold-cut-reads.Asked,
   threshold-cut-reads.Learnt,
@@ -1344,7 +1303,6 @@ read-threshold-sub-threshold-cut : (t : ℕ) → read-threshold-lts.Need-sub-thr
 ) (read-threshold-at t) read-threshold.Post
 read-threshold-sub-threshold-cut t c = search needs
 
--- src/lib.rt:201:9
 read-threshold-threshold-cut-requires : (t : ℕ) → read-threshold-lts.Need-threshold-cut-requires (
   threshold-cut-reads.Asked,
   threshold-cut-reads.Learnt,
@@ -1357,7 +1315,6 @@ read-threshold-threshold-cut-requires : (t : ℕ) → read-threshold-lts.Need-th
 ) (read-threshold-at t) read-threshold.Post
 read-threshold-threshold-cut-requires t c κs = search needs
 
--- src/lib.rt:201:9
 read-threshold-returns-2 : (t : ℕ) → read-threshold-lts.Need-returns-2 (
   threshold-cut-reads.Asked,
   threshold-cut-reads.Learnt,
@@ -1374,7 +1331,6 @@ read-threshold-returns-2 t c =
     let cut : c .before .before .before .before .before .before .args .end - c .before .before .before .before .before .before .args .at < 5 = omega (arith, c .before .if2 .taken) in
     λ n ps l h. parts-is-refused-by _ _ _ _ _ _ _ 1 _ (c .threshold-cut .ensures) (threshold-cut-end (c .before .before .before .before .before .before .args .s .now) (c .before .before .before .before .before .before .args .end) (c .before .before .before .before .before .before .args .owner) (c .before .before .before .before .before .before .args .at) n ps (omega (arith, l)) before cut)
 
--- src/lib.rt:203:12
 read-threshold-shared-slice-read-if3 : (t : ℕ) → read-threshold-lts.Need-shared-slice-read-if3 (
   threshold-cut-reads.Asked,
   threshold-cut-reads.Learnt,
@@ -1387,7 +1343,6 @@ read-threshold-shared-slice-read-if3 : (t : ℕ) → read-threshold-lts.Need-sha
 ) (read-threshold-at t) read-threshold.Post
 read-threshold-shared-slice-read-if3 t c = search needs
 
--- src/lib.rt:204:9
 read-threshold-returns-3 : (t : ℕ) → read-threshold-lts.Need-returns-3 (
   threshold-cut-reads.Asked,
   threshold-cut-reads.Learnt,
@@ -1406,7 +1361,6 @@ read-threshold-returns-3 t c =
     let high : 3 < number (c .before .before .before .before .before .before .before .args .s .now) (c .before .before .before .before .before .before .before .args .at) 1 = omega (arith, c .if3 .taken) in
     λ n ps l h. parts-is-refused _ _ _ _ _ _ 13 _ (threshold-rule (c .before .before .before .before .before .before .before .args .s .now) (c .before .before .before .before .before .before .before .args .end) (c .before .before .before .before .before .before .before .args .owner) (c .before .before .before .before .before .before .before .args .at) n ps (omega (arith, l)) fits (rule-above (c .before .before .before .before .before .before .before .args .s .now) (c .before .before .before .before .before .before .before .args .at) high))
 
--- src/lib.rt:206:32
 read-threshold-add-two : (t : ℕ) → read-threshold-lts.Need-add-two (
   threshold-cut-reads.Asked,
   threshold-cut-reads.Learnt,
@@ -1419,7 +1373,6 @@ read-threshold-add-two : (t : ℕ) → read-threshold-lts.Need-add-two (
 ) (read-threshold-at t) read-threshold.Post
 read-threshold-add-two t c = search needs
 
--- src/lib.rt:206:17
 read-threshold-two-requires : (t : ℕ) → read-threshold-lts.Need-two-requires (
   threshold-cut-reads.Asked,
   threshold-cut-reads.Learnt,
@@ -1432,7 +1385,6 @@ read-threshold-two-requires : (t : ℕ) → read-threshold-lts.Need-two-requires
 ) (read-threshold-at t) read-threshold.Post
 read-threshold-two-requires t c κs = search needs
 
--- src/lib.rt:206:56
 read-threshold-add-two-2 : (t : ℕ) → read-threshold-lts.Need-add-two-2 (
   threshold-cut-reads.Asked,
   threshold-cut-reads.Learnt,
@@ -1445,7 +1397,6 @@ read-threshold-add-two-2 : (t : ℕ) → read-threshold-lts.Need-add-two-2 (
 ) (read-threshold-at t) read-threshold.Post
 read-threshold-add-two-2 t c = search needs
 
--- src/lib.rt:206:41
 read-threshold-two-requires-2 : (t : ℕ) → read-threshold-lts.Need-two-requires-2 (
   threshold-cut-reads.Asked,
   threshold-cut-reads.Learnt,
@@ -1458,7 +1409,6 @@ read-threshold-two-requires-2 : (t : ℕ) → read-threshold-lts.Need-two-requir
 ) (read-threshold-at t) read-threshold.Post
 read-threshold-two-requires-2 t c κs = search needs
 
--- src/lib.rt:206:9
 read-threshold-allowed-requires : (t : ℕ) → read-threshold-lts.Need-allowed-requires (
   threshold-cut-reads.Asked,
   threshold-cut-reads.Learnt,
@@ -1471,7 +1421,6 @@ read-threshold-allowed-requires : (t : ℕ) → read-threshold-lts.Need-allowed-
 ) (read-threshold-at t) read-threshold.Post
 read-threshold-allowed-requires t c κs = search needs
 
--- src/lib.rt:207:9
 read-threshold-returns-4 : (t : ℕ) → read-threshold-lts.Need-returns-4 (
   threshold-cut-reads.Asked,
   threshold-cut-reads.Learnt,
@@ -1491,7 +1440,6 @@ read-threshold-returns-4 t c =
     let rule = rule-broken (c .before .before .before .before .before .before .before .before .before .before .before .args .s .now) (c .before .before .before .before .before .before .before .before .before .before .before .args .at) (c .before .before .before .two .result) (c .before .before .two2 .result) (c .before .allowed .result) (c .before .before .before .two .ensures .0) (c .before .before .two2 .ensures .0) (c .before .allowed .ensures) low (c .if4 .taken) in
     λ n ps l h. parts-is-refused _ _ _ _ _ _ 13 _ (threshold-rule (c .before .before .before .before .before .before .before .before .before .before .before .args .s .now) (c .before .before .before .before .before .before .before .before .before .before .before .args .end) (c .before .before .before .before .before .before .before .before .before .before .before .args .owner) (c .before .before .before .before .before .before .before .before .before .before .before .args .at) n ps (omega (arith, l)) fits rule)
 
--- src/lib.rt:209:8
 read-threshold-sub-if5 : (t : ℕ) → read-threshold-lts.Need-sub-if5 (
   threshold-cut-reads.Asked,
   threshold-cut-reads.Learnt,
@@ -1504,7 +1452,6 @@ read-threshold-sub-if5 : (t : ℕ) → read-threshold-lts.Need-sub-if5 (
 ) (read-threshold-at t) read-threshold.Post
 read-threshold-sub-if5 t c = search needs
 
--- src/lib.rt:210:50
 read-threshold-add-t21 : (t : ℕ) → read-threshold-lts.Need-add-t21 (
   threshold-cut-reads.Asked,
   threshold-cut-reads.Learnt,
@@ -1517,7 +1464,6 @@ read-threshold-add-t21 : (t : ℕ) → read-threshold-lts.Need-add-t21 (
 ) (read-threshold-at t) read-threshold.Post
 read-threshold-add-t21 t c = search needs
 
--- src/lib.rt:210:9
 read-threshold-returns-5 : (t : ℕ) → read-threshold-lts.Need-returns-5 (
   threshold-cut-reads.Asked,
   threshold-cut-reads.Learnt,
@@ -1538,7 +1484,6 @@ read-threshold-returns-5 t c =
     let cut : c .before .before .before .before .before .before .before .before .before .before .before .before .args .end < c .before .before .before .before .before .before .before .before .before .before .before .before .args .at + 7 = omega (arith, c .if5 .taken, before) in
     λ n ps l h. parts-is-refused _ _ _ _ _ _ 1 _ (threshold-length-cut (c .before .before .before .before .before .before .before .before .before .before .before .before .args .s .now) (c .before .before .before .before .before .before .before .before .before .before .before .before .args .end) (c .before .before .before .before .before .before .before .before .before .before .before .before .args .owner) (c .before .before .before .before .before .before .before .before .before .before .before .before .args .at) n ps (omega (arith, l)) fits rule cut)
 
--- src/lib.rt:212:30
 read-threshold-add-two-3 : (t : ℕ) → read-threshold-lts.Need-add-two-3 (
   threshold-cut-reads.Asked,
   threshold-cut-reads.Learnt,
@@ -1551,7 +1496,6 @@ read-threshold-add-two-3 : (t : ℕ) → read-threshold-lts.Need-add-two-3 (
 ) (read-threshold-at t) read-threshold.Post
 read-threshold-add-two-3 t c = search needs
 
--- src/lib.rt:212:9
 read-threshold-two-requires-3 : (t : ℕ) → read-threshold-lts.Need-two-requires-3 (
   threshold-cut-reads.Asked,
   threshold-cut-reads.Learnt,
@@ -1564,7 +1508,6 @@ read-threshold-two-requires-3 : (t : ℕ) → read-threshold-lts.Need-two-requir
 ) (read-threshold-at t) read-threshold.Post
 read-threshold-two-requires-3 t c κs = search needs
 
--- src/lib.rt:213:8
 read-threshold-sub-if6 : (t : ℕ) → read-threshold-lts.Need-sub-if6 (
   threshold-cut-reads.Asked,
   threshold-cut-reads.Learnt,
@@ -1577,7 +1520,6 @@ read-threshold-sub-if6 : (t : ℕ) → read-threshold-lts.Need-sub-if6 (
 ) (read-threshold-at t) read-threshold.Post
 read-threshold-sub-if6 t c = search needs
 
--- src/lib.rt:213:8
 read-threshold-sub-if6-2 : (t : ℕ) → read-threshold-lts.Need-sub-if6-2 (
   threshold-cut-reads.Asked,
   threshold-cut-reads.Learnt,
@@ -1590,7 +1532,6 @@ read-threshold-sub-if6-2 : (t : ℕ) → read-threshold-lts.Need-sub-if6-2 (
 ) (read-threshold-at t) read-threshold.Post
 read-threshold-sub-if6-2 t c = search needs
 
--- src/lib.rt:214:50
 read-threshold-add-t22 : (t : ℕ) → read-threshold-lts.Need-add-t22 (
   threshold-cut-reads.Asked,
   threshold-cut-reads.Learnt,
@@ -1603,7 +1544,6 @@ read-threshold-add-t22 : (t : ℕ) → read-threshold-lts.Need-add-t22 (
 ) (read-threshold-at t) read-threshold.Post
 read-threshold-add-t22 t c = search needs
 
--- src/lib.rt:214:9
 read-threshold-returns-6 : (t : ℕ) → read-threshold-lts.Need-returns-6 (
   threshold-cut-reads.Asked,
   threshold-cut-reads.Learnt,
@@ -1625,7 +1565,6 @@ read-threshold-returns-6 t c =
     let past : c .before .before .before .before .before .before .before .before .before .before .before .before .before .before .args .end < c .before .before .before .before .before .before .before .before .before .before .before .before .before .before .args .at + 7 + number (c .before .before .before .before .before .before .before .before .before .before .before .before .before .before .args .s .now) (c .before .before .before .before .before .before .before .before .before .before .before .before .before .before .args .at + 5) 2 = omega (arith, c .if6 .taken, c .before .two3 .ensures .0, before) in
     λ n ps l h. parts-is-refused _ _ _ _ _ _ 1 _ (threshold-past (c .before .before .before .before .before .before .before .before .before .before .before .before .before .before .args .s .now) (c .before .before .before .before .before .before .before .before .before .before .before .before .before .before .args .end) (c .before .before .before .before .before .before .before .before .before .before .before .before .before .before .args .owner) (c .before .before .before .before .before .before .before .before .before .before .before .before .before .before .args .at) n ps (omega (arith, l)) fits rule long past)
 
--- src/lib.rt:216:27
 read-threshold-add-read-inner : (t : ℕ) → read-threshold-lts.Need-add-read-inner (
   threshold-cut-reads.Asked,
   threshold-cut-reads.Learnt,
@@ -1638,7 +1577,6 @@ read-threshold-add-read-inner : (t : ℕ) → read-threshold-lts.Need-add-read-i
 ) (read-threshold-at t) read-threshold.Post
 read-threshold-add-read-inner t c = search needs
 
--- src/lib.rt:216:27
 read-threshold-add-read-inner-2 : (t : ℕ) → read-threshold-lts.Need-add-read-inner-2 (
   threshold-cut-reads.Asked,
   threshold-cut-reads.Learnt,
@@ -1651,7 +1589,6 @@ read-threshold-add-read-inner-2 : (t : ℕ) → read-threshold-lts.Need-add-read
 ) (read-threshold-at t) read-threshold.Post
 read-threshold-add-read-inner-2 t c = search needs
 
--- src/lib.rt:216:41
 read-threshold-add-read-inner-3 : (t : ℕ) → read-threshold-lts.Need-add-read-inner-3 (
   threshold-cut-reads.Asked,
   threshold-cut-reads.Learnt,
@@ -1664,7 +1601,6 @@ read-threshold-add-read-inner-3 : (t : ℕ) → read-threshold-lts.Need-add-read
 ) (read-threshold-at t) read-threshold.Post
 read-threshold-add-read-inner-3 t c = search needs
 
--- src/lib.rt:216:9
 read-threshold-read-inner-requires : (t : ℕ) → read-threshold-lts.Need-read-inner-requires (
   threshold-cut-reads.Asked,
   threshold-cut-reads.Learnt,
@@ -1677,7 +1613,6 @@ read-threshold-read-inner-requires : (t : ℕ) → read-threshold-lts.Need-read-
 ) (read-threshold-at t) read-threshold.Post
 read-threshold-read-inner-requires t c κs = search needs
 
--- src/lib.rt:219:29
 read-threshold-enum-told : (t : ℕ) → read-threshold-lts.Need-enum-told (
   threshold-cut-reads.Asked,
   threshold-cut-reads.Learnt,
@@ -1690,7 +1625,6 @@ read-threshold-enum-told : (t : ℕ) → read-threshold-lts.Need-enum-told (
 ) (read-threshold-at t) read-threshold.Post
 read-threshold-enum-told t c = search needs
 
--- src/lib.rt:219:29
 read-threshold-cast-owners : (t : ℕ) → read-threshold-lts.Need-cast-owners (
   threshold-cut-reads.Asked,
   threshold-cut-reads.Learnt,
@@ -1703,7 +1637,6 @@ read-threshold-cast-owners : (t : ℕ) → read-threshold-lts.Need-cast-owners (
 ) (read-threshold-at t) read-threshold.Post
 read-threshold-cast-owners t c = search needs
 
--- src/lib.rt:219:13
 read-threshold-slice-write-owners : (t : ℕ) → read-threshold-lts.Need-slice-write-owners (
   threshold-cut-reads.Asked,
   threshold-cut-reads.Learnt,
@@ -1716,7 +1649,6 @@ read-threshold-slice-write-owners : (t : ℕ) → read-threshold-lts.Need-slice-
 ) (read-threshold-at t) read-threshold.Post
 read-threshold-slice-write-owners t c = search needs
 
--- src/lib.rt:220:29
 read-threshold-cast-firsts : (t : ℕ) → read-threshold-lts.Need-cast-firsts (
   threshold-cut-reads.Asked,
   threshold-cut-reads.Learnt,
@@ -1729,7 +1661,6 @@ read-threshold-cast-firsts : (t : ℕ) → read-threshold-lts.Need-cast-firsts (
 ) (read-threshold-at t) read-threshold.Post
 read-threshold-cast-firsts t c = search needs
 
--- src/lib.rt:220:13
 read-threshold-mul-firsts : (t : ℕ) → read-threshold-lts.Need-mul-firsts (
   threshold-cut-reads.Asked,
   threshold-cut-reads.Learnt,
@@ -1742,7 +1673,6 @@ read-threshold-mul-firsts : (t : ℕ) → read-threshold-lts.Need-mul-firsts (
 ) (read-threshold-at t) read-threshold.Post
 read-threshold-mul-firsts t c = search needs
 
--- src/lib.rt:220:13
 read-threshold-slice-write-firsts : (t : ℕ) → read-threshold-lts.Need-slice-write-firsts (
   threshold-cut-reads.Asked,
   threshold-cut-reads.Learnt,
@@ -1755,7 +1685,6 @@ read-threshold-slice-write-firsts : (t : ℕ) → read-threshold-lts.Need-slice-
 ) (read-threshold-at t) read-threshold.Post
 read-threshold-slice-write-firsts t c = search needs
 
--- src/lib.rt:221:32
 read-threshold-add-t27 : (t : ℕ) → read-threshold-lts.Need-add-t27 (
   threshold-cut-reads.Asked,
   threshold-cut-reads.Learnt,
@@ -1768,7 +1697,6 @@ read-threshold-add-t27 : (t : ℕ) → read-threshold-lts.Need-add-t27 (
 ) (read-threshold-at t) read-threshold.Post
 read-threshold-add-t27 t c = search needs
 
--- src/lib.rt:221:32
 read-threshold-add-t29 : (t : ℕ) → read-threshold-lts.Need-add-t29 (
   threshold-cut-reads.Asked,
   threshold-cut-reads.Learnt,
@@ -1781,7 +1709,6 @@ read-threshold-add-t29 : (t : ℕ) → read-threshold-lts.Need-add-t29 (
 ) (read-threshold-at t) read-threshold.Post
 read-threshold-add-t29 t c = search needs
 
--- src/lib.rt:221:63
 read-threshold-add-t30 : (t : ℕ) → read-threshold-lts.Need-add-t30 (
   threshold-cut-reads.Asked,
   threshold-cut-reads.Learnt,
@@ -1794,7 +1721,6 @@ read-threshold-add-t30 : (t : ℕ) → read-threshold-lts.Need-add-t30 (
 ) (read-threshold-at t) read-threshold.Post
 read-threshold-add-t30 t c = search needs
 
--- src/lib.rt:223:25
 read-threshold-enum-known-r : (t : ℕ) → read-threshold-lts.Need-enum-known-r (
   threshold-cut-reads.Asked,
   threshold-cut-reads.Learnt,
@@ -1807,7 +1733,6 @@ read-threshold-enum-known-r : (t : ℕ) → read-threshold-lts.Need-enum-known-r
 ) (read-threshold-at t) read-threshold.Post
 read-threshold-enum-known-r t c = search needs
 
--- src/lib.rt:191:1
 read-threshold-same-length : (t : ℕ) → read-threshold-lts.Need-same-length (
   threshold-cut-reads.Asked,
   threshold-cut-reads.Learnt,
@@ -1820,7 +1745,6 @@ read-threshold-same-length : (t : ℕ) → read-threshold-lts.Need-same-length (
 ) (read-threshold-at t) read-threshold.Post
 read-threshold-same-length t c = search needs
 
--- src/lib.rt:191:1
 read-threshold-same-length-2 : (t : ℕ) → read-threshold-lts.Need-same-length-2 (
   threshold-cut-reads.Asked,
   threshold-cut-reads.Learnt,
@@ -1833,7 +1757,6 @@ read-threshold-same-length-2 : (t : ℕ) → read-threshold-lts.Need-same-length
 ) (read-threshold-at t) read-threshold.Post
 read-threshold-same-length-2 t c = search needs
 
--- src/lib.rt:191:1
 read-threshold-returns-7 : (t : ℕ) → read-threshold-lts.Need-returns-7 (
   threshold-cut-reads.Asked,
   threshold-cut-reads.Learnt,
@@ -1857,7 +1780,6 @@ read-threshold-returns-7 t c =
     (threshold-then (c .before .before .before .before .before .before .before .before .before .before .before .before .before .before .before .before .before .args .s .now) (c .before .before .before .before .before .before .before .before .before .before .before .before .before .before .before .before .before .args .end) (c .before .before .before .before .before .before .before .before .before .before .before .before .before .before .before .before .before .args .owner) (c .before .before .before .before .before .before .before .before .before .before .before .before .before .before .before .before .before .args .at) (c .before .before .before .before .before .before .before .before .before .before .before .before .before .before .before .before .before .args .parts) (c .before .before .before .before .before .before .before .before .before .before .before .before .before .before .before .before .before .args .owners .now) (c .before .before .before .before .before .before .before .before .before .before .before .before .before .before .before .before .before .args .firsts .now) _ room fits rule long inside (subst (λ (k : ℕ). InnerDone (c .before .before .before .before .before .before .before .before .before .before .before .before .before .before .before .before .before .args .s .now) (c .before .before .before .before .before .before .before .before .before .before .before .before .before .before .before .before .before .args .at + 7 + k) (c .before .before .before .before .before .before .before .before .before .before .before .before .before .before .before .before .before .args .at + 7) (c .before .before .read-inner .result)) (c .before .before .before .before .two3 .ensures .0) (c .before .before .read-inner .ensures)) _ _ _
     (omega (arith, c .before .before .before .before .before .before .before .before .before .before .before .before .before .before .before .before .before .pre .1 .1 .owners)) (omega (arith, c .before .before .before .before .before .before .before .before .before .before .before .before .before .before .before .before .before .pre .1 .1 .firsts)) (c .enum-told .given .1))
 
--- src/lib.rt:191:1
 read-threshold-returns-8 : (t : ℕ) → read-threshold-lts.Need-returns-8 (
   threshold-cut-reads.Asked,
   threshold-cut-reads.Learnt,
@@ -1879,122 +1801,98 @@ read-threshold-returns-8 t c =
     let inside : c .before .before .before .before .before .before .before .before .before .before .before .before .before .before .before .before .before .before .args .at + 7 + number (c .before .before .before .before .before .before .before .before .before .before .before .before .before .before .before .before .before .before .args .s .now) (c .before .before .before .before .before .before .before .before .before .before .before .before .before .before .before .before .before .before .args .at + 5) 2 ≤ c .before .before .before .before .before .before .before .before .before .before .before .before .before .before .before .before .before .before .args .end = omega (arith, c .before .before .before .before .if6 .left, c .before .before .before .before .before .two3 .ensures .0, before) in
     inner-stops (c .before .before .before .before .before .before .before .before .before .before .before .before .before .before .before .before .before .before .args .s .now) (c .before .before .before .before .before .before .before .before .before .before .before .before .before .before .before .before .before .before .args .end) (c .before .before .before .before .before .before .before .before .before .before .before .before .before .before .before .before .before .before .args .owner) (c .before .before .before .before .before .before .before .before .before .before .before .before .before .before .before .before .before .before .args .at) (c .before .before .before .before .before .before .before .before .before .before .before .before .before .before .before .before .before .before .args .parts) (c .before .before .before .before .before .before .before .before .before .before .before .before .before .before .before .before .before .before .args .owners .now) (c .before .before .before .before .before .before .before .before .before .before .before .before .before .before .before .before .before .before .args .firsts .now) _ room fits rule long inside (subst (λ (k : ℕ). InnerDone (c .before .before .before .before .before .before .before .before .before .before .before .before .before .before .before .before .before .before .args .s .now) (c .before .before .before .before .before .before .before .before .before .before .before .before .before .before .before .before .before .before .args .at + 7 + k) (c .before .before .before .before .before .before .before .before .before .before .before .before .before .before .before .before .before .before .args .at + 7) (c .before .before .before .read-inner .result)) (c .before .before .before .before .before .two3 .ensures .0) (c .before .before .before .read-inner .ensures)) _ _ _ (c .before .r .given .1)
 
--- src/lib.rt:181:9
-read-thresholds-returns : (t : ℕ) → read-thresholds-lts.Need-returns (
+abbrev read-thresholds-Inv-loop : read-thresholds-lts.InvT-loop
+read-thresholds-Inv-loop s end at owner count parts owners₀ firsts₀ here₀ found₀ k₀ owners firsts here found k =
+    Thresholds s end owner count at parts (parted owners₀ firsts₀) k here found (parted owners firsts)
+
+abbrev read-thresholds-μ-loop : read-thresholds-lts.MeasureT-loop
+read-thresholds-μ-loop s end at owner count parts owners₀ firsts₀ here₀ found₀ k₀ owners firsts here found k =
+    k
+
+read-thresholds-loop-holds : (t : ℕ) → read-thresholds-lts.Need-loop-holds (
   read-threshold-below t,
   read-threshold.Post,
-  read-thresholds-below t,
-  read-thresholds.Post,
-) (read-thresholds-at t) read-thresholds.Post
-read-thresholds-returns t c =
-    thresholds-empty (c .before .before .before .before .args .s .now) (c .before .before .before .before .args .end) (c .before .before .before .before .args .owner) (c .before .before .before .before .args .count) (c .before .before .before .before .args .at) (c .before .before .before .before .args .parts) _ (omega (arith, c .if1 .taken)) (c .before .before .before .before .pre .1 .0 .before) (c .before .before .before .before .pre .1 .0 .room)
+) (read-thresholds-at t) read-thresholds.Post read-thresholds-Inv-loop read-thresholds-μ-loop
+read-thresholds-loop-holds t c =
+    thresholds-begun _ _ _ _ _ _ _ (c .before .before .before .pre .1 .0) (c .before .before .before .pre .1 .1)
 
--- src/lib.rt:183:9
 read-thresholds-read-threshold-requires :
     (t : ℕ) → read-thresholds-lts.Need-read-threshold-requires (
       read-threshold-below t,
       read-threshold.Post,
-      read-thresholds-below t,
-      read-thresholds.Post,
-    ) (read-thresholds-at t) read-thresholds.Post
+    ) (read-thresholds-at t) read-thresholds.Post read-thresholds-Inv-loop read-thresholds-μ-loop
 read-thresholds-read-threshold-requires t c κs = search needs
 
--- src/lib.rt:185:22
 read-thresholds-enum-known-t : (t : ℕ) → read-thresholds-lts.Need-enum-known-t (
   read-threshold-below t,
   read-threshold.Post,
-  read-thresholds-below t,
-  read-thresholds.Post,
-) (read-thresholds-at t) read-thresholds.Post
+) (read-thresholds-at t) read-thresholds.Post read-thresholds-Inv-loop read-thresholds-μ-loop
 read-thresholds-enum-known-t t c = search needs
 
--- src/lib.rt:185:92
-read-thresholds-sub-read-thresholds : (t : ℕ) → read-thresholds-lts.Need-sub-read-thresholds (
+read-thresholds-sub-k : (t : ℕ) → read-thresholds-lts.Need-sub-k (
   read-threshold-below t,
   read-threshold.Post,
-  read-thresholds-below t,
-  read-thresholds.Post,
-) (read-thresholds-at t) read-thresholds.Post
-read-thresholds-sub-read-thresholds t c = search needs
+) (read-thresholds-at t) read-thresholds.Post read-thresholds-Inv-loop read-thresholds-μ-loop
+read-thresholds-sub-k t c = search needs
 
--- src/lib.rt:185:55
-read-thresholds-read-thresholds-requires :
-    (t : ℕ) → read-thresholds-lts.Need-read-thresholds-requires (
-      read-threshold-below t,
-      read-threshold.Post,
-      read-thresholds-below t,
-      read-thresholds.Post,
-    ) (read-thresholds-at t) read-thresholds.Post
-read-thresholds-read-thresholds-requires t c κs =
-    let q = some-parts (c .before .before .before .before .before .before .before .before .before .before .before .before .before .before .before .before .args .owners .now) (c .before .before .before .before .before .before .before .before .before .before .before .before .before .before .before .before .args .firsts .now) (c .before .before .before .before .before .before .before .before .before .before .before .before .before .before .before .before .args .parts) (le-trans (c .before .before .before .before .before .before .before .before .before .before .before .before .before .before .before .before .pre .1 .0 .room) (c .before .before .before .before .before .before .before .before .before .before .before .before .before .before .before .before .pre .1 .1 .owners)) (le-trans (c .before .before .before .before .before .before .before .before .before .before .before .before .before .before .before .before .pre .1 .0 .room) (c .before .before .before .before .before .before .before .before .before .before .before .before .before .before .before .before .pre .1 .1 .firsts)) in
-    let b = others-here (c .before .before .before .before .before .before .before .before .before .before .before .before .before .before .before .before .args .s .now) (c .before .before .before .before .before .before .before .before .before .before .before .before .before .before .before .before .args .end) (c .before .before .before .before .before .before .before .before .before .before .before .before .before .before .before .before .args .owner) (c .before .before .before .before .before .before .before .before .before .before .before .before .before .before .before .before .args .count) (c .before .before .before .before .before .before .before .before .before .before .before .before .before .before .before .before .args .at) (c .before .before .before .before .before .before .before .before .before .before .before .before .before .before .before .before .args .parts) _ _ _ (omega (arith, c .before .before .before .before .before .before .before .before .before .before .before .before .if1 .left)) (c .before .before .before .before .before .before .before .before .before .read-threshold .ensures) _ _ _ (c .before .before .before .t .given .1) (q .0) (q .1) (q .2) in
-    let p = c .before .before .before .before .before .before .before .before .before .before .before .before .before .before .before .before .pre in
-    search needs
+read-thresholds-loop-less : (t : ℕ) → read-thresholds-lts.Need-loop-less (
+  read-threshold-below t,
+  read-threshold.Post,
+) (read-thresholds-at t) read-thresholds.Post read-thresholds-Inv-loop read-thresholds-μ-loop
+read-thresholds-loop-less t c = search needs
 
--- src/lib.rt:186:25
+read-thresholds-loop-again : (t : ℕ) → read-thresholds-lts.Need-loop-again (
+  read-threshold-below t,
+  read-threshold.Post,
+) (read-thresholds-at t) read-thresholds.Post read-thresholds-Inv-loop read-thresholds-μ-loop
+read-thresholds-loop-again t c =
+    threshold-read _ _ _ _ _ _ _ (c .before .before .before .before .before .before .before .before .before .before .before .loop .k) (c .before .before .before .before .before .before .before .before .before .before .before .loop .here) (c .before .before .before .before .before .before .before .before .before .before .before .loop .found) (parted (c .before .before .before .before .before .before .before .before .before .before .before .loop .owners) (c .before .before .before .before .before .before .before .before .before .before .before .loop .firsts)) _ _ _ _ _ (c .before .before .before .before .before .before .before .before .before .before .before .loop .inv) (c .before .before .before .before .before .before .before .before .before .before .loop-test .taken) (c .before .before .before .before .before .before .before .read-threshold .ensures) (c .before .t .given .1) (search needs)
+
 read-thresholds-enum-known-t-2 : (t : ℕ) → read-thresholds-lts.Need-enum-known-t-2 (
   read-threshold-below t,
   read-threshold.Post,
-  read-thresholds-below t,
-  read-thresholds.Post,
-) (read-thresholds-at t) read-thresholds.Post
+) (read-thresholds-at t) read-thresholds.Post read-thresholds-Inv-loop read-thresholds-μ-loop
 read-thresholds-enum-known-t-2 t c = search needs
 
--- src/lib.rt:174:1
 read-thresholds-same-length : (t : ℕ) → read-thresholds-lts.Need-same-length (
   read-threshold-below t,
   read-threshold.Post,
-  read-thresholds-below t,
-  read-thresholds.Post,
-) (read-thresholds-at t) read-thresholds.Post
+) (read-thresholds-at t) read-thresholds.Post read-thresholds-Inv-loop read-thresholds-μ-loop
 read-thresholds-same-length t c = search needs
 
--- src/lib.rt:174:1
 read-thresholds-same-length-2 : (t : ℕ) → read-thresholds-lts.Need-same-length-2 (
   read-threshold-below t,
   read-threshold.Post,
-  read-thresholds-below t,
-  read-thresholds.Post,
-) (read-thresholds-at t) read-thresholds.Post
+) (read-thresholds-at t) read-thresholds.Post read-thresholds-Inv-loop read-thresholds-μ-loop
 read-thresholds-same-length-2 t c = search needs
 
--- src/lib.rt:174:1
-read-thresholds-returns-2 : (t : ℕ) → read-thresholds-lts.Need-returns-2 (
+read-thresholds-returns : (t : ℕ) → read-thresholds-lts.Need-returns (
   read-threshold-below t,
   read-threshold.Post,
-  read-thresholds-below t,
-  read-thresholds.Post,
-) (read-thresholds-at t) read-thresholds.Post
-read-thresholds-returns-2 t c =
-    thresholds-then (c .before .before .before .before .before .before .before .before .before .before .before .before .before .before .before .before .before .before .before .before .before .args .s .now) (c .before .before .before .before .before .before .before .before .before .before .before .before .before .before .before .before .before .before .before .before .before .args .end) (c .before .before .before .before .before .before .before .before .before .before .before .before .before .before .before .before .before .before .before .before .before .args .owner) (c .before .before .before .before .before .before .before .before .before .before .before .before .before .before .before .before .before .before .before .before .before .args .count) (c .before .before .before .before .before .before .before .before .before .before .before .before .before .before .before .before .before .before .before .before .before .args .at) (c .before .before .before .before .before .before .before .before .before .before .before .before .before .before .before .before .before .before .before .before .before .args .parts) _ _ _ (omega (arith, c .before .before .before .before .before .before .before .before .before .before .before .before .before .before .before .before .before .if1 .left)) (c .before .before .before .before .before .before .before .before .before .before .before .before .before .before .read-threshold .ensures) _ _ _ (c .before .before .before .before .before .before .before .before .t .given .1) _ _ (c .before .before .before .before .read-thresholds .ensures)
+) (read-thresholds-at t) read-thresholds.Post read-thresholds-Inv-loop read-thresholds-μ-loop
+read-thresholds-returns t c =
+    c .before .before .before .before .before .before .before .before .before .before .before .loop .inv .rest _ _ (first-stops (c .before .before .before .before .before .before .before .before .before .before .before .before .before .before .before .args .s .now) (c .before .before .before .before .before .before .before .before .before .before .before .before .before .before .before .args .end) (c .before .before .before .before .before .before .before .before .before .before .before .before .before .before .before .args .owner) (c .before .before .before .before .before .before .before .before .before .before .before .loop .k) (c .before .before .before .before .before .before .before .before .before .before .before .loop .here) (c .before .before .before .before .before .before .before .before .before .before .before .loop .found) _ _ _ (c .before .before .before .before .before .before .before .before .before .before .loop-test .taken) (c .before .before .before .before .before .before .before .read-threshold .ensures) _ _ _ (c .before .t2 .given .1))
 
--- src/lib.rt:174:1
 read-thresholds-same-length-3 : (t : ℕ) → read-thresholds-lts.Need-same-length-3 (
   read-threshold-below t,
   read-threshold.Post,
-  read-thresholds-below t,
-  read-thresholds.Post,
-) (read-thresholds-at t) read-thresholds.Post
-read-thresholds-same-length-3 t c = search needs
+) (read-thresholds-at t) read-thresholds.Post read-thresholds-Inv-loop read-thresholds-μ-loop
+read-thresholds-same-length-3 t c =
+    c .before .loop .inv .long .owners
 
--- src/lib.rt:174:1
 read-thresholds-same-length-4 : (t : ℕ) → read-thresholds-lts.Need-same-length-4 (
   read-threshold-below t,
   read-threshold.Post,
-  read-thresholds-below t,
-  read-thresholds.Post,
-) (read-thresholds-at t) read-thresholds.Post
-read-thresholds-same-length-4 t c = search needs
+) (read-thresholds-at t) read-thresholds.Post read-thresholds-Inv-loop read-thresholds-μ-loop
+read-thresholds-same-length-4 t c =
+    c .before .loop .inv .long .firsts
 
--- src/lib.rt:174:1
-read-thresholds-returns-3 : (t : ℕ) → read-thresholds-lts.Need-returns-3 (
+read-thresholds-returns-2 : (t : ℕ) → read-thresholds-lts.Need-returns-2 (
   read-threshold-below t,
   read-threshold.Post,
-  read-thresholds-below t,
-  read-thresholds.Post,
-) (read-thresholds-at t) read-thresholds.Post
-read-thresholds-returns-3 t c =
-    first-stops (c .before .before .before .before .before .before .before .before .before .before .before .before .before .before .args .s .now) (c .before .before .before .before .before .before .before .before .before .before .before .before .before .before .args .end) (c .before .before .before .before .before .before .before .before .before .before .before .before .before .before .args .owner) (c .before .before .before .before .before .before .before .before .before .before .before .before .before .before .args .count) (c .before .before .before .before .before .before .before .before .before .before .before .before .before .before .args .at) (c .before .before .before .before .before .before .before .before .before .before .before .before .before .before .args .parts) _ _ _ (omega (arith, c .before .before .before .before .before .before .before .before .before .before .if1 .left)) (c .before .before .before .before .before .before .before .read-threshold .ensures) _ _ _ (c .before .t2 .given .1)
+) (read-thresholds-at t) read-thresholds.Post read-thresholds-Inv-loop read-thresholds-μ-loop
+read-thresholds-returns-2 t c =
+    c .before .loop .inv .rest _ _ (thresholds-empty (c .before .before .before .before .before .args .s .now) (c .before .before .before .before .before .args .end) (c .before .before .before .before .before .args .owner) (c .before .loop .k) (c .before .loop .here) (c .before .loop .found) _ (omega (arith, c .loop-test .left)) (c .before .loop .inv .here .before) (c .before .loop .inv .here .room))
 
 pub +read-children+read-inner+read-node+read-threshold+read-thresholds-spec :
     {M : Type 1} → statement M
@@ -2005,37 +1903,46 @@ pub +read-children+read-inner+read-node+read-threshold+read-thresholds-spec :
     μ-read-node
     μ-read-threshold
     μ-read-thresholds
-    (λ t. read-children-lts.spec (
-      read-node-below t,
-      read-node.Post,
-      read-children-below t,
-      read-children.Post,
-    )
+    (λ t. read-children-lts.spec
+    (read-node-below t, read-node.Post)
     (read-children-at t)
     read-children.Post
-    (read-children-returns t)
-    (read-children-sub-if2 t)
-    (read-children-returns-2 t)
-    (read-children-shared-slice-read-role t)
-    (read-children-returns-3 t)
-    (read-children-add-read-node t)
-    (read-children-read-node-requires t)
-    (read-children-enum-known-t t)
-    (read-children-sub-read-children t)
-    (read-children-read-children-requires t)
-    (read-children-enum-known-t-2 t)
+    read-children-Inv-loop
+    read-children-μ-loop
+    (read-children-loop-holds t)
+    (read-children-sub-if1 t)
     (read-children-same-length t)
     (read-children-same-length-2 t)
     (read-children-same-length-3 t)
     (read-children-same-length-4 t)
     (read-children-same-length-5 t)
-    (read-children-returns-4 t)
+    (read-children-returns t)
+    (read-children-shared-slice-read-role t)
     (read-children-same-length-6 t)
     (read-children-same-length-7 t)
     (read-children-same-length-8 t)
     (read-children-same-length-9 t)
     (read-children-same-length-10 t)
-    (read-children-returns-5 t))
+    (read-children-returns-2 t)
+    (read-children-add-read-node t)
+    (read-children-read-node-requires t)
+    (read-children-enum-known-t t)
+    (read-children-sub-k t)
+    (read-children-loop-less t)
+    (read-children-loop-again t)
+    (read-children-enum-known-t-2 t)
+    (read-children-same-length-11 t)
+    (read-children-same-length-12 t)
+    (read-children-same-length-13 t)
+    (read-children-same-length-14 t)
+    (read-children-same-length-15 t)
+    (read-children-returns-3 t)
+    (read-children-same-length-16 t)
+    (read-children-same-length-17 t)
+    (read-children-same-length-18 t)
+    (read-children-same-length-19 t)
+    (read-children-same-length-20 t)
+    (read-children-returns-4 t))
     (λ t. read-inner-lts.spec (
       read-node-below t,
       read-node.Post,
@@ -2171,18 +2078,21 @@ pub +read-children+read-inner+read-node+read-threshold+read-thresholds-spec :
     (read-threshold-returns-7 t)
     (read-threshold-returns-8 t))
     λ t. read-thresholds-lts.spec
-    (read-threshold-below t, read-threshold.Post, read-thresholds-below t, read-thresholds.Post)
+    (read-threshold-below t, read-threshold.Post)
     (read-thresholds-at t)
     read-thresholds.Post
-    (read-thresholds-returns t)
+    read-thresholds-Inv-loop
+    read-thresholds-μ-loop
+    (read-thresholds-loop-holds t)
     (read-thresholds-read-threshold-requires t)
     (read-thresholds-enum-known-t t)
-    (read-thresholds-sub-read-thresholds t)
-    (read-thresholds-read-thresholds-requires t)
+    (read-thresholds-sub-k t)
+    (read-thresholds-loop-less t)
+    (read-thresholds-loop-again t)
     (read-thresholds-enum-known-t-2 t)
     (read-thresholds-same-length t)
     (read-thresholds-same-length-2 t)
-    (read-thresholds-returns-2 t)
+    (read-thresholds-returns t)
     (read-thresholds-same-length-3 t)
     (read-thresholds-same-length-4 t)
-    (read-thresholds-returns-3 t)
+    (read-thresholds-returns-2 t)
