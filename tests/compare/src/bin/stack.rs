@@ -1,6 +1,5 @@
 //! How much of the stack each call uses, at most, over the costliest inputs
-//! and many others. Fails above 64 KiB, and for calls that read a message above
-//! 96 KiB.
+//! and many others. Fails above 64 KiB.
 
 use std::process::ExitCode;
 
@@ -15,9 +14,6 @@ use second::register;
 use second::requirement::{self, Node};
 
 const MOST: usize = 64 * 1024;
-/// The readers of a message call each other, and each of them itself for what
-/// stands beside: that needs more.
-const MOST_FOR_A_MESSAGE: usize = 96 * 1024;
 
 /// What a call is asked of: an image and a message.
 struct Input {
@@ -79,19 +75,19 @@ const CALLS: [(&str, usize, Work); 11] = [
     ("read_register", MOST, |input, _, _, _| {
         library::read_register(&input.image, 0);
     }),
-    ("read_requirement", MOST_FOR_A_MESSAGE, |input, _, _, _| {
+    ("read_requirement", MOST, |input, _, _, _| {
         library::read_requirement(&input.message);
     }),
-    ("inner_part", MOST_FOR_A_MESSAGE, |input, _, _, _| {
+    ("inner_part", MOST, |input, _, _, _| {
         library::inner_part(&input.message, 15);
     }),
-    ("degree", MOST_FOR_A_MESSAGE, |input, _, _, map| {
+    ("degree", MOST, |input, _, _, map| {
         library::degree(&input.image, &input.message, ITEM, map);
     }),
-    ("margin", MOST_FOR_A_MESSAGE, |input, _, _, _| {
+    ("margin", MOST, |input, _, _, _| {
         library::margin(&input.image, &input.message, ITEM, 2, 3);
     }),
-    ("member", MOST_FOR_A_MESSAGE, |input, _, _, map| {
+    ("member", MOST, |input, _, _, map| {
         library::member(&input.image, &input.message, ITEM, map);
     }),
     ("open", MOST, |_, buffer, _, _| {
