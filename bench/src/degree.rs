@@ -82,6 +82,18 @@ fn branches(count: u8) -> Node {
 /// 500 boards with 4 links each and a requirement of 10 nodes, as a house asks
 /// it: one call for each board.
 fn boards() -> Work {
+    let (register, root) = house();
+    work(
+        "boards",
+        "500 boards, 2,000 links, 10 nodes: 500 calls",
+        &register,
+        &root,
+        500,
+    )
+}
+
+/// 500 boards and a requirement of 10 nodes.
+pub fn house() -> (Register, Node) {
     let register = spread(500, 2000);
     let leaf = |name: u32| Node::leaf(1 << name | 1 << (name + 20));
     let node = |name: u32, children| Node {
@@ -92,13 +104,7 @@ fn boards() -> Work {
     let clock = node(4, vec![(0, leaf(5)), (2, node(6, vec![(3, leaf(7))]))]);
     let root = node(8, vec![(0, power), (1, clock), (2, leaf(9)), (3, leaf(10))]);
     assert_eq!(requirement::written(&root).len(), 10);
-    work(
-        "boards",
-        "500 boards, 2,000 links, 10 nodes: 500 calls",
-        &register,
-        &root,
-        500,
-    )
+    (register, root)
 }
 
 /// One call for the first item.

@@ -1,14 +1,17 @@
 //! Times of the proved library beside those of another program, in one run.
 //! `bench [NAME ..]` prints every measurement, or those named; `bench once
-//! NAME` makes both programs do one of them once, for counting instructions.
+//! NAME` makes both programs do one of them once, for counting instructions;
+//! `bench input` writes what the listing programs are given.
 
 mod degree;
+mod listing;
 mod member;
 mod message;
 mod read;
 mod session;
 mod straight;
 
+use std::io::Write;
 use std::time::Instant;
 
 /// One measurement: the same work by the library and by another program.
@@ -42,6 +45,7 @@ fn works() -> Vec<Work> {
     works.extend(degree::works());
     works.extend(member::works());
     works.extend(session::works());
+    works.extend(listing::works());
     works
 }
 
@@ -55,6 +59,9 @@ fn main() {
             .filter(move |work| names.is_empty() || names.iter().any(|name| name == work.name))
     };
     match words.split_first() {
+        Some((first, _)) if first == "input" => std::io::stdout()
+            .write_all(&listing::input())
+            .expect("the input is written"),
         Some((first, names)) if first == "once" => named(names).for_each(|work| {
             (work.library)();
             (work.second)();
