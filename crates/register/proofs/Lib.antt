@@ -5,3 +5,4 @@ pub mod Body
 pub mod Whole
 pub mod Facts
 pub mod Begins
+pub mod Promise
