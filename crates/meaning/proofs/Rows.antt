@@ -3,20 +3,17 @@
 -- Assumes nothing.
 use mathlib.Core.Path.{_≡_, refl, sym, ap, ap₂, subst, _∙_}
 use mathlib.Core.Bool.{Bool, true, false, _||_, cond}
-use mathlib.Core.List.{List, [], _∷_}
-use Prim.Native.Nat.{ℕ, _+_, _*_, _-_, _≤_, _<_}
+use mathlib.Core.List.{List, _∷_}
+use Prim.Native.Nat.{ℕ, _+_, _-_, _≤_, _<_}
 use native.Mathlib.Nat.{max-le}
 use native.Mathlib.Omega.{arith}
 use lib.Dec.{eqb}
 use lib.ListN.{getD}
 use Rattle.meaning.specs.Tree.{node, Forest, none, more, Concept, under, nodes, nodesF, levels, levelsF}
 use Rattle.meaning.specs.Whole.{any}
-use Rattle.meaning.specs.Reduce.{subsumes, dropped, keep, reduce, reduceF, mostSize}
-use Rattle.meaning.specs.InPlace.{countIn, sizeIn, sizeInF, scaleIn, scaleInF}
+use Rattle.meaning.specs.Reduce.{subsumes, dropped}
+use Rattle.meaning.specs.InPlace.{countIn, sizeIn, sizeInF}
 use Rattle.meaning.specs.Rows.{Holds, HoldsF, mark, Marked, MarkedF}
-use Rattle.meaning.proofs.Scale.{scale-pos, scaleF-pos}
-use Rattle.meaning.proofs.Bound.{mostScale, scale-bound}
-use Rattle.meaning.proofs.InPlace.{size-in, scale-in, scaleF-in}
 
 -- ---- one level at a time
 
@@ -327,16 +324,6 @@ module _ (names roles ends marks : List ℕ) (left n : ℕ) where
             so-far = subst (λ z. P t (more z v f) b) e p;
           }
 
-      pub walk-meets : c < getD ends n 0 → Holds names roles ends t left n (getD ends n 0) → Marked ends marks t n
-          → (v : Concept) × (f : Forest ℕ) × (b : Forest ℕ) × Met t v f b
-      unfolding Holds Marked
-      walk-meets lt h m = let u = w t h in go (u .rest) (u .before) (u .back) (u .marked m) (u .so-far m)
-        where
-          go : (f b : Forest ℕ) → HoldsF names roles ends f (left - 1) c (getD ends n 0) → MarkedF ends marks f b c → P t f b
-              → (v : Concept) × (f : Forest ℕ) × (b : Forest ℕ) × Met t v f b
-          go none b h x p = absurd (let z : c ≡ getD ends n 0 = h in omega arith)
-          go (more r v f) b h x p = (v, f, b, met r v f b h x p)
-
     pub walk-next : (Q : Concept → Forest ℕ → Forest ℕ → Type 0) → c < getD ends n 0 → {m : ℕ} → m ≡ getD ends c 0
         → ((t v : Concept) (f b : Forest ℕ) → Met t v f b → Q t f (more (getD roles c 0) v b)) → Walk Q m
     unfolding Holds Marked
@@ -378,59 +365,3 @@ module _ (r : ℕ) (u : Concept) (f b : Forest ℕ) where
       go : (d : Bool) → x ≡ cond d 0 (1 + sizeIn u) → cond d c (1 + c) + cond d s (sizeIn u + s) ≡ x + (c + s)
       go true e = omega arith
       go false e = omega arith
-
-  pub count-more : (y : ℕ) → y ≡ mark drops → countIn (more r u f) b ≡ y + countIn f (more r u b)
-  unfolding sizeIn
-  count-more y e = go drops e
-    where
-      c : ℕ
-      c = countIn f (more r u b)
-
-      go : (d : Bool) → y ≡ mark d → cond d c (1 + c) ≡ y + c
-      go true e = omega arith
-      go false e = omega arith
-
-  pub scale-more : (x : ℕ) → x ≡ cond drops 1 (scaleIn u) → scaleInF (more r u f) b ≡ x * scaleInF f (more r u b)
-  unfolding scaleIn
-  scale-more x e = go drops e
-    where
-      s : ℕ
-      s = scaleInF f (more r u b)
-
-      go : (d : Bool) → x ≡ cond d 1 (scaleIn u) → cond d s (scaleIn u * s) ≡ x * s
-      go true e = rw e (omega arith)
-      go false e = rw e
-
-  -- what is left is smaller, and so is the child if it is kept
-  pub rest-smaller : sizeInF f (more r u b) ≤ sizeInF (more r u f) b
-  unfolding sizeIn
-  rest-smaller = go drops
-    where
-      s : ℕ
-      s = sizeInF f (more r u b)
-
-      go : (d : Bool) → s ≤ cond d s (sizeIn u + s)
-      go true = omega arith
-      go false = omega arith
-
-  pub child-smaller : drops ≡ false → sizeIn u ≤ sizeInF (more r u f) b
-  unfolding sizeIn
-  child-smaller e = go drops e
-    where
-      s : ℕ
-      s = sizeInF f (more r u b)
-
-      go : (d : Bool) → d ≡ false → sizeIn u ≤ cond d s (sizeIn u + s)
-      go true e = absurd (let z : _≡_ {A = ℕ} 0 1 = cc in omega arith)
-      go false e = omega arith
-
--- ---- bounds of what is worked out in place
-
-pub scaleIn-pos : (t : Concept) → 0 < scaleIn t
-scaleIn-pos t = rw scale-in at (scale-pos (reduce t))
-
-pub scaleInF-pos : (f b : Forest ℕ) → 0 < scaleInF f b
-scaleInF-pos f b = rw scaleF-in at (scaleF-pos (keep (reduceF b) (reduceF f)))
-
-pub scaleIn-bound : (t : Concept) → sizeIn t ≤ mostSize → scaleIn t ≤ mostScale
-scaleIn-bound t h = rw scale-in at (scale-bound (reduce t) (rw (size-in t) h))

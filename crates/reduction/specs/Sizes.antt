@@ -1,4 +1,4 @@
--- Size and scale of a marked tree, over rows. No role is looked at: what is said holds for whatever roles the rows have.
+-- The size of a marked tree, over rows. No role is looked at: what is said holds for whatever roles the rows have.
 -- Assumes nothing.
 use mathlib.Core.Path.{_≡_}
 use mathlib.Core.Bool.{Bool, cond}
@@ -6,9 +6,8 @@ use mathlib.Core.List.{List}
 use Prim.Native.Nat.{ℕ, _+_, _*_, _-_, _≤_, _<_}
 use lib.ListN.{getD}
 use Rattle.meaning.specs.Tree.{Concept}
-use Rattle.meaning.specs.Reduce.{size, reduce, mostSize}
-use Rattle.meaning.specs.InPlace.{sizeIn, scaleIn}
-use Rattle.meaning.specs.Rows.{Holds, mark, Marked}
+use Rattle.meaning.specs.InPlace.{sizeIn}
+use Rattle.meaning.specs.Rows.{mark, Marked}
 use Rattle.reduction.specs.Held.{Held, ForTree}
 
 module _ (names ends : List ℕ) (left : ℕ) where
@@ -34,17 +33,3 @@ module _ (names ends : List ℕ) (left : ℕ) where
     pub record SizedKept (c v : ℕ) : Type 0 where
       pub right : CountsKept (λ t. 1 + sizeIn t) 0 c v
       pub small : v ≤ 65 * (getD ends c 0 - c)
-
-    -- a marked tree that is small enough to have a scale
-    pub record Small (n : ℕ) : Type 0 where
-      pub roles : List ℕ
-      pub held : Held names roles ends left n
-      pub marked : Marked ends marks (held .tree) n
-      pub small : sizeIn (held .tree) ≤ mostSize
-
-    -- the same, unless it is dropped
-    pub record SmallKept (c : ℕ) : Type 0 where
-      pub roles : List ℕ
-      pub held : Held names roles ends left c
-      pub marked : getD marks c 0 ≡ 1 → Marked ends marks (held .tree) c
-      pub small : getD marks c 0 ≡ 1 → sizeIn (held .tree) ≤ mostSize

@@ -1,15 +1,14 @@
-// Which nodes of a concept tree are dropped, its reduced size and its scale, over rows in reading order.
+// Which nodes of a concept tree are dropped, and its reduced size, over rows in reading order.
 // For each written node: its names, the role of the edge to it, and the index just past its subtree; marks: 1 kept, 0 dropped.
 ghost use mathlib.Core.Path.{_≡_};
 ghost use Prim.Native.Nat.{_≤_, _<_};
 ghost use lib.ListN.{length};
 ghost use Rattle.meaning.specs.Names.{names, within};
 ghost use Rattle.meaning.specs.Reduce.{subsumes, size, reduce};
-ghost use Rattle.meaning.specs.InPlace.{scaleIn};
 ghost use Rattle.reduction.specs.Held.{Held, ForTree};
 ghost use Rattle.reduction.specs.Subsumed.{yields, Two, Tests, TestsLike, Among, TestsOne, Sibling, TestsDropped};
 ghost use Rattle.reduction.specs.Marks.{Put, MarkedBelow, MarkedChild, MarkedWhole};
-ghost use Rattle.reduction.specs.Sizes.{HeldBy, Counts, CountsKept, Sized, SizedKept, Small, SmallKept};
+ghost use Rattle.reduction.specs.Sizes.{HeldBy, Sized, SizedKept};
 
 // A byte as a number.
 fn wide(x: u8) -> usize
@@ -262,36 +261,4 @@ pub fn reduced_size(names: &[u64; 64], roles: &[u8; 64], ends: &[u8; 64]) -> usi
     let mut marks = [0u8; 64];
     reduce(names, roles, ends, &mut marks);
     size(names, ends, &marks, 0, 17)
-}
-
-// The scale of the tree at the node: the product, over all kept nodes, of the names plus the kept children, with 1 for 0.
-pub fn scale(names: &[u64; 64], ends: &[u8; 64], marks: &[u8; 64], node: usize, left: usize) -> u64
-    requires { ⌜ Small (now names) (now ends) left (now marks) node ⌝ }
-    ensures { λ r. ⌜ Counts (now (names .entry)) (now (ends .entry)) left (now (marks .entry)) scaleIn node r ⌝ }
-    ensures { λ r. ⌜ r ≤ 3486784401 ⌝ }
-{
-    let end = wide(ends[node]);
-    let mut n = named(names[node]);
-    let mut product: u64 = 1;
-    let mut c = node + 1;
-    while c < end {
-        n += wide(marks[c]);
-        product *= child_scale(names, ends, marks, c, left - 1);
-        c = wide(ends[c]);
-    }
-    if n == 0 {
-        return product;
-    }
-    n as u64 * product
-}
-
-// What the child at c gives to the product.
-fn child_scale(names: &[u64; 64], ends: &[u8; 64], marks: &[u8; 64], c: usize, left: usize) -> u64
-    requires { ⌜ SmallKept (now names) (now ends) left (now marks) c ⌝ }
-    ensures { λ r. ⌜ CountsKept (now (names .entry)) (now (ends .entry)) left (now (marks .entry)) scaleIn 1 c r ⌝ }
-{
-    if marks[c] == 1 {
-        return scale(names, ends, marks, c, left);
-    }
-    1
 }
