@@ -103,7 +103,7 @@ abbrev pub memberRows : List ℕ → List ℕ → ℕ → List ℕ
 memberRows image message n = lines (λ i. memberRow i (memberCall image message i 64)) n
 
 -- A register of so many items and a requirement that were read: the degrees where it has no threshold. What the degree call still refuses, it
--- refuses for the first item as for each (14).
+-- refuses for the first item as for each (14): no row is a refusal (proofs/NoRefusals.antt).
 unfoldable pub listed : List ℕ → List ℕ → ℕ → List Part → Answer (List ℕ)
 listed image message n [] = degreeCall image message 0 64 >>= λ _. good (degreeHead ++ degreeRows image message n)
 listed image message n (p ∷ ps) = good (memberHead ++ memberRows image message n)
