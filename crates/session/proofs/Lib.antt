@@ -2,7 +2,6 @@ pub mod Walk
 pub mod Local
 pub mod Log
 pub mod Recorded
-pub mod PlayedRecords
 pub mod Stores
 pub mod Place
 pub mod Parts
@@ -11,4 +10,6 @@ pub mod Set
 pub mod Chains
 pub mod Answered
 pub mod Codes
+pub mod Followed
 pub mod Played
+pub mod PlayedRecords

@@ -2,7 +2,7 @@
 -- the steps that the numbers of the log code (`follows`). So demand 3 holds of them (`demand-3`), and an accepted edit that has something to change
 -- changes the image, the first and each later one (`edit-moves`), and so does an undo (`undo-moves`).
 -- Assumes nothing.
-use mathlib.Core.Path.{_≡_, refl, sym, ap, ap₂, _∙_, subst}
+use mathlib.Core.Path.{_≡_, refl, sym, ap, ap₂, _∙_}
 use mathlib.Core.List.{List, [], _∷_, map}
 use Prim.Native.Nat.{ℕ, _-_}
 use native.Mathlib.Omega.{arith}
@@ -15,7 +15,6 @@ use Rattle.meaning.specs.Session.{Edit, Changed, Call, opens, edits, undoes, ke
 use Rattle.meaning.specs.Session.{Session, noStep, lastStep, answer, buffer, log, countAfter, next, play, keptIf, accepted, Standing, nothing, told, standing, standingFacts}
 use Rattle.meaning.specs.Demand3.{Shows}
 use Rattle.meaning.proofs.Reading.{good-inj}
-use Rattle.meaning.proofs.Demand3 as meant
 use Rattle.session.specs.declared.Counted.{Counted}
 use Rattle.session.specs.declared.Counted.the-variants.{Good, Refused}
 use Rattle.session.specs.Coded.{decoded}
@@ -23,6 +22,7 @@ use Rattle.session.specs.Calls.{paper, anEdit, numbersAfter}
 use Rattle.session.specs.Played.{Lent, lent, steps, Promised, Called, Result, Played, calls, taken}
 use Rattle.session.proofs.Answered.{refused-inj}
 use Rattle.session.proofs.Codes.{last-decoded, log-decoded}
+use Rattle.session.proofs.Followed.{shows, edit-moved, undo-moved}
 
 -- ---- any two results that a promise allows are equal
 
@@ -116,10 +116,7 @@ module _ (s t : Lent) (g : Register) (r : readBuffer (s .buffer) ≡ good g) (a 
 
   pub demand-3 : Shows (length (g .names)) (standingFacts stands (isFact g)) (t .buffer)
   unfolding Played
-  demand-3 =
-      subst (λ (cs : List Call). Shows (length (g .names)) (standingFacts (standing nothing cs) (isFact g)) (t .buffer)) (sym (follow .1))
-      (subst (λ (z : Session). Shows (length (g .names)) (standingFacts (standing nothing (accepted (steps s) (opens ∷ calls xs))) (isFact g)) (z .buffer))
-      (sym (follow .0)) (meant.demand-3 (steps s) g (p .1 .bytes) r (calls xs)))
+  demand-3 = shows (steps s) (steps t) g (p .1 .bytes) r (calls xs) _ (follow .0) (follow .1)
 
   -- An accepted edit that leaves the image as it was had nothing to change; so had an undo's edit. So neither an image that never changes nor an undo
   -- that does nothing keeps the promises, nor a session that applies its first edit and only counts the rest: `xs` may hold any edits.
@@ -128,18 +125,11 @@ module _ (s t : Lent) (g : Register) (r : readBuffer (s .buffer) ≡ good g) (a 
   unfolding Played
   edit-moves e n u h i =
       let one = one-call t (edits e) (Good n) u h in
-      ap (λ (cs : List Call). standingFacts (standing nothing cs) (isFact g) (e .fact)) (follow .1)
-      ∙ meant.edit-moves (steps s) g (p .1 .bytes) r (calls xs) e n (ap (λ (z : Session). answer z (edits e)) (sym (follow .0)) ∙ sym (one .0))
-      (ap (λ (z : Session). imageOf (next z (edits e) .buffer)) (sym (follow .0)) ∙ sym (ap (λ (z : Session). imageOf (z .buffer)) (one .1)) ∙ i
-      ∙ ap (λ (z : Session). imageOf (z .buffer)) (follow .0))
+      edit-moved (steps s) (steps t) g (p .1 .bytes) r (calls xs) _ (follow .0) (follow .1) n (steps u) i e (one .0) (one .1)
 
   pub undo-moves : (e : Edit) (es : List Edit) (n : ℕ) (u : Lent) → stands .trial ≡ e ∷ es → Called t undoes (Good n) u
       → imageOf (u .buffer) ≡ imageOf (t .buffer) → standingFacts (told stands undoes) (isFact g) (e .fact) ≡ e .adds
   unfolding Played
   undo-moves e es n u d h i =
       let one = one-call t undoes (Good n) u h in
-      ap (λ (cs : List Call). standingFacts (told (standing nothing cs) undoes) (isFact g) (e .fact)) (follow .1)
-      ∙ meant.undo-moves (steps s) g (p .1 .bytes) r (calls xs) e es n (ap (λ (cs : List Call). standing nothing cs .trial) (sym (follow .1)) ∙ d)
-      (ap (λ (z : Session). answer z undoes) (sym (follow .0)) ∙ sym (one .0))
-      (ap (λ (z : Session). imageOf (next z undoes .buffer)) (sym (follow .0)) ∙ sym (ap (λ (z : Session). imageOf (z .buffer)) (one .1)) ∙ i
-      ∙ ap (λ (z : Session). imageOf (z .buffer)) (follow .0))
+      undo-moved (steps s) (steps t) g (p .1 .bytes) r (calls xs) _ (follow .0) (follow .1) n (steps u) i e es d (one .0) (one .1)
