@@ -69,6 +69,10 @@ more-length left n p l =
 pub as-text : {a b : List ℕ} {at r : ℕ} {t u : List ℕ} → t ≡ u → Wrote a b at u r → Wrote a b at t r
 as-text {a} {b} {at} {r} e w = subst (λ (z : List ℕ). Wrote a b at z r) (sym e) w
 
+-- the number that was written is the one meant: an equation of numbers
+pub as-number : {a b : List ℕ} {at r n : ℕ} (m : ℕ) → Wrote a b at (decimal n) r → n ≡ m → Wrote a b at (decimal m) r
+as-number {a} {b} {at} {r} m w e = subst (λ (z : ℕ). Wrote a b at (decimal z) r) e w
+
 -- ---- how long a number is
 
 pub digits-most : (left n : ℕ) → length (digits left n) ≤ left

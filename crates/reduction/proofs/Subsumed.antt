@@ -1,6 +1,6 @@
 -- The tests of the drop rule as the code comes to them: one law for each way out of a function and each turn of a loop.
 -- Assumes nothing.
-use mathlib.Core.Path.{_≡_, refl, sym, ap, _∙_, fun-ext}
+use mathlib.Core.Path.{_≡_, refl, sym, ap, _∙_, subst, fun-ext}
 use mathlib.Core.Bool.{Bool, true, false, _&&_, _||_, not, cond}
 use mathlib.Core.List.{List, _∷_}
 use Prim.Native.Nat.{ℕ, _+_, _-_, _≤_, _<_}
@@ -90,8 +90,10 @@ module _ (names roles ends : List ℕ) (left : ℕ) where
       pub role-differs : (getD roles c 0 ≡ getD roles d 0 → ⊥) → TestsLike names roles ends left p c d false
       role-differs n t h u h′ = rw (ne-eqb (getD roles c 0) (getD roles d 0) n)
 
-      pub role-same : {b : Bool} → getD roles c 0 ≡ getD roles d 0 → Tests names roles ends left p c d b → TestsLike names roles ends left p c d b
-      role-same e test t h u h′ = rw (eq-eqb (getD roles c 0) (getD roles d 0) e) (test t h u h′)
+      -- i and j: the trees that were tested, which are to be those at c and d
+      pub role-same : {b : Bool} {i j : ℕ} → Tests names roles ends left p i j b → i ≡ c → j ≡ d → getD roles c 0 ≡ getD roles d 0 → TestsLike names roles ends left p c d b
+      role-same {b} {i} test x y e t h u h′ =
+          rw (eq-eqb (getD roles c 0) (getD roles d 0) e) (subst (λ (z : ℕ). Tests names roles ends left p z d b) x (subst (λ (z : ℕ). Tests names roles ends left p i z b) y test) t h u h′)
 
     module _ (i e : ℕ) where
       -- of those from i up to e the ones before d do not pass
@@ -156,6 +158,7 @@ module _ (names roles ends : List ℕ) (left : ℕ) where
 
   module _ (c d : ℕ) (earlier : Bool) {b : Bool} (test : TestsLike names roles ends left subsumes c d b) where
     pub yields-not : b ≡ false → TestsLike names roles ends left (yields earlier) c d false
+    unfolding yields
     yields-not q t h u h′ = go (eqb (getD roles c 0) (getD roles d 0)) (subsumes t u) (sym (test t h u h′) ∙ q)
       where
         go : (x y : Bool) → (x && y) ≡ false → false ≡ (x && (y && (earlier || not (subsumes u t))))
@@ -164,6 +167,7 @@ module _ (names roles ends : List ℕ) (left : ℕ) where
 
     yields-as : b ≡ true → (t : Concept) → Holds names roles ends t left c (getD ends c 0) → (u : Concept) → Holds names roles ends u left d (getD ends d 0)
         → (w : Bool) → w ≡ (earlier || not (subsumes u t)) → w ≡ (eqb (getD roles c 0) (getD roles d 0) && yields earlier t u)
+    unfolding yields
     yields-as q t h u h′ w e = e ∙ go (eqb (getD roles c 0) (getD roles d 0)) (subsumes t u) (sym (test t h u h′) ∙ q)
       where
         v : Bool
@@ -183,16 +187,19 @@ module _ (names roles ends : List ℕ) (left : ℕ) where
   and-true true = refl
   and-true false = refl
 
-  module _ (i c e : ℕ) {b : Bool} (test : TestsOne names roles ends left (yields true) c i c b) where
+  module _ (i c e : ℕ) {b x : Bool} (test : TestsOne names roles ends left (yields x) c i c b) (first : x ≡ true) where
     before : (g : Forest ℕ) → HoldsF names roles ends g left i c → (t : Concept) → Holds names roles ends t left c (getD ends c 0)
         → any (λ u. subsumes t u) (under (getD roles c 0) g) ≡ b
+    unfolding yields
     before g k t h =
-        ap (λ (p : Concept → Bool). any p (under (getD roles c 0) g)) (fun-ext (λ u. sym (and-true (subsumes t u)))) ∙ sym (test t h g k)
+        ap (λ (p : Concept → Bool). any p (under (getD roles c 0) g)) (fun-ext (λ u. sym (and-true (subsumes t u))))
+        ∙ sym (subst (λ (z : Bool). TestsOne names roles ends left (yields z) c i c b) first test t h g k)
 
     pub drop-before : b ≡ true → TestsDropped names roles ends left i c e true
     unfolding dropped
     drop-before q g k t h f m = rw (before g k t h ∙ q)
 
-    pub drop-after : (v : Bool) → b ≡ false → TestsOne names roles ends left (yields false) c (getD ends c 0) e v → TestsDropped names roles ends left i c e v
-    unfolding dropped
-    drop-after v q later g k t h f m = rw (before g k t h ∙ q) (later t h f m)
+    pub drop-after : (v : Bool) {y : Bool} → b ≡ false → TestsOne names roles ends left (yields y) c (getD ends c 0) e v → y ≡ false → TestsDropped names roles ends left i c e v
+    unfolding dropped yields
+    drop-after v q later second g k t h f m =
+        rw (before g k t h ∙ q) (subst (λ (z : Bool). TestsOne names roles ends left (yields z) c (getD ends c 0) e v) second later t h f m)

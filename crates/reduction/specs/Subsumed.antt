@@ -12,7 +12,7 @@ use Rattle.meaning.specs.Reduce.{subsumes, dropped}
 use Rattle.reduction.specs.Held.{Held, HeldF, ForTree, ForTrees}
 
 -- "drop child i when another child j is subsumed by child i and either the converse fails or j stands earlier": child i for child j
-abbrev pub yields : Bool → Concept → Concept → Bool
+unfoldable pub yields : Bool → Concept → Concept → Bool
 yields earlier i j = subsumes i j && (earlier || not (subsumes j i))
 
 module _ (names roles ends : List ℕ) (left : ℕ) where

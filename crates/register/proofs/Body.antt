@@ -84,11 +84,12 @@ module _ (s : List ℕ) (end : ℕ) where
       in-range : (ltb n 1 || ltb mostItems n) ≡ false
       in-range = neither (ltb n 1) (ltb mostItems n) (not-below n 1 some′) (not-below mostItems n few)
 
-      pub body-names-cut : end < 5 + 8 * n → answer ≡ refused (at register 1 (5 + (end - 5) / 8 * 8))
+      pub body-names-cut : {place : ℕ} → end < 5 + 8 * n → place ≡ 5 + (end - 5) / 8 * 8 → answer ≡ refused (at register 1 place)
       unfolding readBody
-      body-names-cut h =
+      body-names-cut h e =
           counted-refused _ (fit-field end 2 3 _ long ∙ pass (ltb n 1 || ltb mostItems n) _ _ in-range
           ∙ stopped (readItems s end n 5) _ _ (items-cut s end n 5 long h))
+          ∙ ap (λ (z : ℕ). refused (at register 1 z)) (sym e)
 
       module _ (items : 5 + 8 * n ≤ end) where
         abbrev p : ℕ

@@ -20,17 +20,17 @@ use Rattle.session.specs.Moved.{movedUp, movedDown}
 use Rattle.session.specs.Setting.{PlaceOf, bufferInserted, bufferRemoved}
 use Rattle.session.proofs.Changes.{insert-law, remove-law}
 
-pub insert-chain : (s : List ℕ) → Bytes s → (items links k a r c number : ℕ) (t1 t2 t3 t4 : List ℕ) (g : Register) → readBuffer s ≡ good g
+pub insert-chain : {at : ℕ} (s : List ℕ) → Bytes s → (items links k a r c number : ℕ) (t1 t2 t3 t4 : List ℕ) (g : Register) → readBuffer s ≡ good g
     → (items ≡ length (g .names)) × (links ≡ length (g .links)) → k ≤ links → 12 + 8 * items + 5 * links ≤ length s → r < 256 → c < 65536 → number ≡ key (link a r c)
-    → t1 ≡ movedUp s (7 + 8 * items + 5 * k) (7 + 8 * items + 5 * links) → t2 ≡ sets t1 (7 + 8 * items + 5 * k) (bytes 5 number)
+    → t1 ≡ movedUp s (7 + 8 * items + 5 * k) (7 + 8 * items + 5 * links) → t2 ≡ sets t1 at (bytes 5 number) → at ≡ 7 + 8 * items + 5 * k
     → t3 ≡ sets t2 (7 + 8 * items - 2) (bytes 2 (links + 1)) → t4 ≡ sets t3 1 (bytes 2 (7 + 8 * items + 5 * links + 2)) → t4 ≡ bufferInserted s k (link a r c) g
-insert-chain s by items links k a r c number t1 t2 t3 t4 g e ei h room hr hc en e1 e2 e3 e4 =
+insert-chain s by items links k a r c number t1 t2 t3 t4 g e ei h room hr hc en e1 e2 place e3 e4 =
     let n = length (g .names) in
     let m = length (g .links) in
     let law = insert-law s g by e k (link a r c) (omega (arith, ei .1)) number (7 + 8 * items - 2) (links + 1) (7 + 8 * items + 5 * links + 2) en hr hc
     (omega (arith, ei .0)) (omega (arith, ei .1)) (omega (arith, ei .0, ei .1)) (omega (arith, ei .0, ei .1)) in
     let f1 : t1 ≡ movedUp s (7 + 8 * n + 5 * k) (7 + 8 * n + 5 * m) = e1 ∙ ap₂ (λ (i j : ℕ). movedUp s (7 + 8 * i + 5 * k) (7 + 8 * i + 5 * j)) (ei .0) (ei .1) in
-    let f2 : t2 ≡ sets t1 (7 + 8 * n + 5 * k) (bytes 5 number) = e2 ∙ ap (λ (i : ℕ). sets t1 (7 + 8 * i + 5 * k) (bytes 5 number)) (ei .0) in
+    let f2 : t2 ≡ sets t1 (7 + 8 * n + 5 * k) (bytes 5 number) = e2 ∙ ap (λ (i : ℕ). sets t1 i (bytes 5 number)) (omega (arith, place, ei .0)) in
     e4 ∙ ap (λ (z : List ℕ). sets z 1 (bytes 2 (7 + 8 * items + 5 * links + 2)))
     (e3 ∙ ap (λ (z : List ℕ). sets z (7 + 8 * items - 2) (bytes 2 (links + 1))) (f2 ∙ ap (λ (z : List ℕ). sets z (7 + 8 * n + 5 * k) (bytes 5 number)) f1)) ∙ law
 

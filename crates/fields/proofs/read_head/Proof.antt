@@ -11,6 +11,10 @@ use Rattle.meaning.specs.Bytes.{readHead, number}
 use Rattle.fields.specs.Head.{wrongIn}
 use Rattle.fields.proofs.Wrong.{wrong-longer, wrong-shorter, right-front, right-whole}
 
+-- a head's end as a number of its own, so that a wrong end is a false equation of numbers
+ends-at : {a b : ℕ} {r : Answer ℕ} → r ≡ good b → a ≡ b → good a ≡ r
+ends-at h e = ap good e ∙ sym h
+
 returns : tie.Need-returns
 returns c =
     let h : length (c .before .before .args .s .now) < 3 = omega arith in
@@ -40,7 +44,7 @@ returns-4 : tie.Need-returns-4
 returns-4 c =
     let h : 3 ≤ length (c .before .before .before .before .before .before .before .args .s .now) = omega arith in
     let l : number (c .before .before .before .before .before .before .before .args .s .now) 1 2 ≤ length (c .before .before .before .before .before .before .before .args .s .now) - 3 = omega (arith, c .before .before .two .ensures .0) in
-    (λ side. ap (λ (z : ℕ). good (3 + z)) (c .before .before .two .ensures .0) ∙ sym (head-good side (wrongIn (c .before .before .before .before .before .before .before .args .session)) (c .before .before .before .before .before .before .before .args .s .now) h (c .before .before .before .if2 .left) (right-front (c .before .before .before .before .before .before .before .args .session) _ _ (c .if4 .taken) l)), omega arith)
+    (λ side. ends-at (head-good side (wrongIn (c .before .before .before .before .before .before .before .args .session)) (c .before .before .before .before .before .before .before .args .s .now) h (c .before .before .before .if2 .left) (right-front (c .before .before .before .before .before .before .before .args .session) _ _ (c .if4 .taken) l)) (omega (arith, c .before .before .two .ensures .0)), omega arith)
 
 returns-5 : tie.Need-returns-5
 returns-5 c =
@@ -55,7 +59,7 @@ returns-6 : tie.Need-returns-6
 returns-6 c =
     let h : 3 ≤ length (c .before .before .before .before .before .before .before .before .args .s .now) = omega arith in
     let l : number (c .before .before .before .before .before .before .before .before .args .s .now) 1 2 ≡ length (c .before .before .before .before .before .before .before .before .args .s .now) - 3 = omega (arith, c .before .before .before .two .ensures .0) in
-    (λ side. ap (λ (z : ℕ). good (3 + z)) (c .before .before .before .two .ensures .0) ∙ sym (head-good side (wrongIn (c .before .before .before .before .before .before .before .before .args .session)) (c .before .before .before .before .before .before .before .before .args .s .now) h (c .before .before .before .before .if2 .left) (right-whole (c .before .before .before .before .before .before .before .before .args .session) _ _ (c .before .if4 .left) l)), omega arith)
+    (λ side. ends-at (head-good side (wrongIn (c .before .before .before .before .before .before .before .before .args .session)) (c .before .before .before .before .before .before .before .before .args .s .now) h (c .before .before .before .before .if2 .left) (right-whole (c .before .before .before .before .before .before .before .before .args .session) _ _ (c .before .if4 .left) l)) (omega (arith, c .before .before .before .two .ensures .0)), omega arith)
 
 pub read-head-spec : {M : Type 1} → statement M
 read-head-spec =

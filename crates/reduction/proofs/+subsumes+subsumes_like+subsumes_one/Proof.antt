@@ -134,9 +134,9 @@ pub +subsumes+subsumes-like+subsumes-one-spec : {M : Type 1} → statement M
     subsumes-like.Post
     (λ c. let a = in-range _ _ _ _ (c .pre .1 .one) in let b = in-range _ _ _ _ (c .pre .1 .other) in omega arith)
     (λ c. let a = in-range _ _ _ _ (c .before .pre .1 .one) in let b = in-range _ _ _ _ (c .before .pre .1 .other) in omega arith)
-    (λ c. role-differs _ _ _ _ _ _ _ (c .if1 .taken))
+    (λ c. role-differs _ _ _ _ _ (c .before .before .before .args .c) (c .before .before .before .args .d) (λ e. omega (arith, c .if1 .taken, e)))
     (λ c κs. search needs)
-    (λ c. role-same _ _ _ _ _ _ _ (c .before .if1 .left) (c .subsumes .ensures)))
+    (λ c. role-same _ _ _ _ _ (c .before .before .before .before .args .c) (c .before .before .before .before .args .d) (c .subsumes .ensures) (omega arith) (omega arith) (omega (arith, c .before .if1 .left))))
     λ t. subsumes-one-lts.spec
     (subsumes-like-below t, subsumes-like.Post, wide-reads.Asked, wide-reads.Learnt)
     (subsumes-one-at t)

@@ -1,6 +1,7 @@
 use borrow.Author.Needs.{needs}
 use Rattle.reduction.proofs.dropped.Statement.{statement}
 use Rattle.reduction.proofs.dropped.Tie as tie
+use mathlib.Core.Path.{refl}
 use native.Mathlib.Omega.{arith}
 use Rattle.reduction.proofs.Held.{in-range}
 use Rattle.reduction.proofs.Subsumed.{drop-before, drop-after}
@@ -11,7 +12,7 @@ yields-one-requires c κs =
 
 returns : tie.Need-returns
 returns c =
-    drop-before _ _ _ _ _ _ _ (c .before .yields-one .ensures) (c .if1 .taken)
+    drop-before _ _ _ _ _ _ _ (c .before .yields-one .ensures) refl (c .if1 .taken)
 
 element-copy-out-wide : tie.Need-element-copy-out-wide
 element-copy-out-wide c =
@@ -26,7 +27,7 @@ yields-one-requires-2 c κs =
 
 returns-2 : tie.Need-returns-2
 returns-2 c =
-    drop-after _ _ _ _ _ _ _ (c .before .before .before .before .yields-one .ensures) _ (c .before .before .before .if1 .left) (rw (c .before .wide .ensures .0) at (c .yields-one2 .ensures))
+    drop-after _ _ _ _ _ _ _ (c .before .before .before .before .yields-one .ensures) refl _ (c .before .before .before .if1 .left) (rw (c .before .wide .ensures .0) at (c .yields-one2 .ensures)) refl
 
 pub dropped-spec : {M : Type 1} → statement M
 dropped-spec =

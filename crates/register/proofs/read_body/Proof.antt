@@ -53,7 +53,7 @@ refused-requires-4 c κs = search needs
 returns-4 : tie.Need-returns-4
 returns-4 c =
     let e = c .before .before .before .before .two .ensures .0 in
-    ap paper (c .refused4 .ensures) ∙ sym (body-names-cut (c .before .before .before .before .before .before .before .args .s .now) (c .before .before .before .before .before .before .before .args .end) (omega arith) (omega arith) (omega arith) (omega arith))
+    ap paper (c .refused4 .ensures) ∙ sym (body-names-cut (c .before .before .before .before .before .before .before .args .s .now) (c .before .before .before .before .before .before .before .args .end) (omega arith) (omega arith) (omega arith) (omega arith) (omega arith))
 
 add-if5 : tie.Need-add-if5
 add-if5 c = search needs

@@ -6,9 +6,13 @@ use Rattle.requirement.proofs.inner_part.Lts as lts
 use Rattle.requirement.proofs.find_inner.Reads as find-inner-reads
 use mathlib.Core.Path.{_≡_, refl, sym, _∙_, ap, subst}
 use Prim.Native.Nat.{ℕ, _+_, _-_, _≤_}
+use mathlib.Core.List.{List}
 use native.Mathlib.Nat.{add-sub-cancel-left}
+use native.Mathlib.Omega.{arith}
 use lib.ListN.{take, drop}
+use Rattle.meaning.specs.Message.{readRequirement}
 use Rattle.requirement.specs.declared.Place.{Place}
+use Rattle.requirement.specs.Reading.{placeOf}
 use Rattle.requirement.proofs.Inner.{inner-bytes}
 
 -- src/lib.rt:86:9
@@ -31,11 +35,15 @@ part-result-start c = search needs
 part-result-end : tie.Need-part-result-end
 part-result-end c = search needs
 
+-- the inner concept that was found is the one asked for: an equation of numbers
+asked-for : {p : Place} (s : List ℕ) {j : ℕ} (k : ℕ) → p ≡ placeOf j (readRequirement s) → j ≡ k → p ≡ placeOf k (readRequirement s)
+asked-for {p} s k e n = subst (λ (z : ℕ). p ≡ placeOf z (readRequirement s)) n e
+
 -- src/lib.rt:83:1
 returns : tie.Need-returns
 returns c =
     ap (λ (n : ℕ). take n (drop (c .before .before .find-inner .result .start) (c .before .before .before .before .args .s .now))) (add-sub-cancel-left (c .before .before .find-inner .result .start) (c .before .before .find-inner .result .len))
-    ∙ ap (λ (p : Place). take (p .len) (drop (p .start) (c .before .before .before .before .args .s .now))) (c .before .before .find-inner .ensures .0) ∙ inner-bytes (c .before .before .before .before .args .s .now) (c .before .before .before .before .args .k)
+    ∙ ap (λ (p : Place). take (p .len) (drop (p .start) (c .before .before .before .before .args .s .now))) (asked-for (c .before .before .before .before .args .s .now) (c .before .before .before .before .args .k) (c .before .before .find-inner .ensures .0) (omega arith)) ∙ inner-bytes (c .before .before .before .before .args .s .now) (c .before .before .before .before .args .k)
 
 pub inner-part-spec : {M : Type 1} → statement M
 inner-part-spec =

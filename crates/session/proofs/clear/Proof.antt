@@ -35,7 +35,7 @@ loop-less c = search needs
 
 loop-again : tie.Need-loop-again Inv-loop μ-loop
 loop-again c =
-    (omega arith, omega arith, length-set (c .before .loop .s) _ _ ∙ c .before .loop .inv .2, ap (λ (z : List ℕ). set z (c .before .loop .i) 0) (c .before .loop .inv .3) ∙ clear-more (c .before .before .args .s .now) (c .before .before .args .from) (c .before .loop .i) (c .before .loop .inv .0) (c .loop-test .taken))
+    (omega arith, omega arith, length-set (c .before .loop .s) _ _ ∙ c .before .loop .inv .2, ap (λ (z : List ℕ). set z (c .before .loop .i) 0) (c .before .loop .inv .3) ∙ clear-more (c .before .before .args .s .now) (c .before .before .args .from) (c .before .loop .i) (c .before .loop .inv .0) (omega (arith, c .loop-test .taken)))
 
 same-length : tie.Need-same-length Inv-loop μ-loop
 same-length c =

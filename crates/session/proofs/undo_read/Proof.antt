@@ -5,8 +5,18 @@ use Rattle.session.proofs.Answered.{undo-no, undo-17, undo-19, undo-ran
 use Rattle.session.proofs.undo_read.Statement.{statement}
 use Rattle.session.proofs.undo_read.Tie as tie
 use borrow.Author.Needs.{needs}
-use mathlib.Core.Path.{_≡_, refl, sym, ap, _∙_}
+use mathlib.Core.Path.{_≡_, refl, sym, ap, _∙_, subst}
+use mathlib.Core.Bool.{Bool}
+use mathlib.Core.List.{List}
+use Prim.Native.Nat.{ℕ}
+use Rattle.meaning.specs.declared.Fact.{Fact}
+use Rattle.session.specs.declared.Setting.{Setting}
+use Rattle.session.specs.Setting.{SettingOf}
 use native.Mathlib.Omega.{arith}
+
+-- what the fact is set to is an equation of its own: what the last step says of it
+as-it-was : (s after : List ℕ) (fact : Fact) (r : Setting) (was : Bool) {b : Bool} → SettingOf s fact b after r → b ≡ was → SettingOf s fact was after r
+as-it-was s after fact r was h e = subst (λ (z : Bool). SettingOf s fact z after r) e h
 
 room-requires : tie.Need-room-requires
 room-requires c κs = search needs
@@ -66,14 +76,14 @@ same-length c = search needs
 
 returns-5 : tie.Need-returns-5
 returns-5 c =
-    undo-done ((c .before .before .before .before .before .before .before .before .before .before .before .before .before .before .args .s .now)) ((c .before .before .before .before .before .before .before .before .before .before .before .before .before .before .args .log)) ((c .before .before .before .before .before .before .before .before .before .before .before .before .before .before .args .count)) ((c .before .before .before .before .before .before .before .before .before .before .before .before .before .before .args .last)) ((c .before .before .before .before .before .before .before .before .before .before .before .before .before .before .args .items)) ((c .before .before .before .before .before .before .before .before .before .before .before .before .before .before .args .links)) ((c .before .before .before .before .before .before .before .before .before .before .before .before .room .result)) ((c .before .before .before .before .before .before .before .before .before .out-of-range .result)) ((c .before .before .before .before .before .before .before .role-above .result)) (c .before .before .before .before .before .before .before .before .before .before .before .before .before .before .pre) ((c .before .before .before .before .before .before .before .before .before .before .before .before .room .ensures)) ((c .before .before .before .before .before .before .before .before .before .out-of-range .ensures)) ((c .before .before .before .before .before .before .before .role-above .ensures)) ((c .before .before .before .before .before .before .before .before .before .before .before .if1 .left)) ((c .before .before .before .before .before .before .before .before .before .before .if2 .left)) ((c .before .before .before .before .before .before .before .before .if3 .left)) ((c .before .before .before .before .before .before .if4 .left)) _ _ ((c .before .before .before .before .set-fact .result)) ((c .enum-told .given .1)) ((c .before .before .before .before .set-fact .ensures))
+    undo-done ((c .before .before .before .before .before .before .before .before .before .before .before .before .before .before .args .s .now)) ((c .before .before .before .before .before .before .before .before .before .before .before .before .before .before .args .log)) ((c .before .before .before .before .before .before .before .before .before .before .before .before .before .before .args .count)) ((c .before .before .before .before .before .before .before .before .before .before .before .before .before .before .args .last)) ((c .before .before .before .before .before .before .before .before .before .before .before .before .before .before .args .items)) ((c .before .before .before .before .before .before .before .before .before .before .before .before .before .before .args .links)) ((c .before .before .before .before .before .before .before .before .before .before .before .before .room .result)) ((c .before .before .before .before .before .before .before .before .before .out-of-range .result)) ((c .before .before .before .before .before .before .before .role-above .result)) (c .before .before .before .before .before .before .before .before .before .before .before .before .before .before .pre) ((c .before .before .before .before .before .before .before .before .before .before .before .before .room .ensures)) ((c .before .before .before .before .before .before .before .before .before .out-of-range .ensures)) ((c .before .before .before .before .before .before .before .role-above .ensures)) ((c .before .before .before .before .before .before .before .before .before .before .before .if1 .left)) ((c .before .before .before .before .before .before .before .before .before .before .if2 .left)) ((c .before .before .before .before .before .before .before .before .if3 .left)) ((c .before .before .before .before .before .before .if4 .left)) _ _ ((c .before .before .before .before .set-fact .result)) ((c .enum-told .given .1)) (as-it-was _ _ _ (c .before .before .before .before .set-fact .result) (c .before .before .before .before .before .before .before .before .before .before .before .before .before .before .args .last .was) (c .before .before .before .before .set-fact .ensures) refl)
 
 same-length-2 : tie.Need-same-length-2
 same-length-2 c = search needs
 
 returns-6 : tie.Need-returns-6
 returns-6 c =
-    undo-full ((c .before .before .before .before .before .before .before .before .before .before .before .before .before .before .before .args .s .now)) ((c .before .before .before .before .before .before .before .before .before .before .before .before .before .before .before .args .log)) ((c .before .before .before .before .before .before .before .before .before .before .before .before .before .before .before .args .count)) ((c .before .before .before .before .before .before .before .before .before .before .before .before .before .before .before .args .last)) ((c .before .before .before .before .before .before .before .before .before .before .before .before .before .before .before .args .items)) ((c .before .before .before .before .before .before .before .before .before .before .before .before .before .before .before .args .links)) ((c .before .before .before .before .before .before .before .before .before .before .before .before .before .room .result)) ((c .before .before .before .before .before .before .before .before .before .before .out-of-range .result)) ((c .before .before .before .before .before .before .before .before .role-above .result)) (c .before .before .before .before .before .before .before .before .before .before .before .before .before .before .before .pre) ((c .before .before .before .before .before .before .before .before .before .before .before .before .before .room .ensures)) ((c .before .before .before .before .before .before .before .before .before .before .out-of-range .ensures)) ((c .before .before .before .before .before .before .before .before .role-above .ensures)) ((c .before .before .before .before .before .before .before .before .before .before .before .before .if1 .left)) ((c .before .before .before .before .before .before .before .before .before .before .before .if2 .left)) ((c .before .before .before .before .before .before .before .before .before .if3 .left)) ((c .before .before .before .before .before .before .before .if4 .left)) ((c .on-call5 .result)) _ ((c .before .before .before .before .before .set-fact .result)) ((c .on-call5 .ensures)) ((c .before .enum-told2 .given .1)) ((c .before .before .before .before .before .set-fact .ensures))
+    undo-full ((c .before .before .before .before .before .before .before .before .before .before .before .before .before .before .before .args .s .now)) ((c .before .before .before .before .before .before .before .before .before .before .before .before .before .before .before .args .log)) ((c .before .before .before .before .before .before .before .before .before .before .before .before .before .before .before .args .count)) ((c .before .before .before .before .before .before .before .before .before .before .before .before .before .before .before .args .last)) ((c .before .before .before .before .before .before .before .before .before .before .before .before .before .before .before .args .items)) ((c .before .before .before .before .before .before .before .before .before .before .before .before .before .before .before .args .links)) ((c .before .before .before .before .before .before .before .before .before .before .before .before .before .room .result)) ((c .before .before .before .before .before .before .before .before .before .before .out-of-range .result)) ((c .before .before .before .before .before .before .before .before .role-above .result)) (c .before .before .before .before .before .before .before .before .before .before .before .before .before .before .before .pre) ((c .before .before .before .before .before .before .before .before .before .before .before .before .before .room .ensures)) ((c .before .before .before .before .before .before .before .before .before .before .out-of-range .ensures)) ((c .before .before .before .before .before .before .before .before .role-above .ensures)) ((c .before .before .before .before .before .before .before .before .before .before .before .before .if1 .left)) ((c .before .before .before .before .before .before .before .before .before .before .before .if2 .left)) ((c .before .before .before .before .before .before .before .before .before .if3 .left)) ((c .before .before .before .before .before .before .before .if4 .left)) ((c .on-call5 .result)) _ ((c .before .before .before .before .before .set-fact .result)) ((c .on-call5 .ensures)) ((c .before .enum-told2 .given .1)) (as-it-was _ _ _ (c .before .before .before .before .before .set-fact .result) (c .before .before .before .before .before .before .before .before .before .before .before .before .before .before .before .args .last .was) (c .before .before .before .before .before .set-fact .ensures) refl)
 
 pub undo-read-spec : {M : Type 1} → statement M
 undo-read-spec =

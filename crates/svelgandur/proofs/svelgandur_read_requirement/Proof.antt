@@ -1,7 +1,10 @@
 -- `svelgandur::svelgandur_read_requirement` meets its contract: the numbers written are those of the reading, which is meaning's.
 -- Assumes nothing.
 use borrow.Author.Needs.{needs}
+use native.Mathlib.Omega.{arith}
 use mathlib.Core.Path.{_≡_, sym, _∙_, ap}
+use Rattle.svelgandur.specs.Numbers.{four}
+use Rattle.svelgandur.proofs.Numbers.{four-same}
 use Rattle.svelgandur.proofs.Messages.{message-good, message-refused}
 use Rattle.svelgandur.proofs.svelgandur_read_requirement.Statement.{statement}
 use Rattle.svelgandur.proofs.svelgandur_read_requirement.Tie as tie
@@ -53,7 +56,9 @@ refuse-requires c κs = search needs
 
 -- src/lib.rt:32:1
 returns : tie.Need-returns
-returns c = c .put .ensures ∙ message-good _ _ _ _ _ (c .before .before .before .before .before .before .before .before .before .before .read-message .ensures) (c .before .before .before .r .given .1)
+returns c =
+    let written : _ ≡ four 1 (c .before .before .before .r .given .0 .0) (c .before .before .before .r .given .0 .1 .0) 0 = c .put .ensures ∙ four-same (omega arith) (omega arith) (omega arith) (omega arith) in
+    written ∙ message-good _ _ _ _ _ (c .before .before .before .before .before .before .before .before .before .before .read-message .ensures) (c .before .before .before .r .given .1)
 
 -- src/lib.rt:32:1
 returns-2 : tie.Need-returns-2

@@ -11,7 +11,7 @@ use Rattle.list.proofs.text.put_number.Reads as put-number-reads
 use native.Mathlib.Omega.{arith}
 use mathlib.Core.Path.{_∙_}
 use Rattle.meaning.specs.Fraction.{_//_}
-use Rattle.list.proofs.Writing.{as-text, wrote-more, wrote-length, decimal-most}
+use Rattle.list.proofs.Writing.{as-text, as-number, wrote-more, wrote-length, decimal-most}
 use Rattle.list.proofs.Lines.{side-most, degree-line}
 
 put-number-requires : tie.Need-put-number-requires
@@ -52,7 +52,7 @@ same-length c =
 
 returns : tie.Need-returns
 returns c =
-    (as-text (degree-line _ (c .before .before .before .before .before .before .before .before .before .before .before .before .before .before .before .before .before .before .before .before .before .before .before .before .before .before .before .before .before .before .before .before .before .before .args .num // c .before .before .before .before .before .before .before .before .before .before .before .before .before .before .before .before .before .before .before .before .before .before .before .before .before .before .before .before .before .before .before .before .before .before .args .den) _) (wrote-more (wrote-more (wrote-more (wrote-more (wrote-more (wrote-more (wrote-more (c .before .before .before .before .before .before .before .before .before .before .before .before .before .before .before .before .before .before .before .before .before .before .before .before .before .before .before .before .before .before .put-number .ensures) (c .before .before .before .before .before .before .before .before .before .before .before .before .before .before .before .before .before .before .before .before .before .before .before .before .before .before .put-byte .ensures)) (c .before .before .before .before .before .before .before .before .before .before .before .before .before .before .before .before .before .before .before .before .before .before .put-number2 .ensures)) (c .before .before .before .before .before .before .before .before .before .before .before .before .before .before .before .before .before .before .put-byte2 .ensures)) (c .before .before .before .before .before .before .before .before .before .before .before .before .before .before .put-number3 .ensures)) (c .before .before .before .before .before .before .before .before .before .before .put-byte3 .ensures)) (c .before .before .before .before .before .before .put-map .ensures .0)) (c .before .before .put-byte4 .ensures)), omega (arith, c .before .before .before .before .before .before .before .before .before .before .before .before .before .before .before .before .before .before .before .before .before .before .before .before .before .before .before .before .before .before .before .before .before .before .pre, decimal-most (c .before .before .before .before .before .before .before .before .before .before .before .before .before .before .before .before .before .before .before .before .before .before .before .before .before .before .before .before .before .before .before .before .before .before .args .item), decimal-most (c .before .before .before .before .before .before .before .before .before .before .before .before .before .before .before .before .before .before .before .before .before .before .before .before .before .before .before .before .before .before .before .before .before .before .args .num), decimal-most (c .before .before .before .before .before .before .before .before .before .before .before .before .before .before .before .before .before .before .before .before .before .before .before .before .before .before .before .before .before .before .before .before .before .before .args .den), c .before .before .before .before .before .before .before .before .before .before .before .before .before .before .before .before .before .before .before .before .before .before .before .before .before .before .before .before .before .before .put-number .ensures .next, c .before .before .before .before .before .before .before .before .before .before .before .before .before .before .before .before .before .before .before .before .before .before .before .before .before .before .put-byte .ensures .next, c .before .before .before .before .before .before .before .before .before .before .before .before .before .before .before .before .before .before .before .before .before .before .put-number2 .ensures .next, c .before .before .before .before .before .before .before .before .before .before .before .before .before .before .before .before .before .before .put-byte2 .ensures .next, c .before .before .before .before .before .before .before .before .before .before .before .before .before .before .put-number3 .ensures .next, c .before .before .before .before .before .before .before .before .before .before .put-byte3 .ensures .next, c .before .before .before .before .before .before .put-map .ensures .0 .next, c .before .before .before .before .before .before .put-map .ensures .1, c .before .before .put-byte4 .ensures .next))
+    (as-text (degree-line _ (c .before .before .before .before .before .before .before .before .before .before .before .before .before .before .before .before .before .before .before .before .before .before .before .before .before .before .before .before .before .before .before .before .before .before .args .num // c .before .before .before .before .before .before .before .before .before .before .before .before .before .before .before .before .before .before .before .before .before .before .before .before .before .before .before .before .before .before .before .before .before .before .args .den) _) (wrote-more (wrote-more (wrote-more (wrote-more (wrote-more (wrote-more (wrote-more (c .before .before .before .before .before .before .before .before .before .before .before .before .before .before .before .before .before .before .before .before .before .before .before .before .before .before .before .before .before .before .put-number .ensures) (c .before .before .before .before .before .before .before .before .before .before .before .before .before .before .before .before .before .before .before .before .before .before .before .before .before .before .put-byte .ensures)) (as-number (c .before .before .before .before .before .before .before .before .before .before .before .before .before .before .before .before .before .before .before .before .before .before .before .before .before .before .before .before .before .before .before .before .before .before .args .num) (c .before .before .before .before .before .before .before .before .before .before .before .before .before .before .before .before .before .before .before .before .before .before .put-number2 .ensures) (omega arith))) (c .before .before .before .before .before .before .before .before .before .before .before .before .before .before .before .before .before .before .put-byte2 .ensures)) (as-number (c .before .before .before .before .before .before .before .before .before .before .before .before .before .before .before .before .before .before .before .before .before .before .before .before .before .before .before .before .before .before .before .before .before .before .args .den) (c .before .before .before .before .before .before .before .before .before .before .before .before .before .before .put-number3 .ensures) (omega arith))) (c .before .before .before .before .before .before .before .before .before .before .put-byte3 .ensures)) (c .before .before .before .before .before .before .put-map .ensures .0)) (c .before .before .put-byte4 .ensures)), omega (arith, c .before .before .before .before .before .before .before .before .before .before .before .before .before .before .before .before .before .before .before .before .before .before .before .before .before .before .before .before .before .before .before .before .before .before .pre, decimal-most (c .before .before .before .before .before .before .before .before .before .before .before .before .before .before .before .before .before .before .before .before .before .before .before .before .before .before .before .before .before .before .before .before .before .before .args .item), decimal-most (c .before .before .before .before .before .before .before .before .before .before .before .before .before .before .before .before .before .before .before .before .before .before .before .before .before .before .before .before .before .before .before .before .before .before .args .num), decimal-most (c .before .before .before .before .before .before .before .before .before .before .before .before .before .before .before .before .before .before .before .before .before .before .before .before .before .before .before .before .before .before .before .before .before .before .args .den), c .before .before .before .before .before .before .before .before .before .before .before .before .before .before .before .before .before .before .before .before .before .before .before .before .before .before .before .before .before .before .put-number .ensures .next, c .before .before .before .before .before .before .before .before .before .before .before .before .before .before .before .before .before .before .before .before .before .before .before .before .before .before .put-byte .ensures .next, c .before .before .before .before .before .before .before .before .before .before .before .before .before .before .before .before .before .before .before .before .before .before .put-number2 .ensures .next, c .before .before .before .before .before .before .before .before .before .before .before .before .before .before .before .before .before .before .put-byte2 .ensures .next, c .before .before .before .before .before .before .before .before .before .before .before .before .before .before .put-number3 .ensures .next, c .before .before .before .before .before .before .before .before .before .before .put-byte3 .ensures .next, c .before .before .before .before .before .before .put-map .ensures .0 .next, c .before .before .before .before .before .before .put-map .ensures .1, c .before .before .put-byte4 .ensures .next))
 
 pub put-degree-line-spec : {M : Type 1} → statement M
 put-degree-line-spec =

@@ -3,9 +3,10 @@
 use borrow.Author.Needs.{needs}
 use Rattle.svelgandur.proofs.answer.refuse.Statement.{statement}
 use Rattle.svelgandur.proofs.answer.refuse.Tie as tie
-use mathlib.Core.Path.{_≡_, _∙_, ap}
-use Prim.Native.Nat.{ℕ}
-use Rattle.svelgandur.specs.Numbers.{four}
+use mathlib.Core.Path.{_≡_, _∙_}
+use native.Mathlib.Omega.{arith}
+use Rattle.svelgandur.specs.Numbers.{four, sideNumber}
+use Rattle.svelgandur.proofs.Numbers.{four-same}
 
 side-number-requires : tie.Need-side-number-requires
 side-number-requires c κs = search needs
@@ -15,7 +16,9 @@ put-requires c κs = search needs
 
 returns : tie.Need-returns
 returns c =
-    c .put .ensures ∙ ap (λ (z : ℕ). four 0 z (c .before .before .before .args .refusal .number) (c .before .before .before .args .refusal .place)) (c .before .side-number .ensures)
+    let refusal = c .before .before .before .args .refusal in
+    let written : _ ≡ four 0 (sideNumber (refusal .side)) (refusal .number) (refusal .place) = c .put .ensures ∙ four-same (omega arith) (c .before .side-number .ensures) (omega arith) (omega arith) in
+    written
 
 pub refuse-spec : {M : Type 1} → statement M
 refuse-spec = tie.close (tie.spec side-number-requires put-requires returns)

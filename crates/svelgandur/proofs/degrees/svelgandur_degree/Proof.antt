@@ -3,7 +3,9 @@
 use borrow.Author.Needs.{needs}
 use Rattle.svelgandur.proofs.degrees.svelgandur_degree.Statement.{statement}
 use Rattle.svelgandur.proofs.degrees.svelgandur_degree.Tie as tie
+use native.Mathlib.Omega.{arith}
 use mathlib.Core.Path.{_≡_, sym, _∙_, ap}
+use Rattle.svelgandur.proofs.Numbers.{four-same}
 use Rattle.svelgandur.proofs.Margins.{degree-told}
 use Rattle.degree.specs.Answers.{paper}
 use Rattle.svelgandur.specs.Numbers.{numbers, degreeNumbers}
@@ -28,7 +30,7 @@ same-length c = search needs
 
 returns : tie.Need-returns
 returns c =
-    (degree-told _ (c .before .before .before .r .given .0 .0) (c .before .before .before .r .given .0 .1 .0) (c .before .before .before .r .given .0 .1 .1 .0) _ _ (search needs) (c .before .before .before .r .given .1) (c .before .before .before .before .before .before .before .degree-of .ensures .0), c .before .before .before .before .before .before .before .degree-of .ensures .1)
+    (degree-told _ (c .before .before .before .r .given .0 .0) (c .before .before .before .r .given .0 .1 .0) (c .before .before .before .r .given .0 .1 .1 .0) _ _ (c .put .ensures ∙ four-same (omega arith) (omega arith) (omega arith) (omega arith)) (c .before .before .before .r .given .1) (c .before .before .before .before .before .before .before .degree-of .ensures .0), c .before .before .before .before .before .before .before .degree-of .ensures .1)
 
 same-length-2 : tie.Need-same-length-2
 same-length-2 c = search needs

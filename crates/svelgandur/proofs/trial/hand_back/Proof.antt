@@ -3,10 +3,12 @@
 use borrow.Author.Needs.{needs}
 use Rattle.svelgandur.proofs.trial.hand_back.Statement.{statement}
 use Rattle.svelgandur.proofs.trial.hand_back.Tie as tie
+use native.Mathlib.Omega.{arith}
 use mathlib.Core.Path.{_≡_, sym, _∙_, ap}
 use Rattle.session.specs.declared.Counted.{Counted}
 use Rattle.session.specs.Calls.{paper}
-use Rattle.svelgandur.specs.Numbers.{numbers, inUse}
+use Rattle.svelgandur.specs.Numbers.{four, numbers, inUse}
+use Rattle.svelgandur.proofs.Numbers.{four-same}
 
 enum-known-r : tie.Need-enum-known-r
 enum-known-r c = search needs
@@ -22,7 +24,8 @@ refuse-requires c κs = search needs
 
 returns : tie.Need-returns
 returns c =
-    c .put .ensures ∙ ap (λ (x : Counted). numbers inUse (paper x)) (sym (c .before .before .before .r .given .1))
+    let written : _ ≡ four 1 (c .before .before .before .r .given .0 .0) 0 0 = c .put .ensures ∙ four-same (omega arith) (omega arith) (omega arith) (omega arith) in
+    written ∙ ap (λ (x : Counted). numbers inUse (paper x)) (sym (c .before .before .before .r .given .1))
 
 returns-2 : tie.Need-returns-2
 returns-2 c =
