@@ -58,60 +58,74 @@ module _ {s : List ℕ} {items links : ℕ} {names roles ends marks : List ℕ} 
     }
 
 module _ {s : List ℕ} {items links : ℕ} {names roles ends marks : List ℕ} {node left : ℕ} (k : Case s items links names roles ends marks node left) where
-  -- a child that is kept
-  module _ {c n p : ℕ} {acc : ℕ → ℕ} {X : ℕ → Type 0}
-      (w : Rest names roles ends marks (judged (k .register)) (k .tree) (left - 1) (getD ends node 0) c n p acc X)
-      (l : c < getD ends node 0) (m : getD marks c 0 ≡ 0 → ⊥) where
-    abbrev pub child : Child names roles ends marks (judged (k .register)) (k .tree) (left - 1) (getD ends node 0) c n p acc X
-    child = rest-child w l m
+  -- a child that is kept, and not the one at row h, which may have been folded in before
+  module _ {h c n p : ℕ} {acc : ℕ → ℕ} {X : ℕ → Type 0}
+      (w : Rest names roles ends marks (judged (k .register)) (k .tree) (left - 1) (getD ends node 0) h c n p acc X)
+      (l : c < getD ends node 0) (m : getD marks c 0 ≡ 0 → ⊥) (a : c ≡ h → ⊥) where
+    abbrev pub other-child : Child names roles ends marks (judged (k .register)) (k .tree) (left - 1) (getD ends node 0) h c n p acc X
+    other-child = rest-child w l m a
 
-    abbrev pub child-case : Case s items links names roles ends marks c (left - 1)
-    child-case = record {
+    abbrev pub other-case : Case s items links names roles ends marks c (left - 1)
+    other-case = record {
       register = k .register;
       read = k .read;
       items-are = k .items-are;
       links-are = k .links-are;
       most = k .most;
-      tree = child .tree;
-      held = child .held;
-      marked = child .marked;
+      tree = other-child .tree;
+      held = other-child .held;
+      marked = other-child .marked;
       few = le-trans (rest-next w l .1) (k .few);
-      small = le-trans (child .small) (k .small);
+      small = le-trans (other-child .small) (k .small);
     }
 
     pub count-fits : n + 1 ≤ 3486784401
-    count-fits = le-trans (child .count-fits) (k .small)
+    count-fits = le-trans (other-child .count-fits) (k .small)
 
-    pub product-fits : (scale : ℕ) → scale ≡ scaleIn (child .tree) → p * scale ≤ 3486784401
-    product-fits scale e = rw e (le-trans (child .scale-fits) (k .small))
+    pub product-fits : (scale : ℕ) → scale ≡ scaleIn (other-child .tree) → p * scale ≤ 3486784401
+    product-fits scale e = rw e (le-trans (other-child .scale-fits) (k .small))
 
     -- its numbers at all items
-    module _ (b : Bytes s) (scale role : ℕ) (ys seen : List ℕ) (done : Worked (k .register) (child .tree) items scale ys)
+    module _ (b : Bytes s) (scale role : ℕ) (ys seen : List ℕ) (done : Worked (k .register) (other-child .tree) items scale ys)
         (saw : (i : ℕ) → i < items → getD seen i 0 ≡ getD ys i 0) (er : role ≡ getD roles c 0) where
       same-sum : (i : ℕ) → acc i * scale + best (λ y. getD seen y 0) (targets (k .register .links) i role) * p
-          ≡ acc i * scaleIn (child .tree) + best (λ y. degreeIn (judged (k .register)) (child .tree) y) (targets (k .register .links) i (getD roles c 0)) * p
-      same-sum i = ap₂ (λ (x y : ℕ). acc i * x + y * p) (done .scaled) (case-best child-case b scale role ys seen done saw er i)
+          ≡ acc i * scaleIn (other-child .tree)
+          + best (λ y. degreeIn (judged (k .register)) (other-child .tree) y) (targets (k .register .links) i (getD roles c 0)) * p
+      same-sum i = ap₂ (λ (x y : ℕ). acc i * x + y * p) (done .scaled) (case-best other-case b scale role ys seen done saw er i)
 
       pub child-fits : (i : ℕ) → X i → acc i * scale + best (λ y. getD seen y 0) (targets (k .register .links) i role) * p < 4294967296
-      child-fits i x = let h = child .sum-fits i x in omega (arith, same-sum i, k .small)
+      child-fits i x = let h = other-child .sum-fits i x in omega (arith, same-sum i, k .small)
 
       pub child-next : (new : ℕ → ℕ) → ((i : ℕ) → X i → new i ≡ acc i * scale + best (λ y. getD seen y 0) (targets (k .register .links) i role) * p)
-          → Rest names roles ends marks (judged (k .register)) (k .tree) (left - 1) (getD ends node 0) (getD ends c 0) (n + 1) (p * scale) new X
-      child-next new h =
-          subst (λ (z : ℕ). Rest names roles ends marks (judged (k .register)) (k .tree) (left - 1) (getD ends node 0) (getD ends c 0) (n + 1) (p * z) new X)
-          (sym (done .scaled)) (child .then new (λ i x. h i x ∙ same-sum i))
+          → Rest names roles ends marks (judged (k .register)) (k .tree) (left - 1) (getD ends node 0) h (getD ends c 0) (n + 1) (p * scale) new X
+      child-next new q =
+          subst (λ (z : ℕ). Rest names roles ends marks (judged (k .register)) (k .tree) (left - 1) (getD ends node 0) h (getD ends c 0) (n + 1) (p * z) new X)
+          (sym (done .scaled)) (other-child .then new (λ i x. q i x ∙ same-sum i))
+
+  -- the same where none was folded in before
+  module _ {c n p : ℕ} {acc : ℕ → ℕ} {X : ℕ → Type 0}
+      (w : Rest names roles ends marks (judged (k .register)) (k .tree) (left - 1) (getD ends node 0) (getD ends node 0) c n p acc X)
+      (l : c < getD ends node 0) (m : getD marks c 0 ≡ 0 → ⊥) where
+    pub no-row : c ≡ getD ends node 0 → ⊥
+    no-row z = let y : c ≡ getD ends node 0 = z in omega arith
+
+    abbrev pub child : Child names roles ends marks (judged (k .register)) (k .tree) (left - 1) (getD ends node 0) (getD ends node 0) c n p acc X
+    child = other-child w l m no-row
+
+    abbrev pub child-case : Case s items links names roles ends marks c (left - 1)
+    child-case = other-case w l m no-row
 
   -- ---- for one item
 
   -- the children from row c on are left
   abbrev pub Summed : ℕ → ℕ → Sum → Type 0
   Summed item c d =
-      Rest names roles ends marks (judged (k .register)) (k .tree) (left - 1) (getD ends node 0) c (d .count) (d .scale) (λ x. d .number) (λ x. x ≡ item)
+      Rest names roles ends marks (judged (k .register)) (k .tree) (left - 1) (getD ends node 0) (getD ends node 0) c (d .count) (d .scale) (λ x. d .number) (λ x. x ≡ item)
 
   pub sum-start : (item : ℕ) (d : Sum) → d .number ≡ common (getD names node 0) (getD (k .register .names) item 0) → d .count ≡ many (getD names node 0)
       → d .scale ≡ 1 → Summed item (node + 1) d
   sum-start item d en ec es =
-      subst (λ (z : ℕ). Rest names roles ends marks (judged (k .register)) (k .tree) (left - 1) (getD ends node 0) (node + 1) (d .count) z (λ x. d .number) (λ x. x ≡ item))
+      subst (λ (z : ℕ). Rest names roles ends marks (judged (k .register)) (k .tree) (left - 1) (getD ends node 0) (getD ends node 0) (node + 1) (d .count) z (λ x. d .number) (λ x. x ≡ item))
       (sym es)
       (rest-start names roles ends marks (judged (k .register)) (k .tree) left (getD ends node 0) node (d .count) (λ x. d .number) (λ x. x ≡ item)
       (k .held) (k .marked) ec (λ x i. en ∙ ap (λ (y : ℕ). common (getD names node 0) (getD (k .register .names) y 0)) (sym i)))
@@ -119,7 +133,7 @@ module _ {s : List ℕ} {items links : ℕ} {names roles ends marks : List ℕ} 
   module _ (item c : ℕ) (d : Sum) (w : Summed item c d) (l : c < getD ends node 0) (m : getD marks c 0 ≡ 0 → ⊥) (b : Choice)
       (h : Chosen (k .register) (child w l m .tree) item (getD roles c 0) b) where
     pub join-fits : (d .number * b .scale + b .value * d .scale ≤ mostScale) × (d .count + 1 ≤ mostScale) × (d .scale * b .scale ≤ mostScale)
-    join-fits = (rw (h .value, h .scale) (le-trans (child w l m .sum-fits item refl) (k .small)), count-fits w l m, product-fits w l m (b .scale) (h .scale))
+    join-fits = (rw (h .value, h .scale) (le-trans (child w l m .sum-fits item refl) (k .small)), count-fits w l m (no-row w l m), product-fits w l m (no-row w l m) (b .scale) (h .scale))
 
     pub join-next : (r : Sum) → (r .number ≡ d .number * b .scale + b .value * d .scale) × (r .count ≡ d .count + 1) × (r .scale ≡ d .scale * b .scale)
         → Summed item (getD ends c 0) r

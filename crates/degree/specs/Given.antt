@@ -4,14 +4,17 @@ use mathlib.Core.Path.{_≡_}
 use mathlib.Core.List.{List, map}
 use mathlib.Core.Option.{Option, some}
 use mathlib.Core.Option.{none as nowhere}
-use Prim.Native.Nat.{ℕ, _*_, _<_}
-use lib.ListN.{getD}
+use Prim.Native.Nat.{ℕ, _*_, _≤_, _<_}
+use lib.ListN.{length, getD}
 use lib.Seq.{sets}
 use Rattle.meaning.specs.Tree.{Concept}
-use Rattle.meaning.specs.Register.{Register, targets, judged}
+use Rattle.meaning.specs.Refusal.{good}
+use Rattle.meaning.specs.Register.{Register, targets, judged, readBuffer}
 use Rattle.meaning.specs.Degree.{best}
 use Rattle.meaning.specs.InPlace.{scaleIn, degreeIn}
+use Rattle.meaning.specs.Rows.{Holds, Marked}
 use Rattle.meaning.specs.Shown.{pick, goes, shown, markNumber}
+use Rattle.degree.specs.Notes.{Noted}
 use Rattle.degree.specs.declared.Best.{Best}
 use Rattle.degree.specs.declared.Choice.{Choice}
 use Rattle.degree.specs.declared.Sum.{Sum}
@@ -61,3 +64,18 @@ pub record Ended (d : Sum) (r : Degree) : Type 0 where
 pub record Graded (g : Register) (t : Concept) (x : ℕ) (d : Degree) : Type 0 where
   pub number : d .number ≡ degreeIn (judged g) t x
   pub scale : d .scale ≡ scaleIn t
+
+-- what is to be drawn: a register that was read, rows that hold a tree, and a table that says where its kept nodes go
+pub record Drawing (s : List ℕ) (items links : ℕ) (ends marks table : List ℕ) (node left : ℕ) : Type 0 where
+  pub names : List ℕ
+  pub roles : List ℕ
+  pub register : Register
+  pub read : readBuffer s ≡ good register
+  pub items-are : items ≡ length (register .names)
+  pub links-are : links ≡ length (register .links)
+  pub most : items ≤ 512
+  pub tree : Concept
+  pub held : Holds names roles ends tree left node (getD ends node 0)
+  pub marked : Marked ends marks tree node
+  pub few : getD ends node 0 ≤ 64
+  pub noted : Noted items ends marks register table tree node

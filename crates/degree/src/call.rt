@@ -129,7 +129,8 @@ pub fn margin_of(image: &[u8], message: &[u8], item: usize, p: usize, q: usize) 
             if !requirement::allowed(p, q) {
                 return margin_refused(13);
             }
-            let d = super::at_item(
+            let mut map = [0u16; 64];
+            let d = super::shown_at(
                 image,
                 items,
                 links,
@@ -140,6 +141,7 @@ pub fn margin_of(image: &[u8], message: &[u8], item: usize, p: usize, q: usize) 
                 0,
                 17,
                 item,
+                &mut map,
             );
             let f = super::lowest(d.number, d.scale);
             against(f.num, f.den, p as u64, q as u64)

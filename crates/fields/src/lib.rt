@@ -1,4 +1,6 @@
 // Big-endian fields in lent bytes, and the 3-byte head that a register image and a requirement message share.
+pub mod bits; // bits.rt: sets of up to 64 things as numbers
+
 ghost use mathlib.Core.Path.{_≡_};
 ghost use Prim.Native.Nat.{_+_, _≤_, _<_, _^_};
 ghost use lib.ListN.{length};

@@ -12,7 +12,7 @@ use lib.ListN.{length, getD, take, set, length-append}
 use lib.Seq.{sets, length-sets, take-suc, take-all}
 use borrow.Author.Tests.{lt-ltb, le-ltb}
 use Rattle.meaning.proofs.Tests.{is-true}
-use Rattle.degree.proofs.Walk.{sets-append}
+use Rattle.meaning.proofs.Stores.{sets-append}
 use Rattle.list.specs.Text.{Wrote, digits, decimal}
 
 pub wrote-none : (l : List ℕ) (at : ℕ) → Wrote l l at [] at

@@ -2,6 +2,7 @@
 pub mod Tests
 pub mod Names
 pub mod Rising
+pub mod Stores
 -- Reading and writing: laws, register images, requirement messages
 pub mod Reading
 pub mod Head

@@ -36,7 +36,7 @@ pub gcd-greatest : (a b d : ℕ) → d ∣ a → d ∣ b → d ∣ gcd a b
 unfolding gcd
 gcd-greatest a b d h k = gcdIn-greatest (suc b) a b d h k
 
-gcd-pos : (a b : ℕ) → 0 < b → 0 < gcd a b
+pub gcd-pos : (a b : ℕ) → 0 < b → 0 < gcd a b
 gcd-pos a b pos = pos-of-dvd-of-pos (gcd-divides a b .1) pos
 
 pub coprime : (a b : ℕ) → 0 < b → (gcd a b ≡ 1) ↔ ((k : ℕ) → k ∣ a → k ∣ b → k ≤ 1)

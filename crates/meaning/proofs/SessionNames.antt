@@ -134,7 +134,7 @@ no-names =
     let d = ih (λ k. sym (has-suc b k) ∙ h (suc k)) in
     omega arith)
 
-has-none : (k : ℕ) → has 0 k ≡ false
+pub has-none : (k : ℕ) → has 0 k ≡ false
 has-none zero = has-zero 0
 has-none (suc k) = has-suc 0 k ∙ has-none k
 

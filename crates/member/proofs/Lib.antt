@@ -1,5 +1,4 @@
 pub mod Fill
-pub mod Targets
 pub mod Search
 pub mod Inside
 pub mod Children

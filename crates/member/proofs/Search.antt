@@ -22,7 +22,7 @@ use Rattle.register.proofs.Begins.{links-rise}
 use Rattle.member.specs.declared.Hit.{Hit}
 use Rattle.member.specs.Table.{placeOf}
 use Rattle.member.specs.Case.{Sought}
-use Rattle.member.proofs.Targets.{targets-before, targets-behind, targets-step}
+use Rattle.register.proofs.Targets.{targets-before, targets-behind, targets-step}
 
 -- what is found in the end, where o is found so far
 unfoldable pub goOn : (ℕ → Bool) → Option ℕ → List ℕ → Option ℕ

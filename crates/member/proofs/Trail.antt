@@ -18,14 +18,11 @@ use Rattle.meaning.specs.Rows.{Holds, HoldsF}
 use Rattle.meaning.specs.Shown.{first, from, yesBy, yesByF, yesMap}
 use Rattle.meaning.proofs.Tests.{and-both, first-found}
 use Rattle.meaning.proofs.Rows.{opened}
+use Rattle.meaning.proofs.Stores.{sets-append}
 use Rattle.meaning.proofs.YesShown.{yes-shows}
 use Rattle.member.specs.Table.{cell, Met, MetF}
 use Rattle.member.proofs.Inside.{Closed, first-same}
 use Rattle.member.proofs.Children.{bareF, met-row}
-
-sets-append : (l : List ℕ) (i : ℕ) (a b : List ℕ) → sets l i (a ++ b) ≡ sets (sets l i a) (i + length a) b
-sets-append l i [] b = let e : i + 0 ≡ i = omega arith in rw e
-sets-append l i (x ∷ a) b = let e : i + suc (length a) ≡ suc i + length a = omega arith in rw e (sets-append (set l i x) (suc i) a b)
 
 module _ (names roles ends : List ℕ) where
   -- rows from i up to e hold as many nodes as are written
@@ -94,7 +91,7 @@ module _ (names roles ends : List ℕ) where
                 held = h .3;
                 rows = k .1;
                 yes = a .1;
-                shown = rw (d, ← long) (sym (sets-append map c (yesMap G u (q .0)) (yesByF (fulfils G) G f x)) ∙ s′);
+                shown = rw d (sym (sets-append map c (getD ends c 0) (yesMap G u (q .0)) (yesByF (fulfils G) G f x) (sym long)) ∙ s′);
               };
             }
 

@@ -2,19 +2,19 @@
 // Each written node has a row in a table of 64 bits for each item; the rows are filled from the leaves up.
 pub mod call;
 
+use fields::bits;
 ghost use mathlib.Core.Path.{_≡_};
 ghost use mathlib.Core.Bool.{_&&_, _||_, not};
 ghost use Prim.Native.Nat.{ℕ, _+_, _*_, _≤_, _<_};
 ghost use lib.Dec.{eqb};
 ghost use lib.ListN.{length, getD};
 ghost use lib.Seq.{sets};
-ghost use Rattle.meaning.specs.Names.{has, within};
+ghost use Rattle.meaning.specs.Names.{within};
 ghost use Rattle.meaning.specs.Fraction.{_//_, compares};
 ghost use Rattle.meaning.specs.Message.{comparison};
 ghost use Rattle.meaning.specs.Register.{judged, targets};
 ghost use Rattle.meaning.specs.Whole.{any};
 ghost use Rattle.meaning.specs.Shown.{yesMap};
-ghost use Rattle.meaning.specs.Session.{withName};
 ghost use Rattle.register.specs.Image.{Asked, Image, Begins};
 ghost use Rattle.member.specs.Table.{cell, Rowed, ruledAt};
 ghost use Rattle.member.specs.Case.{Case, Done, Walk, Sought, Settled};
@@ -42,38 +42,6 @@ fn both(a: bool, b: bool) -> bool
     false
 }
 
-// Whether the bit k is in a set.
-fn on(set: u64, k: usize) -> bool
-    requires { ⌜ k < 64 ⌝ }
-    ensures { λ r. ⌜ r ≡ has set k ⌝ }
-{
-    (set >> k) % 2 == 1
-}
-
-// The set with the bit k or without it; `there`: whether it is in the set.
-fn with_bit(set: u64, k: usize, there: bool, yes: bool) -> u64
-    requires { ⌜ (k < 64) × (there ≡ has set k) ⌝ }
-    ensures { λ r. ⌜ r ≡ withName yes k set ⌝ }
-{
-    if there {
-        if yes {
-            return set;
-        }
-        return set - (1u64 << k);
-    }
-    if yes {
-        return set + (1u64 << k);
-    }
-    set
-}
-
-fn marked(set: u64, k: usize, yes: bool) -> u64
-    requires { ⌜ k < 64 ⌝ }
-    ensures { λ r. ⌜ r ≡ withName yes k set ⌝ }
-{
-    with_bit(set, k, on(set, k), yes)
-}
-
 // The row of a node becomes: the items that hold its names.
 fn own(s: &[u8], items: usize, names: u64, node: usize, met: &mut [u64])
     requires { ⌜ Asked (now s) (λ g. items ≡ length (g .names)) ⌝ }
@@ -82,7 +50,7 @@ fn own(s: &[u8], items: usize, names: u64, node: usize, met: &mut [u64])
 {
     let mut i = 0;
     while i < items {
-        met[i] = marked(met[i], node, names & register::names_of(s, i) == names);
+        met[i] = bits::marked(met[i], node, names & register::names_of(s, i) == names);
         i += 1;
     }
 }
@@ -94,7 +62,11 @@ fn keep(items: usize, table: &[u64], k: usize, node: usize, met: &mut [u64])
 {
     let mut i = 0;
     while i < items {
-        met[i] = marked(met[i], node, both(on(met[i], node), on(table[i], k)));
+        met[i] = bits::marked(
+            met[i],
+            node,
+            both(bits::on(met[i], node), bits::on(table[i], k)),
+        );
         i += 1;
     }
 }
@@ -162,7 +134,7 @@ fn seek(
         let same = register::role_of(s, items, k) == role;
         let to = register::to_of(s, items, k);
         k += 1;
-        if !taken(same, found, on(met[to], child)) {
+        if !taken(same, found, bits::on(met[to], child)) {
             continue;
         }
         found = to;
@@ -193,7 +165,7 @@ fn fold(
     let mut k = 0;
     while i < items {
         let h = seek(s, items, links, i, k, role, child, met);
-        met[i] = marked(met[i], node, both(on(met[i], node), h.item != 65535));
+        met[i] = bits::marked(met[i], node, both(bits::on(met[i], node), h.item != 65535));
         k = h.next;
         i += 1;
     }
@@ -330,7 +302,7 @@ pub fn judge(
 {
     let mut i = 0;
     while i < items {
-        table[i] = marked(table[i], k, satisfies(how, broad(values[i]), scale, p, q));
+        table[i] = bits::marked(table[i], k, satisfies(how, broad(values[i]), scale, p, q));
         i += 1;
     }
 }
@@ -369,7 +341,7 @@ pub fn settle(
         17,
         &mut met,
     );
-    if !on(met[item], 0) {
+    if !bits::on(met[item], 0) {
         return false;
     }
     walk(s, items, links, names, roles, ends, &met, 0, 17, item, map);

@@ -5,4 +5,5 @@ pub mod Body
 pub mod Whole
 pub mod Facts
 pub mod Begins
+pub mod Targets
 pub mod Promise

@@ -560,7 +560,7 @@ pub fn allowed(p: usize, q: usize) -> bool
 }
 
 // The greatest common divisor, by Euclid's remainders.
-fn common_divisor(p: usize, q: usize) -> usize
+pub fn common_divisor(p: usize, q: usize) -> usize
     ensures { λ r. ⌜ r ≡ gcd p q ⌝ }
 {
     let mut a = p;

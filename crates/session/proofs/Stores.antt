@@ -11,13 +11,10 @@ use lib.Seq.{sets, slice, set-comm, set-at, take-suc, drop-cons, slice-cons, sli
 use Rattle.meaning.specs.Bytes.{bytes}
 use Rattle.meaning.specs.Session.{zeros}
 use Rattle.meaning.proofs.Reading.{bytes-length}
+use Rattle.meaning.proofs.Stores.{sets-append}
 use Rattle.session.specs.Moved.{movedUp, movedDown}
 
 -- ---- a number, from its lowest byte up
-
-sets-append : (l : List ℕ) (a : ℕ) (xs ys : List ℕ) → sets l a (xs ++ ys) ≡ sets (sets l a xs) (a + length xs) ys
-sets-append l a [] ys = ap (λ (z : ℕ). sets l z ys) (sym (add-zero a))
-sets-append l a (x ∷ xs) ys = sets-append (set l a x) (suc a) xs ys ∙ ap (λ (z : ℕ). sets (sets (set l a x) (suc a) xs) z ys) (omega arith)
 
 set-sets : (l : List ℕ) (a : ℕ) (xs : List ℕ) (j x : ℕ) → a + length xs ≤ j → set (sets l a xs) j x ≡ sets (set l j x) a xs
 set-sets l a [] j x h = refl
@@ -29,7 +26,7 @@ put-suc : (s : List ℕ) (at i rest : ℕ) → sets (set s (at + i) (rest % 256)
 unfolding bytes
 put-suc s at i rest =
     let l = bytes-length i (rest / 256) in
-    sym (sets-append s at (bytes i (rest / 256)) (rest % 256 ∷ [])
+    sym (sets-append s at (at + length (bytes i (rest / 256))) (bytes i (rest / 256)) (rest % 256 ∷ []) refl
     ∙ set-sets s at (bytes i (rest / 256)) (at + length (bytes i (rest / 256))) (rest % 256) (omega arith)
     ∙ ap (λ (z : ℕ). sets (set s (at + z) (rest % 256)) at (bytes i (rest / 256))) l)
 

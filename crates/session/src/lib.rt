@@ -6,6 +6,7 @@ pub mod held;
 pub mod records;
 
 use fields;
+use fields::bits;
 use meaning::Fact;
 use meaning::Refusal;
 use meaning::Side;
@@ -19,8 +20,7 @@ ghost use lib.Dec.{eqb, ltb};
 ghost use lib.ListN.{length, take, getD};
 ghost use lib.Seq.{sets};
 ghost use Rattle.meaning.specs.Bytes.{bytes};
-ghost use Rattle.meaning.specs.Names.{has};
-ghost use Rattle.meaning.specs.Session.{withName, zeros};
+ghost use Rattle.meaning.specs.Session.{zeros};
 ghost use Rattle.meaning.specs.declared.Fact.{Fact};
 ghost use Rattle.meaning.specs.declared.Step.{Step};
 ghost use Rattle.meaning.specs.Refusal.{onCall};
@@ -114,31 +114,6 @@ fn move_down(s: &mut [u8], from: usize, end: usize)
 
 // ---- names
 
-// Whether a name is in a set.
-fn has_name(names: u64, name: usize) -> bool
-    requires { ⌜ name < 64 ⌝ }
-    ensures { λ r. ⌜ r ≡ has names name ⌝ }
-{
-    (names >> name) % 2 == 1
-}
-
-// The set with a name or without it; `there`: whether it is in the set.
-fn with_name(names: u64, name: usize, there: bool, adds: bool) -> u64
-    requires { ⌜ (name < 64) × (there ≡ has names name) ⌝ }
-    ensures { λ r. ⌜ r ≡ withName adds name names ⌝ }
-{
-    if there {
-        if adds {
-            return names;
-        }
-        return names - (1u64 << name);
-    }
-    if adds {
-        return names + (1u64 << name);
-    }
-    names
-}
-
 // Sets a name of an item to there or not, and says whether it was there.
 fn set_name(s: &mut [u8], item: usize, name: usize, adds: bool) -> bool
     requires { ⌜ Asked (now s) (λ g. item < length (g .names)) ⌝ }
@@ -147,12 +122,12 @@ fn set_name(s: &mut [u8], item: usize, name: usize, adds: bool) -> bool
     ensures { λ _. ⌜ Image (now (s .entry)) (λ g. now (s .exit) ≡ rewritten (now (s .entry)) g (setFact adds (Fact.Name item name) g)) ⌝ }
 {
     let names = register::names_of(s, item);
-    let there = has_name(names, name);
+    let there = bits::on(names, name);
     put(
         s,
         5 + 8 * item,
         8,
-        with_name(names, name, there, adds) as usize,
+        bits::with_bit(names, name, there, adds) as usize,
     );
     there
 }

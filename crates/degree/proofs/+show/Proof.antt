@@ -9,36 +9,33 @@ use Rattle.degree.proofs.onward.Reads as onward-reads
 use Rattle.degree.proofs.wide.Reads as wide-reads
 use Rattle.degree.proofs.+show.{statement}
 use Rattle.degree.proofs.+show.Tie.{close}
-use Prim.Native.Nat.{_+_, _-_, _*_, _≤_}
+use Prim.Native.Nat.{_-_}
 use native.Mathlib.Omega.{arith}
-use mathlib.Core.Path.{_≡_, refl, sym, ap, subst, _∙_}
-use lib.ListN.{length, getD, length-set}
-use Rattle.degree.specs.Case.{Case}
-use Rattle.degree.specs.Given.{Goes}
-use Rattle.degree.proofs.Cases.{here}
-use Rattle.degree.proofs.Walk.{Walked, walk-start, walk-end, walk-case, drawn-next, drawn-is, drawn-skip, drawn-child, goes-on, goes-fits}
-use Rattle.meaning.specs.Register.{judged}
+use mathlib.Core.Path.{_≡_, refl, _∙_}
+use lib.ListN.{length, length-set}
+use Rattle.fields.proofs.Known.{bytes-known}
+use Rattle.degree.specs.Given.{Goes, Drawing}
+use Rattle.degree.proofs.Walk.{drawing-here, Traced, trace-start, trace-end, trace-child, trace-note, trace-goes, drawn-next, drawn-is, drawn-skip, drawn-child, goes-fits}
 use borrow.Author.Needs.{needs}
 
-abbrev μ-show : Measures 6 show-kinds.ps ℕ
+abbrev μ-show : Measures 5 show-kinds.ps ℕ
 μ-show κs a =
-    a .1 .1 .1 .1 .1 .1 .1 .1 .0
+    a .1 .1 .1 .1 .1 .1 .1 .0
 
-abbrev show-at : ℕ → In 6 show-kinds.ps
-show-at t = and 6 show-kinds.ps (is 6 show-kinds.ps μ-show t) show.Pre
+abbrev show-at : ℕ → In 5 show-kinds.ps
+show-at t = and 5 show-kinds.ps (is 5 show-kinds.ps μ-show t) show.Pre
 
-abbrev show-below : ℕ → In 6 show-kinds.ps
-show-below t = and 6 show-kinds.ps (falls 6 show-kinds.ps _<_ μ-show t) show.Pre
+abbrev show-below : ℕ → In 5 show-kinds.ps
+show-below t = and 5 show-kinds.ps (falls 5 show-kinds.ps _<_ μ-show t) show.Pre
 
 abbrev show-Inv-loop : show-lts.InvT-loop
-show-Inv-loop s items links names roles ends marks node left item map₀ e c₀ map c =
-    (length map ≡ length map₀) × ((k : Case s items links names roles ends marks node left) (o : Goes item) → Walked k (o .to) map₀ c map)
+show-Inv-loop s items links ends marks table node left item map₀ e c₀ map c =
+    (length map ≡ length map₀) × ((k : Drawing s items links ends marks table node left) (o : Goes item) → Traced k (o .to) map₀ c map)
 
 abbrev show-μ-loop : show-lts.MeasureT-loop
-show-μ-loop s items links names roles ends marks node left item map₀ e c₀ map c =
+show-μ-loop s items links ends marks table node left item map₀ e c₀ map c =
     e - c
 
--- src/lib.rt:424:17
 show-cast-map : (t : ℕ) → show-lts.Need-cast-map (
   wide-reads.Asked,
   wide-reads.Learnt,
@@ -50,9 +47,8 @@ show-cast-map : (t : ℕ) → show-lts.Need-cast-map (
   show.Post,
 ) (show-at t) show.Post show-Inv-loop show-μ-loop
 show-cast-map t c =
-    omega (arith, goes-fits _ (c .before .before .pre .1 .1 .1))
+    omega (arith, goes-fits _ (c .before .before .before .pre .1 .1 .1))
 
--- src/lib.rt:424:5
 show-mul-map : (t : ℕ) → show-lts.Need-mul-map (
   wide-reads.Asked,
   wide-reads.Learnt,
@@ -64,9 +60,8 @@ show-mul-map : (t : ℕ) → show-lts.Need-mul-map (
   show.Post,
 ) (show-at t) show.Post show-Inv-loop show-μ-loop
 show-mul-map t c =
-    omega (arith, here (c .before .before .pre .1 .0) .1)
+    omega (arith, drawing-here (c .before .before .before .pre .1 .0) .1)
 
--- src/lib.rt:424:5
 show-slice-write-map : (t : ℕ) → show-lts.Need-slice-write-map (
   wide-reads.Asked,
   wide-reads.Learnt,
@@ -78,9 +73,8 @@ show-slice-write-map : (t : ℕ) → show-lts.Need-slice-write-map (
   show.Post,
 ) (show-at t) show.Post show-Inv-loop show-μ-loop
 show-slice-write-map t c =
-    omega (arith, here (c .before .before .pre .1 .0) .2, c .before .before .pre .1 .1 .0)
+    omega (arith, drawing-here (c .before .before .before .pre .1 .0) .2, c .before .before .before .pre .1 .1 .0 .0)
 
--- src/lib.rt:425:18
 show-element-copy-out-wide : (t : ℕ) → show-lts.Need-element-copy-out-wide (
   wide-reads.Asked,
   wide-reads.Learnt,
@@ -92,9 +86,8 @@ show-element-copy-out-wide : (t : ℕ) → show-lts.Need-element-copy-out-wide (
   show.Post,
 ) (show-at t) show.Post show-Inv-loop show-μ-loop
 show-element-copy-out-wide t c =
-    omega (arith, here (c .before .before .pre .1 .0) .1)
+    omega (arith, drawing-here (c .before .before .before .pre .1 .0) .1)
 
--- src/lib.rt:425:9
 show-wide-requires : (t : ℕ) → show-lts.Need-wide-requires (
   wide-reads.Asked,
   wide-reads.Learnt,
@@ -107,7 +100,6 @@ show-wide-requires : (t : ℕ) → show-lts.Need-wide-requires (
 ) (show-at t) show.Post show-Inv-loop show-μ-loop
 show-wide-requires t c κs = search needs
 
--- src/lib.rt:426:17
 show-add-c : (t : ℕ) → show-lts.Need-add-c (
   wide-reads.Asked,
   wide-reads.Learnt,
@@ -119,9 +111,8 @@ show-add-c : (t : ℕ) → show-lts.Need-add-c (
   show.Post,
 ) (show-at t) show.Post show-Inv-loop show-μ-loop
 show-add-c t c =
-    omega (arith, here (c .before .before .before .before .pre .1 .0) .1)
+    omega (arith, drawing-here (c .before .before .before .before .before .pre .1 .0) .1)
 
--- src/lib.rt:427:5
 show-loop-holds : (t : ℕ) → show-lts.Need-loop-holds (
   wide-reads.Asked,
   wide-reads.Learnt,
@@ -133,9 +124,8 @@ show-loop-holds : (t : ℕ) → show-lts.Need-loop-holds (
   show.Post,
 ) (show-at t) show.Post show-Inv-loop show-μ-loop
 show-loop-holds t c =
-    (refl, λ k o. walk-start k (o .to) _)
+    (refl, λ k o. trace-start k (o .to) _)
 
--- src/lib.rt:429:18
 show-element-copy-out-wide-2 : (t : ℕ) → show-lts.Need-element-copy-out-wide-2 (
   wide-reads.Asked,
   wide-reads.Learnt,
@@ -147,9 +137,8 @@ show-element-copy-out-wide-2 : (t : ℕ) → show-lts.Need-element-copy-out-wide
   show.Post,
 ) (show-at t) show.Post show-Inv-loop show-μ-loop
 show-element-copy-out-wide-2 t c =
-    omega (arith, c .loop-test .taken, c .before .before .wide .ensures .0, c .before .before .before .before .before .before .pre .1 .0 .few)
+    omega (arith, c .loop-test .taken, c .before .before .wide .ensures .0, c .before .before .before .before .before .before .before .pre .1 .0 .few)
 
--- src/lib.rt:429:9
 show-wide-requires-2 : (t : ℕ) → show-lts.Need-wide-requires-2 (
   wide-reads.Asked,
   wide-reads.Learnt,
@@ -162,7 +151,6 @@ show-wide-requires-2 : (t : ℕ) → show-lts.Need-wide-requires-2 (
 ) (show-at t) show.Post show-Inv-loop show-μ-loop
 show-wide-requires-2 t c κs = search needs
 
--- src/lib.rt:430:12
 show-element-copy-out-if1 : (t : ℕ) → show-lts.Need-element-copy-out-if1 (
   wide-reads.Asked,
   wide-reads.Learnt,
@@ -174,9 +162,8 @@ show-element-copy-out-if1 : (t : ℕ) → show-lts.Need-element-copy-out-if1 (
   show.Post,
 ) (show-at t) show.Post show-Inv-loop show-μ-loop
 show-element-copy-out-if1 t c =
-    omega (arith, c .before .before .loop-test .taken, c .before .before .before .before .wide .ensures .0, c .before .before .before .before .before .before .before .before .pre .1 .0 .few)
+    omega (arith, c .before .before .loop-test .taken, c .before .before .before .before .wide .ensures .0, c .before .before .before .before .before .before .before .before .before .pre .1 .0 .few)
 
--- src/lib.rt:431:13
 show-fill-dropped-requires : (t : ℕ) → show-lts.Need-fill-dropped-requires (
   wide-reads.Asked,
   wide-reads.Learnt,
@@ -188,9 +175,8 @@ show-fill-dropped-requires : (t : ℕ) → show-lts.Need-fill-dropped-requires (
   show.Post,
 ) (show-at t) show.Post show-Inv-loop show-μ-loop
 show-fill-dropped-requires t c κs =
-    let q = drawn-next (c .before .before .before .before .before .before .loop .inv .1 (c .before .before .before .before .before .before .before .before .before .before .before .pre .1 .0) (c .before .before .before .before .before .before .before .before .before .before .before .pre .1 .1 .1)) (omega (arith, c .before .before .before .before .before .loop-test .taken, c .before .before .before .before .before .before .before .wide .ensures .0)) in omega (arith, c .before .before .before .wide2 .ensures .0, c .before .before .before .before .before .before .loop .inv .0, length-set (c .before .before .before .before .before .before .before .before .before .before .before .args .map .now) (c .before .before .before .before .before .before .before .before .before .before .before .args .node) (c .before .before .before .before .before .before .before .before .before .before .before .args .item), c .before .before .before .before .before .before .before .before .before .before .before .pre .1 .1 .0, q .0, q .1)
+    let q = drawn-next (c .before .before .before .before .before .before .loop .inv .1 (c .before .before .before .before .before .before .before .before .before .before .before .before .pre .1 .0) (c .before .before .before .before .before .before .before .before .before .before .before .before .pre .1 .1 .1)) (omega (arith, c .before .before .before .before .before .loop-test .taken, c .before .before .before .before .before .before .before .wide .ensures .0)) in omega (arith, c .before .before .before .wide2 .ensures .0, c .before .before .before .before .before .before .loop .inv .0, length-set (c .before .before .before .before .before .before .before .before .before .before .before .before .args .map .now) (c .before .before .before .before .before .before .before .before .before .before .before .before .args .node) (c .before .before .before .before .before .before .before .before .before .before .before .before .args .item), c .before .before .before .before .before .before .before .before .before .before .before .before .pre .1 .1 .0 .0, q .0, q .1)
 
--- src/lib.rt:427:5
 show-loop-less : (t : ℕ) → show-lts.Need-loop-less (
   wide-reads.Asked,
   wide-reads.Learnt,
@@ -202,9 +188,8 @@ show-loop-less : (t : ℕ) → show-lts.Need-loop-less (
   show.Post,
 ) (show-at t) show.Post show-Inv-loop show-μ-loop
 show-loop-less t c =
-    omega (arith, c .before .before .before .before .before .before .before .before .loop-test .taken, c .before .before .before .before .before .before .before .before .before .before .wide .ensures .0, c .before .before .before .before .before .before .wide2 .ensures .0, drawn-next (c .before .before .before .before .before .before .before .before .before .loop .inv .1 (c .before .before .before .before .before .before .before .before .before .before .before .before .before .before .pre .1 .0) (c .before .before .before .before .before .before .before .before .before .before .before .before .before .before .pre .1 .1 .1)) (omega (arith, c .before .before .before .before .before .before .before .before .loop-test .taken, c .before .before .before .before .before .before .before .before .before .before .wide .ensures .0)) .0)
+    omega (arith, c .before .before .before .before .before .before .before .before .loop-test .taken, c .before .before .before .before .before .before .before .before .before .before .wide .ensures .0, c .before .before .before .before .before .before .wide2 .ensures .0, drawn-next (c .before .before .before .before .before .before .before .before .before .loop .inv .1 (c .before .before .before .before .before .before .before .before .before .before .before .before .before .before .before .pre .1 .0) (c .before .before .before .before .before .before .before .before .before .before .before .before .before .before .before .pre .1 .1 .1)) (omega (arith, c .before .before .before .before .before .before .before .before .loop-test .taken, c .before .before .before .before .before .before .before .before .before .before .wide .ensures .0)) .0)
 
--- src/lib.rt:427:5
 show-loop-again : (t : ℕ) → show-lts.Need-loop-again (
   wide-reads.Asked,
   wide-reads.Learnt,
@@ -218,21 +203,6 @@ show-loop-again : (t : ℕ) → show-lts.Need-loop-again (
 show-loop-again t c =
     (c .before .before .fill-dropped .kept .0 ∙ c .before .before .before .before .before .before .before .before .before .loop .inv .0, λ k o. drawn-is (drawn-skip (c .before .before .before .before .before .before .before .before .before .loop .inv .1 k o) (omega (arith, c .before .before .before .before .before .before .before .before .loop-test .taken, c .before .before .before .before .before .before .before .before .before .before .wide .ensures .0)) (c .before .before .before .before .if1 .taken) _ (c .before .before .before .before .before .before .wide2 .ensures .0)) (c .before .before .fill-dropped .ensures))
 
--- src/lib.rt:443:13
-show-sub-onward : (t : ℕ) → show-lts.Need-sub-onward (
-  wide-reads.Asked,
-  wide-reads.Learnt,
-  fill-dropped-reads.Asked,
-  fill-dropped-reads.Learnt,
-  onward-reads.Asked,
-  onward-reads.Learnt,
-  show-below t,
-  show.Post,
-) (show-at t) show.Post show-Inv-loop show-μ-loop
-show-sub-onward t c =
-    omega (arith, here (c .before .before .before .before .before .before .before .before .before .before .pre .1 .0) .0)
-
--- src/lib.rt:434:13
 show-onward-requires : (t : ℕ) → show-lts.Need-onward-requires (
   wide-reads.Asked,
   wide-reads.Learnt,
@@ -244,9 +214,8 @@ show-onward-requires : (t : ℕ) → show-lts.Need-onward-requires (
   show.Post,
 ) (show-at t) show.Post show-Inv-loop show-μ-loop
 show-onward-requires t c κs =
-    (walk-case (c .before .before .before .before .before .before .before .before .before .before .pre .1 .0) ((c .before .before .before .before .before .before .before .before .before .before .pre .1 .1 .1) .to) _ _ _ (c .before .before .before .before .before .loop .inv .1 (c .before .before .before .before .before .before .before .before .before .before .pre .1 .0) (c .before .before .before .before .before .before .before .before .before .before .pre .1 .1 .1)) (omega (arith, c .before .before .before .before .loop-test .taken, c .before .before .before .before .before .before .wide .ensures .0)) (c .if1 .left))
+    (record { register = (c .before .before .before .before .before .before .before .before .before .before .before .pre .1 .0) .register; read = (c .before .before .before .before .before .before .before .before .before .before .before .pre .1 .0) .read; holds = ((c .before .before .before .before .before .before .before .before .before .before .before .pre .1 .0) .items-are, (c .before .before .before .before .before .before .before .before .before .before .before .pre .1 .0) .links-are, λ _. (_, trace-note (c .before .before .before .before .before .before .before .before .before .before .before .pre .1 .0) (c .before .before .before .before .before .loop .inv .1 (c .before .before .before .before .before .before .before .before .before .before .before .pre .1 .0) (c .before .before .before .before .before .before .before .before .before .before .before .pre .1 .1 .1)) (omega (arith, c .before .before .before .before .loop-test .taken, c .before .before .before .before .before .before .wide .ensures .0)) (c .if1 .left) (bytes-known (c .before .before .before .before .before .before .before .before .before .before .before .args .s .now) (c .before .before .before .before .before .before .before .before .before .before .shared-slice-known .given)) _)) }, (omega (arith, c .before .before .before .before .loop-test .taken, c .before .before .before .before .before .before .wide .ensures .0, c .before .before .before .before .before .before .before .before .before .before .before .pre .1 .0 .few), c .before .before .before .before .before .before .before .before .before .before .before .pre .1 .1 .0 .1))
 
--- src/lib.rt:455:13
 show-sub-show : (t : ℕ) → show-lts.Need-sub-show (
   wide-reads.Asked,
   wide-reads.Learnt,
@@ -258,9 +227,8 @@ show-sub-show : (t : ℕ) → show-lts.Need-sub-show (
   show.Post,
 ) (show-at t) show.Post show-Inv-loop show-μ-loop
 show-sub-show t c =
-    omega (arith, here (c .before .before .before .before .before .before .before .before .before .before .before .pre .1 .0) .0)
+    omega (arith, drawing-here (c .before .before .before .before .before .before .before .before .before .before .before .before .pre .1 .0) .0)
 
--- src/lib.rt:446:9
 show-show-requires : (t : ℕ) → show-lts.Need-show-requires (
   wide-reads.Asked,
   wide-reads.Learnt,
@@ -272,9 +240,8 @@ show-show-requires : (t : ℕ) → show-lts.Need-show-requires (
   show.Post,
 ) (show-at t) show.Post show-Inv-loop show-μ-loop
 show-show-requires t c κs =
-    (omega (arith, here (c .before .before .before .before .before .before .before .before .before .before .before .before .pre .1 .0) .0, c .before .before .before .before .before .before .before .before .before .before .before .before .pre .0), ((walk-case (c .before .before .before .before .before .before .before .before .before .before .before .before .pre .1 .0) ((c .before .before .before .before .before .before .before .before .before .before .before .before .pre .1 .1 .1) .to) _ _ _ (c .before .before .before .before .before .before .before .loop .inv .1 (c .before .before .before .before .before .before .before .before .before .before .before .before .pre .1 .0) (c .before .before .before .before .before .before .before .before .before .before .before .before .pre .1 .1 .1)) (omega (arith, c .before .before .before .before .before .before .loop-test .taken, c .before .before .before .before .before .before .before .before .wide .ensures .0)) (c .before .before .if1 .left)), (omega (arith, c .before .before .before .before .before .before .before .loop .inv .0, length-set (c .before .before .before .before .before .before .before .before .before .before .before .before .args .map .now) (c .before .before .before .before .before .before .before .before .before .before .before .before .args .node) (c .before .before .before .before .before .before .before .before .before .before .before .before .args .item), c .before .before .before .before .before .before .before .before .before .before .before .before .pre .1 .1 .0, drawn-next (c .before .before .before .before .before .before .before .loop .inv .1 (c .before .before .before .before .before .before .before .before .before .before .before .before .pre .1 .0) (c .before .before .before .before .before .before .before .before .before .before .before .before .pre .1 .1 .1)) (omega (arith, c .before .before .before .before .before .before .loop-test .taken, c .before .before .before .before .before .before .before .before .wide .ensures .0)) .1), (goes-on (judged ((c .before .before .before .before .before .before .before .before .before .before .before .before .pre .1 .0) .register)) ((c .before .before .before .before .before .before .before .before .before .before .before .before .pre .1 .1 .1) .to) (getD (c .before .before .before .before .before .before .before .before .before .before .before .before .args .roles .now) (c .before .before .before .before .before .before .before .loop .c) 0) ((walk-case (c .before .before .before .before .before .before .before .before .before .before .before .before .pre .1 .0) ((c .before .before .before .before .before .before .before .before .before .before .before .before .pre .1 .1 .1) .to) _ _ _ (c .before .before .before .before .before .before .before .loop .inv .1 (c .before .before .before .before .before .before .before .before .before .before .before .before .pre .1 .0) (c .before .before .before .before .before .before .before .before .before .before .before .before .pre .1 .1 .1)) (omega (arith, c .before .before .before .before .before .before .loop-test .taken, c .before .before .before .before .before .before .before .before .wide .ensures .0)) (c .before .before .if1 .left)) .tree) _ (c .before .onward .ensures (walk-case (c .before .before .before .before .before .before .before .before .before .before .before .before .pre .1 .0) ((c .before .before .before .before .before .before .before .before .before .before .before .before .pre .1 .1 .1) .to) _ _ _ (c .before .before .before .before .before .before .before .loop .inv .1 (c .before .before .before .before .before .before .before .before .before .before .before .before .pre .1 .0) (c .before .before .before .before .before .before .before .before .before .before .before .before .pre .1 .1 .1)) (omega (arith, c .before .before .before .before .before .before .loop-test .taken, c .before .before .before .before .before .before .before .before .wide .ensures .0)) (c .before .before .if1 .left)) (c .before .before .before .before .before .before .before .before .before .before .before .before .pre .1 .1 .1))))))
+    (omega (arith, drawing-here (c .before .before .before .before .before .before .before .before .before .before .before .before .before .pre .1 .0) .0, c .before .before .before .before .before .before .before .before .before .before .before .before .before .pre .0), (trace-child (c .before .before .before .before .before .before .before .before .before .before .before .before .before .pre .1 .0) (c .before .before .before .before .before .before .before .loop .inv .1 (c .before .before .before .before .before .before .before .before .before .before .before .before .before .pre .1 .0) (c .before .before .before .before .before .before .before .before .before .before .before .before .before .pre .1 .1 .1)) (omega (arith, c .before .before .before .before .before .before .loop-test .taken, c .before .before .before .before .before .before .before .before .wide .ensures .0)) (c .before .before .if1 .left), ((omega (arith, c .before .before .before .before .before .before .before .loop .inv .0, length-set (c .before .before .before .before .before .before .before .before .before .before .before .before .before .args .map .now) (c .before .before .before .before .before .before .before .before .before .before .before .before .before .args .node) (c .before .before .before .before .before .before .before .before .before .before .before .before .before .args .item), c .before .before .before .before .before .before .before .before .before .before .before .before .before .pre .1 .1 .0 .0, drawn-next (c .before .before .before .before .before .before .before .loop .inv .1 (c .before .before .before .before .before .before .before .before .before .before .before .before .before .pre .1 .0) (c .before .before .before .before .before .before .before .before .before .before .before .before .before .pre .1 .1 .1)) (omega (arith, c .before .before .before .before .before .before .loop-test .taken, c .before .before .before .before .before .before .before .before .wide .ensures .0)) .1), c .before .before .before .before .before .before .before .before .before .before .before .before .before .pre .1 .1 .0 .1), (trace-goes (c .before .before .before .before .before .before .before .before .before .before .before .before .before .pre .1 .0) (bytes-known (c .before .before .before .before .before .before .before .before .before .before .before .before .before .args .s .now) (c .before .before .before .before .before .before .before .before .before .before .before .before .shared-slice-known .given)) _ (c .before .before .before .before .before .before .before .before .before .before .before .before .before .pre .1 .1 .1) (c .before .before .before .before .before .before .before .loop .inv .1 (c .before .before .before .before .before .before .before .before .before .before .before .before .before .pre .1 .0) (c .before .before .before .before .before .before .before .before .before .before .before .before .before .pre .1 .1 .1)) (omega (arith, c .before .before .before .before .before .before .loop-test .taken, c .before .before .before .before .before .before .before .before .wide .ensures .0)) (c .before .before .if1 .left) _ (c .before .onward .ensures .0) (c .before .onward .ensures .1 ((c .before .before .before .before .before .before .before .before .before .before .before .before .before .pre .1 .0) .register) ((c .before .before .before .before .before .before .before .before .before .before .before .before .before .pre .1 .0) .read))))))
 
--- src/lib.rt:427:5
 show-loop-less-2 : (t : ℕ) → show-lts.Need-loop-less-2 (
   wide-reads.Asked,
   wide-reads.Learnt,
@@ -286,9 +253,8 @@ show-loop-less-2 : (t : ℕ) → show-lts.Need-loop-less-2 (
   show.Post,
 ) (show-at t) show.Post show-Inv-loop show-μ-loop
 show-loop-less-2 t c =
-    omega (arith, c .before .before .before .before .before .before .before .before .before .loop-test .taken, c .before .before .before .before .before .before .before .before .before .before .before .wide .ensures .0, c .before .before .before .before .before .before .before .wide2 .ensures .0, drawn-next (c .before .before .before .before .before .before .before .before .before .before .loop .inv .1 (c .before .before .before .before .before .before .before .before .before .before .before .before .before .before .before .pre .1 .0) (c .before .before .before .before .before .before .before .before .before .before .before .before .before .before .before .pre .1 .1 .1)) (omega (arith, c .before .before .before .before .before .before .before .before .before .loop-test .taken, c .before .before .before .before .before .before .before .before .before .before .before .wide .ensures .0)) .0)
+    omega (arith, c .before .before .before .before .before .before .before .before .before .loop-test .taken, c .before .before .before .before .before .before .before .before .before .before .before .wide .ensures .0, c .before .before .before .before .before .before .before .wide2 .ensures .0, drawn-next (c .before .before .before .before .before .before .before .before .before .before .loop .inv .1 (c .before .before .before .before .before .before .before .before .before .before .before .before .before .before .before .before .pre .1 .0) (c .before .before .before .before .before .before .before .before .before .before .before .before .before .before .before .before .pre .1 .1 .1)) (omega (arith, c .before .before .before .before .before .before .before .before .before .loop-test .taken, c .before .before .before .before .before .before .before .before .before .before .before .wide .ensures .0)) .0)
 
--- src/lib.rt:427:5
 show-loop-again-2 : (t : ℕ) → show-lts.Need-loop-again-2 (
   wide-reads.Asked,
   wide-reads.Learnt,
@@ -300,9 +266,8 @@ show-loop-again-2 : (t : ℕ) → show-lts.Need-loop-again-2 (
   show.Post,
 ) (show-at t) show.Post show-Inv-loop show-μ-loop
 show-loop-again-2 t c =
-    (c .before .before .show .kept .1 .1 .1 .1 .1 .1 .1 .1 .1 .1 .0 ∙ c .before .before .before .before .before .before .before .before .before .before .loop .inv .0, λ k o. drawn-is (drawn-child (c .before .before .before .before .before .before .before .before .before .before .loop .inv .1 k o) (omega (arith, c .before .before .before .before .before .before .before .before .before .loop-test .taken, c .before .before .before .before .before .before .before .before .before .before .before .wide .ensures .0)) (c .before .before .before .before .before .if1 .left) .then _ (c .before .before .before .before .before .before .before .wide2 .ensures .0)) (c .before .before .show .ensures (walk-case k (o .to) _ _ _ (c .before .before .before .before .before .before .before .before .before .before .loop .inv .1 k o) (omega (arith, c .before .before .before .before .before .before .before .before .before .loop-test .taken, c .before .before .before .before .before .before .before .before .before .before .before .wide .ensures .0)) (c .before .before .before .before .before .if1 .left)) (goes-on (judged (k .register)) (o .to) (getD (c .before .before .before .before .before .before .before .before .before .before .before .before .before .before .before .args .roles .now) (c .before .before .before .before .before .before .before .before .before .before .loop .c) 0) ((walk-case k (o .to) _ _ _ (c .before .before .before .before .before .before .before .before .before .before .loop .inv .1 k o) (omega (arith, c .before .before .before .before .before .before .before .before .before .loop-test .taken, c .before .before .before .before .before .before .before .before .before .before .before .wide .ensures .0)) (c .before .before .before .before .before .if1 .left)) .tree) _ (c .before .before .before .before .onward .ensures (walk-case k (o .to) _ _ _ (c .before .before .before .before .before .before .before .before .before .before .loop .inv .1 k o) (omega (arith, c .before .before .before .before .before .before .before .before .before .loop-test .taken, c .before .before .before .before .before .before .before .before .before .before .before .wide .ensures .0)) (c .before .before .before .before .before .if1 .left)) o))))
+    (c .before .before .show .kept .1 .1 .1 .1 .1 .1 .1 .1 .1 .0 ∙ c .before .before .before .before .before .before .before .before .before .before .loop .inv .0, λ k o. drawn-is (drawn-child (c .before .before .before .before .before .before .before .before .before .before .loop .inv .1 k o) (omega (arith, c .before .before .before .before .before .before .before .before .before .loop-test .taken, c .before .before .before .before .before .before .before .before .before .before .before .wide .ensures .0)) (c .before .before .before .before .before .if1 .left) .then _ (c .before .before .before .before .before .before .before .wide2 .ensures .0)) (c .before .before .show .ensures (trace-child k (c .before .before .before .before .before .before .before .before .before .before .loop .inv .1 k o) (omega (arith, c .before .before .before .before .before .before .before .before .before .loop-test .taken, c .before .before .before .before .before .before .before .before .before .before .before .wide .ensures .0)) (c .before .before .before .before .before .if1 .left)) (trace-goes k (bytes-known (c .before .before .before .before .before .before .before .before .before .before .before .before .before .before .before .before .args .s .now) (c .before .before .before .before .before .before .before .before .before .before .before .before .before .before .before .shared-slice-known .given)) _ o (c .before .before .before .before .before .before .before .before .before .before .loop .inv .1 k o) (omega (arith, c .before .before .before .before .before .before .before .before .before .loop-test .taken, c .before .before .before .before .before .before .before .before .before .before .before .wide .ensures .0)) (c .before .before .before .before .before .if1 .left) _ (c .before .before .before .before .onward .ensures .0) (c .before .before .before .before .onward .ensures .1 (k .register) (k .read)))))
 
--- src/lib.rt:405:1
 show-same-length : (t : ℕ) → show-lts.Need-same-length (
   wide-reads.Asked,
   wide-reads.Learnt,
@@ -314,9 +279,8 @@ show-same-length : (t : ℕ) → show-lts.Need-same-length (
   show.Post,
 ) (show-at t) show.Post show-Inv-loop show-μ-loop
 show-same-length t c =
-    c .before .loop .inv .0 ∙ length-set (c .before .before .before .before .before .before .args .map .now) (c .before .before .before .before .before .before .args .node) (c .before .before .before .before .before .before .args .item)
+    c .before .loop .inv .0 ∙ length-set (c .before .before .before .before .before .before .before .args .map .now) (c .before .before .before .before .before .before .before .args .node) (c .before .before .before .before .before .before .before .args .item)
 
--- src/lib.rt:405:1
 show-returns : (t : ℕ) → show-lts.Need-returns (
   wide-reads.Asked,
   wide-reads.Learnt,
@@ -328,7 +292,7 @@ show-returns : (t : ℕ) → show-lts.Need-returns (
   show.Post,
 ) (show-at t) show.Post show-Inv-loop show-μ-loop
 show-returns t c =
-    λ k o. walk-end k (o .to) _ _ _ _ (o .same) (c .before .loop .inv .1 k o) (omega (arith, c .loop-test .left, c .before .before .wide .ensures .0))
+    λ k o. trace-end k (o .to) _ _ _ _ (o .same) (c .before .loop .inv .1 k o) (omega (arith, c .loop-test .left, c .before .before .wide .ensures .0))
 
 pub +show-spec : {M : Type 1} → statement M
 +show-spec = close μ-show λ t. show-lts.spec (
@@ -358,7 +322,6 @@ pub +show-spec : {M : Type 1} → statement M
     (show-fill-dropped-requires t)
     (show-loop-less t)
     (show-loop-again t)
-    (show-sub-onward t)
     (show-onward-requires t)
     (show-sub-show t)
     (show-show-requires t)

@@ -42,7 +42,7 @@ loop-less c = search needs
 -- src/lib.rt:400:5
 loop-again : tie.Need-loop-again Inv-loop μ-loop
 loop-again c =
-    (omega arith, simp length-set (c .before .loop .inv .1), fill-step _ _ _ (c .loop-test .taken) ∙ c .before .loop .inv .2)
+    (omega arith, simp length-set (c .before .loop .inv .1), fill-step _ _ _ _ (c .loop-test .taken) (omega arith) ∙ c .before .loop .inv .2)
 
 -- src/lib.rt:395:1
 same-length : tie.Need-same-length Inv-loop μ-loop

@@ -1,104 +1,81 @@
 use Rattle.degree.proofs.scan.Statement.{statement}
 use Rattle.degree.proofs.scan.Tie as tie
-use Rattle.degree.proofs.scan.Reads as reads
-use Rattle.degree.proofs.scan.Lts as lts
-use Rattle.degree.proofs.taken.Reads as taken-reads
-use Rattle.register.proofs.from_of.Reads as from-of-reads
-use Rattle.register.proofs.role_of.Reads as role-of-reads
-use Rattle.register.proofs.to_of.Reads as to-of-reads
-use Prim.Native.Nat.{_-_, _≤_, ℕ}
+use Prim.Native.Nat.{_-_, _≤_}
 use native.Mathlib.Omega.{arith}
-use mathlib.Core.Path.{_∙_, sym, refl}
-use lib.ListN.{length, getD}
+use lib.ListN.{getD}
 use Rattle.fields.proofs.Known.{bytes-known}
 use Rattle.register.specs.Image.{Image}
 use Rattle.register.proofs.Begins.{asked-image}
-use Rattle.degree.proofs.OnePass.{Scan, scan-start, scan-pass, scan-take, scan-end, past}
+use Rattle.degree.proofs.OnePass.{Scan, scan-start, scan-pass, scan-take, scan-end, scan-leads, past}
 use borrow.Author.Needs.{needs}
 
 abbrev Inv-loop : tie.InvT-loop
-Inv-loop s items links item first role sub value₀ found₀ k₀ value found k =
-    (first ≤ k) × (k ≤ links) × Image s (λ g. Scan (λ y. getD sub y 0) (g .links) item role value found k)
+Inv-loop s items links item first role sub value₀ found₀ link₀ k₀ value found link k =
+    (first ≤ k) × (k ≤ links) × Image s (λ g. Scan (λ y. getD sub y 0) (g .links) item role value found link k)
 
 abbrev μ-loop : tie.MeasureT-loop
-μ-loop s items links item first role sub value₀ found₀ k₀ value found k =
+μ-loop s items links item first role sub value₀ found₀ link₀ k₀ value found link k =
     links - k
 
--- src/lib.rt:85:5
 loop-holds : tie.Need-loop-holds Inv-loop μ-loop
 loop-holds c =
-    (omega arith, omega (arith, c .before .before .pre .0 .holds .2 .within, c .before .before .pre .0 .holds .1), λ g h. scan-start _ (g .links) _ _ _ (asked-image (c .before .before .pre .0) g h .2))
+    (omega arith, omega (arith, c .before .before .pre .0 .holds .2 .within, c .before .before .pre .0 .holds .1), λ g h. scan-start _ (g .links) _ _ _ _ (omega (arith, asked-image (c .before .before .pre .0) g h .1)) (asked-image (c .before .before .pre .0) g h .2))
 
--- src/lib.rt:86:12
 from-of-requires : tie.Need-from-of-requires Inv-loop μ-loop
 from-of-requires c κs =
     record { register = c .before .before .before .before .pre .0 .register; read = c .before .before .before .before .pre .0 .read; holds = (c .before .before .before .before .pre .0 .holds .0, omega (arith, c .before .before .before .before .pre .0 .holds .1)) }
 
--- src/lib.rt:87:13
 returns : tie.Need-returns Inv-loop μ-loop
 returns c =
-    λ g h. scan-end _ (g .links) _ _ _ (c .before .before .before .loop .inv .2 g h) (past (c .before .before .before .before .before .before .args .s .now) (bytes-known (c .before .before .before .before .before .before .args .s .now) (c .before .before .before .before .before .shared-slice-known .given)) g h _ _ _ _ (asked-image (c .before .before .before .before .before .before .pre .0) g h .2) (c .before .before .before .loop .inv .0) (omega (arith, asked-image (c .before .before .before .before .before .before .pre .0) g h .1)) (c .before .from-of .ensures g h .0) (c .if1 .taken))
+    (λ g h. scan-end _ (g .links) _ _ _ (c .before .before .before .loop .inv .2 g h) (past (c .before .before .before .before .before .before .args .s .now) (bytes-known (c .before .before .before .before .before .before .args .s .now) (c .before .before .before .before .before .shared-slice-known .given)) g h _ _ _ _ (asked-image (c .before .before .before .before .before .before .pre .0) g h .2) (c .before .before .before .loop .inv .0) (omega (arith, asked-image (c .before .before .before .before .before .before .pre .0) g h .1)) (c .before .from-of .ensures g h .0) (c .if1 .taken)), λ g h. scan-leads _ (g .links) _ _ _ (c .before .before .before .loop .inv .2 g h) (past (c .before .before .before .before .before .before .args .s .now) (bytes-known (c .before .before .before .before .before .before .args .s .now) (c .before .before .before .before .before .shared-slice-known .given)) g h _ _ _ _ (asked-image (c .before .before .before .before .before .before .pre .0) g h .2) (c .before .before .before .loop .inv .0) (omega (arith, asked-image (c .before .before .before .before .before .before .pre .0) g h .1)) (c .before .from-of .ensures g h .0) (c .if1 .taken)))
 
--- src/lib.rt:93:20
 role-of-requires : tie.Need-role-of-requires Inv-loop μ-loop
 role-of-requires c κs =
     record { register = c .before .before .before .before .before .before .pre .0 .register; read = c .before .before .before .before .before .before .pre .0 .read; holds = (c .before .before .before .before .before .before .pre .0 .holds .0, omega (arith, c .before .before .before .before .before .before .pre .0 .holds .1)) }
 
--- src/lib.rt:94:13
 to-of-requires : tie.Need-to-of-requires Inv-loop μ-loop
 to-of-requires c κs =
     record { register = c .before .before .before .before .before .before .before .pre .0 .register; read = c .before .before .before .before .before .before .before .pre .0 .read; holds = (c .before .before .before .before .before .before .before .pre .0 .holds .0, omega (arith, c .before .before .before .before .before .before .before .pre .0 .holds .1)) }
 
--- src/lib.rt:95:9
 add-k : tie.Need-add-k Inv-loop μ-loop
 add-k c = search needs
 
--- src/lib.rt:96:39
 mul-taken : tie.Need-mul-taken Inv-loop μ-loop
 mul-taken c =
     omega (arith, c .to-of .ensures (c .before .before .before .before .before .before .before .before .pre .0 .register) (c .before .before .before .before .before .before .before .before .pre .0 .read) .1, c .before .before .before .before .before .before .before .before .pre .0 .holds .0)
 
--- src/lib.rt:96:39
 shared-slice-read-taken : tie.Need-shared-slice-read-taken Inv-loop μ-loop
 shared-slice-read-taken c =
     omega (arith, c .before .to-of .ensures (c .before .before .before .before .before .before .before .before .before .pre .0 .register) (c .before .before .before .before .before .before .before .before .before .pre .0 .read) .1, c .before .before .before .before .before .before .before .before .before .pre .0 .holds .0)
 
--- src/lib.rt:96:13
 taken-requires : tie.Need-taken-requires Inv-loop μ-loop
 taken-requires c κs = search needs
 
--- src/lib.rt:85:5
 loop-less : tie.Need-loop-less Inv-loop μ-loop
 loop-less c = search needs
 
--- src/lib.rt:85:5
 loop-again : tie.Need-loop-again Inv-loop μ-loop
 loop-again c =
-    (omega arith, omega arith, λ g h. scan-pass _ (g .links) _ _ _ _ _ _ _ _ (c .before .before .before .before .before .before .before .before .loop .inv .2 g h) (omega (arith, asked-image (c .before .before .before .before .before .before .before .before .before .before .before .pre .0) g h .1)) (c .before .before .before .before .before .before .from-of .ensures g h .0) (c .before .before .before .before .role-of .ensures g h .0) (c .before .before .before .to-of .ensures g h .0) (c .before .before .before .before .before .if1 .left) _ (c .before .taken .ensures) (c .if2 .taken))
+    (omega arith, omega arith, λ g h. scan-pass _ (g .links) _ _ _ _ _ _ _ _ _ (c .before .before .before .before .before .before .before .before .loop .inv .2 g h) (omega (arith, asked-image (c .before .before .before .before .before .before .before .before .before .before .before .pre .0) g h .1)) (c .before .before .before .before .before .before .from-of .ensures g h .0) (c .before .before .before .before .role-of .ensures g h .0) (c .before .before .before .to-of .ensures g h .0) (c .before .before .before .before .before .if1 .left) _ (c .before .taken .ensures) (c .if2 .taken))
 
--- src/lib.rt:99:17
 mul-value : tie.Need-mul-value Inv-loop μ-loop
 mul-value c =
     omega (arith, c .before .before .before .to-of .ensures (c .before .before .before .before .before .before .before .before .before .before .before .pre .0 .register) (c .before .before .before .before .before .before .before .before .before .before .before .pre .0 .read) .1, c .before .before .before .before .before .before .before .before .before .before .before .pre .0 .holds .0)
 
--- src/lib.rt:99:17
 shared-slice-read-value : tie.Need-shared-slice-read-value Inv-loop μ-loop
 shared-slice-read-value c =
     omega (arith, c .before .before .before .before .to-of .ensures (c .before .before .before .before .before .before .before .before .before .before .before .before .pre .0 .register) (c .before .before .before .before .before .before .before .before .before .before .before .before .pre .0 .read) .1, c .before .before .before .before .before .before .before .before .before .before .before .before .pre .0 .holds .0)
 
--- src/lib.rt:85:5
 loop-less-2 : tie.Need-loop-less-2 Inv-loop μ-loop
 loop-less-2 c = search needs
 
--- src/lib.rt:85:5
 loop-again-2 : tie.Need-loop-again-2 Inv-loop μ-loop
 loop-again-2 c =
-    (omega arith, omega arith, λ g h. scan-take _ (g .links) _ _ _ _ _ _ _ _ (c .before .before .before .before .before .before .before .before .before .loop .inv .2 g h) (omega (arith, asked-image (c .before .before .before .before .before .before .before .before .before .before .before .before .pre .0) g h .1)) (c .before .before .before .before .before .before .before .from-of .ensures g h .0) (c .before .before .before .before .before .role-of .ensures g h .0) (c .before .before .before .before .to-of .ensures g h .0) (c .before .before .before .before .before .before .if1 .left) _ (c .before .before .taken .ensures) (c .before .if2 .left) (omega (arith, c .before .before .before .before .to-of .ensures g h .1, asked-image (c .before .before .before .before .before .before .before .before .before .before .before .before .pre .0) g h .0)))
+    (omega arith, omega arith, λ g h. scan-take _ (g .links) _ _ _ _ _ _ _ _ _ (c .before .before .before .before .before .before .before .before .before .loop .inv .2 g h) (omega (arith, asked-image (c .before .before .before .before .before .before .before .before .before .before .before .before .pre .0) g h .1)) (c .before .before .before .before .before .before .before .from-of .ensures g h .0) (c .before .before .before .before .before .role-of .ensures g h .0) (c .before .before .before .before .to-of .ensures g h .0) (c .before .before .before .before .before .before .if1 .left) _ (c .before .before .taken .ensures) (c .before .if2 .left) (omega (arith, c .before .before .before .before .to-of .ensures g h .1, asked-image (c .before .before .before .before .before .before .before .before .before .before .before .before .pre .0) g h .0)))
 
--- src/lib.rt:69:1
 returns-2 : tie.Need-returns-2 Inv-loop μ-loop
 returns-2 c =
-    λ g h. scan-end _ (g .links) _ _ _ (c .before .loop .inv .2 g h) (λ j l m. absurd (omega (arith, asked-image (c .before .before .before .before .pre .0) g h .1)))
+    (λ g h. scan-end _ (g .links) _ _ _ (c .before .loop .inv .2 g h) (λ j l m. absurd (omega (arith, asked-image (c .before .before .before .before .pre .0) g h .1))), λ g h. scan-leads _ (g .links) _ _ _ (c .before .loop .inv .2 g h) (λ j l m. absurd (omega (arith, asked-image (c .before .before .before .before .pre .0) g h .1))))
 
 pub scan-spec : {M : Type 1} → statement M
 scan-spec =

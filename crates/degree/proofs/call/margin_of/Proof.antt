@@ -41,48 +41,51 @@ returns-2 c =
     let told = c .before .before .before .before .before .b .given .1 in
     margin-no-threshold image message item _ _ done _ _ _ told (omega (arith, c .before .before .before .if1 .left)) (c .before .before .before .before .before .before .before .before .before .before .before .before .before .before .args .p) (c .before .before .before .before .before .before .before .before .before .before .before .before .before .before .args .q) _ (c .before .before .allowed .ensures) (c .before .if2 .taken) (c .margin-refused2 .result) (search needs)
 
-at-item-requires : tie.Need-at-item-requires
-at-item-requires c κs =
-    let image = c .before .before .before .before .before .before .before .before .before .before .before .before .before .before .before .before .before .args .image .now in
-    let message = c .before .before .before .before .before .before .before .before .before .before .before .before .before .before .before .before .before .args .message .now in
-    let item = c .before .before .before .before .before .before .before .before .before .before .before .before .before .before .before .before .before .args .item in
-    let done = c .before .before .before .before .before .before .before .before .before .before .read-both .ensures in
-    let told = c .before .before .before .before .before .before .before .before .b .given .1 in
-    let k = case image message item _ _ done _ _ _ told (bytes-known image (c .before .before .before .before .before .before .before .before .before .before .before .before .before .before .before .before .shared-slice-known .given)) in
-    (k, omega (arith, c .before .before .before .before .before .before .if1 .left))
+slice-aggregate-shown-at : tie.Need-slice-aggregate-shown-at
+slice-aggregate-shown-at c = search needs
 
-lowest-requires : tie.Need-lowest-requires
-lowest-requires c κs =
+shown-at-requires : tie.Need-shown-at-requires
+shown-at-requires c κs =
     let image = c .before .before .before .before .before .before .before .before .before .before .before .before .before .before .before .before .before .before .args .image .now in
     let message = c .before .before .before .before .before .before .before .before .before .before .before .before .before .before .before .before .before .before .args .message .now in
     let item = c .before .before .before .before .before .before .before .before .before .before .before .before .before .before .before .before .before .before .args .item in
     let done = c .before .before .before .before .before .before .before .before .before .before .before .read-both .ensures in
     let told = c .before .before .before .before .before .before .before .before .before .b .given .1 in
     let k = case image message item _ _ done _ _ _ told (bytes-known image (c .before .before .before .before .before .before .before .before .before .before .before .before .before .before .before .before .before .shared-slice-known .given)) in
-    graded-fits (k .register) (k .tree) item _ (c .at-item .ensures k) .0
+    (k, (k .few, omega (arith, c .before .before .before .before .before .before .before .if1 .left)))
 
-against-requires : tie.Need-against-requires
-against-requires c κs =
-    let image = c .before .before .before .before .before .before .before .before .before .before .before .before .before .before .before .before .before .before .before .args .image .now in
-    let message = c .before .before .before .before .before .before .before .before .before .before .before .before .before .before .before .before .before .before .before .args .message .now in
-    let item = c .before .before .before .before .before .before .before .before .before .before .before .before .before .before .before .before .before .before .before .args .item in
-    let done = c .before .before .before .before .before .before .before .before .before .before .before .before .read-both .ensures in
-    let told = c .before .before .before .before .before .before .before .before .before .before .b .given .1 in
-    let k = case image message item _ _ done _ _ _ told (bytes-known image (c .before .before .before .before .before .before .before .before .before .before .before .before .before .before .before .before .before .before .shared-slice-known .given)) in
-    margin-small image message item _ _ done _ _ _ told _ _ _ (c .before .before .before .before .before .before .before .allowed .ensures) (c .before .before .before .before .before .before .if2 .left) _ _ (c .before .at-item .ensures k) (c .lowest .ensures)
-
-enum-known-b-2 : tie.Need-enum-known-b-2
-enum-known-b-2 c = search needs
-
-returns-3 : tie.Need-returns-3
-returns-3 c =
+lowest-requires : tie.Need-lowest-requires
+lowest-requires c κs =
     let image = c .before .before .before .before .before .before .before .before .before .before .before .before .before .before .before .before .before .before .before .before .args .image .now in
     let message = c .before .before .before .before .before .before .before .before .before .before .before .before .before .before .before .before .before .before .before .before .args .message .now in
     let item = c .before .before .before .before .before .before .before .before .before .before .before .before .before .before .before .before .before .before .before .before .args .item in
     let done = c .before .before .before .before .before .before .before .before .before .before .before .before .before .read-both .ensures in
     let told = c .before .before .before .before .before .before .before .before .before .before .before .b .given .1 in
     let k = case image message item _ _ done _ _ _ told (bytes-known image (c .before .before .before .before .before .before .before .before .before .before .before .before .before .before .before .before .before .before .before .shared-slice-known .given)) in
-    margin-answer image message item _ _ done _ _ _ told _ _ _ (c .before .before .before .before .before .before .before .before .allowed .ensures) (c .before .before .before .before .before .before .before .if2 .left) _ _ (c .before .before .at-item .ensures k) (c .before .lowest .ensures) (omega (arith, c .before .before .before .before .before .before .before .before .before .if1 .left)) _ (c .against .ensures)
+    graded-fits (k .register) (k .tree) item _ (c .before .shown-at .ensures .0 k) .0
+
+against-requires : tie.Need-against-requires
+against-requires c κs =
+    let image = c .before .before .before .before .before .before .before .before .before .before .before .before .before .before .before .before .before .before .before .before .before .args .image .now in
+    let message = c .before .before .before .before .before .before .before .before .before .before .before .before .before .before .before .before .before .before .before .before .before .args .message .now in
+    let item = c .before .before .before .before .before .before .before .before .before .before .before .before .before .before .before .before .before .before .before .before .before .args .item in
+    let done = c .before .before .before .before .before .before .before .before .before .before .before .before .before .before .read-both .ensures in
+    let told = c .before .before .before .before .before .before .before .before .before .before .before .before .b .given .1 in
+    let k = case image message item _ _ done _ _ _ told (bytes-known image (c .before .before .before .before .before .before .before .before .before .before .before .before .before .before .before .before .before .before .before .before .shared-slice-known .given)) in
+    margin-small image message item _ _ done _ _ _ told _ _ _ (c .before .before .before .before .before .before .before .before .before .allowed .ensures) (c .before .before .before .before .before .before .before .before .if2 .left) _ _ (c .before .before .shown-at .ensures .0 k) (c .lowest .ensures)
+
+enum-known-b-2 : tie.Need-enum-known-b-2
+enum-known-b-2 c = search needs
+
+returns-3 : tie.Need-returns-3
+returns-3 c =
+    let image = c .before .before .before .before .before .before .before .before .before .before .before .before .before .before .before .before .before .before .before .before .before .before .args .image .now in
+    let message = c .before .before .before .before .before .before .before .before .before .before .before .before .before .before .before .before .before .before .before .before .before .before .args .message .now in
+    let item = c .before .before .before .before .before .before .before .before .before .before .before .before .before .before .before .before .before .before .before .before .before .before .args .item in
+    let done = c .before .before .before .before .before .before .before .before .before .before .before .before .before .before .before .read-both .ensures in
+    let told = c .before .before .before .before .before .before .before .before .before .before .before .before .before .b .given .1 in
+    let k = case image message item _ _ done _ _ _ told (bytes-known image (c .before .before .before .before .before .before .before .before .before .before .before .before .before .before .before .before .before .before .before .before .before .shared-slice-known .given)) in
+    margin-answer image message item _ _ done _ _ _ told _ _ _ (c .before .before .before .before .before .before .before .before .before .before .allowed .ensures) (c .before .before .before .before .before .before .before .before .before .if2 .left) _ _ (c .before .before .before .shown-at .ensures .0 k) (c .before .lowest .ensures) (omega (arith, c .before .before .before .before .before .before .before .before .before .before .before .if1 .left)) _ (c .against .ensures)
 
 returns-4 : tie.Need-returns-4
 returns-4 c =
@@ -104,7 +107,8 @@ margin-of-spec =
     allowed-requires
     margin-refused-requires-2
     returns-2
-    at-item-requires
+    slice-aggregate-shown-at
+    shown-at-requires
     lowest-requires
     against-requires
     enum-known-b-2

@@ -1,7 +1,7 @@
--- `member::with_bit` meets its contract. Assumes nothing.
+-- `fields::bits::with_bit` meets its contract. Assumes nothing.
 use borrow.Author.Needs.{needs}
-use Rattle.member.proofs.with_bit.Statement.{statement}
-use Rattle.member.proofs.with_bit.Tie as tie
+use Rattle.fields.proofs.bits.with_bit.Statement.{statement}
+use Rattle.fields.proofs.bits.with_bit.Tie as tie
 use Prim.Native.Nat.{_≤_, _+_, _-_}
 use native.Mathlib.Omega.{arith}
 use Rattle.meaning.proofs.NamesChanged.{off-le, name-off, name-on, on-fits}
