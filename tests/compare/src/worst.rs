@@ -97,6 +97,27 @@ pub fn broom() -> Node {
     (0..MOST_DEPTH - 2).fold(node(0, last), |below, _| node(0, vec![(0, below)]))
 }
 
+/// 61 nodes, all of them kept, without names: below the root the nodes are
+/// shared out evenly between two children, again and again.
+pub fn halves() -> Node {
+    node(0, vec![(0, halved(60))])
+}
+
+/// A chain, and at its end 31 nodes that are shared out evenly, the last of
+/// them at the greatest depth: the most ancestors of which a child is worked
+/// out beside another.
+pub fn late_halves() -> Node {
+    (0..MOST_DEPTH - 4).fold(halved(31), |below, _| node(0, vec![(0, below)]))
+}
+
+/// So many nodes, shared out evenly between two children, and so on below.
+fn halved(nodes: usize) -> Node {
+    let second = (nodes - 1) / 2;
+    let shares = [(0, nodes - 1 - second), (1, second)];
+    let children = shares.into_iter().filter(|(_, share)| *share > 0);
+    node(0, children.map(|(role, share)| (role, halved(share))).collect())
+}
+
 /// 64 written nodes, of which the deepest is read last: on the way down to it
 /// leaves stand before each child that goes on.
 pub fn late() -> Node {

@@ -6,8 +6,8 @@ use std::process::ExitCode;
 use compare::library;
 use compare::painted::Stack;
 use compare::worst::{
-    all_linked, broom, bushy, chain, chain_to, comb, fans, late, late_to, sixteen_on_the_last,
-    sixteen_thresholds, triplets, wide,
+    all_linked, broom, bushy, chain, chain_to, comb, fans, halves, late, late_halves, late_to,
+    sixteen_on_the_last, sixteen_thresholds, triplets, wide,
 };
 use second::gen::{any_pair_bytes, Rng};
 use second::register;
@@ -33,6 +33,8 @@ fn inputs() -> Vec<Input> {
         triplets(),
         broom(),
         late(),
+        halves(),
+        late_halves(),
     ];
     let mut roots: Vec<Node> = trees.to_vec();
     for outer in &trees {
