@@ -1,16 +1,16 @@
 -- All kept children of a node but the one at a row: what they count, their scale, their part of the sum. With the one they make up all.
 -- Assumes nothing.
-use mathlib.Core.Path.{_≡_, refl, sym, ap, ap₂, subst, _∙_}
+use mathlib.Core.Path.{_≡_, refl, sym, ap, subst, _∙_}
 use mathlib.Core.Bool.{Bool, true, false, _||_, cond}
 use mathlib.Core.Logic.{_⊎_, inl, inr}
 use mathlib.Core.List.{List}
-use Prim.Native.Nat.{ℕ, zero, suc, _+_, _-_, _*_, _≤_, _<_, max}
-use native.Mathlib.Nat.{mul-le-mul-left, mul-le-mul-right}
+use Prim.Native.Nat.{ℕ, _+_, _-_, _*_, _≤_, _<_}
+use native.Mathlib.Nat.{mul-le-mul-left}
 use native.Mathlib.Omega.{arith}
 use lib.Dec.{eqb}
 use lib.ListN.{getD}
 use borrow.Author.Tests.{eq-eqb, ne-eqb}
-use Rattle.meaning.specs.Tree.{node, Forest, none, more, Concept, under}
+use Rattle.meaning.specs.Tree.{Forest, none, more, Concept, under}
 use Rattle.meaning.specs.Graph.{Graph}
 use Rattle.meaning.specs.Reduce.{dropped, reduce}
 use Rattle.meaning.specs.Degree.{best}

@@ -4,16 +4,15 @@ use mathlib.Core.Path.{_≡_, sym, ap₂, _∙_}
 use mathlib.Core.List.{List}
 use Prim.Native.Nat.{ℕ, _≤_, _<_}
 use native.Mathlib.Nat.{le-trans, le-of-eq}
-use native.Mathlib.Omega.{arith}
 use lib.ListN.{length, getD}
 use Rattle.meaning.specs.Bytes.{Bytes}
 use Rattle.meaning.specs.Refusal.{good}
 use Rattle.meaning.specs.Tree.{Concept}
 use Rattle.meaning.specs.Register.{Register, readBuffer, judged}
-use Rattle.meaning.specs.Fraction.{Frac, _//_, lowest}
+use Rattle.meaning.specs.Fraction.{_//_, lowest}
 use Rattle.meaning.specs.Reduce.{reduce, mostSize}
 use Rattle.meaning.specs.Degree.{answered}
-use Rattle.meaning.specs.InPlace.{sizeIn, scaleIn, degreeIn}
+use Rattle.meaning.specs.InPlace.{sizeIn, scaleIn}
 use Rattle.meaning.specs.Rows.{Holds, Marked}
 use Rattle.meaning.proofs.Image.{image-fits}
 use Rattle.meaning.proofs.Bound.{scale-bound}

@@ -2,7 +2,7 @@
 -- have been folded in before the others; where none was, h is no child's row.
 -- Assumes nothing.
 use mathlib.Core.Path.{_≡_, refl, sym, ap, subst, _∙_}
-use mathlib.Core.Bool.{Bool, true, false, _||_, cond}
+use mathlib.Core.Bool.{Bool, true, false, _||_}
 use mathlib.Core.List.{List}
 use Prim.Native.Nat.{ℕ, zero, suc, _+_, _-_, _*_, _≤_, _<_, max}
 use native.Mathlib.Nat.{le-trans, mul-le-mul-left, mul-le-mul-right, zero-lt-suc}
@@ -19,7 +19,7 @@ use Rattle.meaning.specs.Degree.{orOne, best}
 use Rattle.meaning.specs.InPlace.{countIn, scaleIn, scaleInF, degreeIn, degreeInF}
 use Rattle.meaning.specs.Rows.{Holds, HoldsF, mark, Marked, MarkedF}
 use Rattle.meaning.proofs.Names.{common-le}
-use Rattle.meaning.proofs.Scale.{scale-pos, scaleF-pos, bare-scale, degree-le, degreeF-le}
+use Rattle.meaning.proofs.Scale.{scaleF-pos, bare-scale, degree-le, degreeF-le}
 use Rattle.meaning.proofs.InPlace.{count-in, scale-in, scaleF-in, degree-in, degreeF-in}
 use Rattle.meaning.proofs.Rows.{first, ran-out}
 use Rattle.degree.specs.Heavy.{Stands}

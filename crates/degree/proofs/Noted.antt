@@ -16,7 +16,7 @@ use Rattle.meaning.specs.InPlace.{degreeIn}
 use Rattle.meaning.specs.Shown.{pick}
 use Rattle.meaning.specs.Rows.{Holds, HoldsF}
 use Rattle.meaning.proofs.Rows.{opened, holds-one}
-use Rattle.degree.specs.Notes.{flag, Note, Row, Noted, NotedF, Clear, Outside}
+use Rattle.degree.specs.Notes.{flag, Row, Noted, NotedF, Outside}
 use Rattle.degree.specs.Heavy.{Stands}
 use Rattle.degree.proofs.Stands.{Place, stands-place, stands-apart, stands-first, stands-next}
 

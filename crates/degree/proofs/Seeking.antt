@@ -9,7 +9,7 @@ use native.Mathlib.Omega.{arith}
 use lib.Dec.{eqb, ltb}
 use lib.ListN.{getD}
 use borrow.Author.Tests.{eqb-true, lt-ltb, ltb-true, ltb-false}
-use Rattle.meaning.specs.Tree.{Forest, Concept, children}
+use Rattle.meaning.specs.Tree.{Concept, children}
 use Rattle.meaning.specs.Rows.{HoldsF}
 use Rattle.meaning.proofs.Tests.{true-false}
 use Rattle.meaning.proofs.Rows.{opened}

@@ -1,6 +1,6 @@
 -- A node's children by their rows: they stand one behind the other, and each holds its own tree.
 -- Assumes nothing.
-use mathlib.Core.Path.{_≡_, refl, sym, ap, subst, _∙_}
+use mathlib.Core.Path.{_≡_, refl, sym, subst}
 use mathlib.Core.Logic.{_⊎_, inl, inr}
 use mathlib.Core.List.{List}
 use Prim.Native.Nat.{ℕ, _+_, _-_, _≤_, _<_}
@@ -8,7 +8,7 @@ use native.Mathlib.Omega.{arith}
 use lib.ListN.{getD}
 use Rattle.meaning.specs.Tree.{node, Forest, none, more, Concept, children}
 use Rattle.meaning.specs.Rows.{Holds, HoldsF}
-use Rattle.meaning.proofs.Rows.{opened, holdsF-le}
+use Rattle.meaning.proofs.Rows.{opened}
 use Rattle.degree.specs.Heavy.{Stands}
 
 module _ (names roles ends : List ℕ) where

@@ -2,7 +2,7 @@
 -- Assumes nothing.
 use mathlib.Core.Path.{_≡_, refl, sym, ap, subst, _∙_, fun-ext}
 use mathlib.Core.Bool.{true, false}
-use mathlib.Core.List.{List, [], _∷_, _++_, map, map-append}
+use mathlib.Core.List.{List, _∷_, _++_, map, map-append}
 use mathlib.Core.Option.{Option, some}
 use mathlib.Core.Option.{none as nowhere}
 use Prim.Native.Nat.{ℕ, zero, suc, _+_, _-_, _*_, _≤_, _<_}
@@ -14,7 +14,7 @@ use lib.ListN.{length, getD, set, replicate, length-map, length-replicate}
 use lib.Dec.{lit≤}
 use lib.Seq.{sets}
 use Rattle.meaning.specs.Bytes.{Bytes}
-use Rattle.meaning.specs.Tree.{node, Forest, none, more, Concept, children, under, nodes, nodesF}
+use Rattle.meaning.specs.Tree.{node, Forest, none, more, Concept, children, under, nodes}
 use Rattle.meaning.specs.Graph.{Graph}
 use Rattle.meaning.specs.Refusal.{good}
 use Rattle.meaning.specs.Register.{Register, targets, judged, readBuffer}

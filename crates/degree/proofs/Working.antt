@@ -1,10 +1,10 @@
 -- Working out a node from its children: the numbers and the notes together, as the heaviest child and then the others are folded in.
 -- Assumes nothing.
-use mathlib.Core.Path.{_≡_, refl, sym, ap, ap₂, subst, _∙_}
+use mathlib.Core.Path.{_≡_, refl, sym, ap, subst, _∙_}
 use mathlib.Core.Bool.{Bool, true, false, _||_}
 use mathlib.Core.Logic.{_⊎_, inl, inr}
 use mathlib.Core.List.{List}
-use Prim.Native.Nat.{ℕ, zero, suc, _+_, _-_, _*_, _≤_, _<_, max}
+use Prim.Native.Nat.{ℕ, _+_, _-_, _*_, _≤_, _<_, max}
 use native.Mathlib.Nat.{le-trans}
 use native.Mathlib.Omega.{arith}
 use lib.Dec.{eqb}
@@ -15,22 +15,21 @@ use Rattle.meaning.specs.Names.{common}
 use Rattle.meaning.specs.Names.{names as many}
 use Rattle.meaning.specs.Tree.{Forest, none, more, Concept, children, under}
 use Rattle.meaning.specs.Tree.{node as rooted}
-use Rattle.meaning.specs.Graph.{Graph}
 use Rattle.meaning.specs.Register.{targets, judged}
 use Rattle.meaning.specs.Reduce.{dropped}
 use Rattle.meaning.specs.Degree.{orOne, best}
 use Rattle.meaning.specs.InPlace.{countIn, scaleIn, scaleInF, degreeIn, degreeInF}
 use Rattle.meaning.specs.Rows.{Holds, HoldsF, Marked, MarkedF}
 use Rattle.meaning.proofs.Tests.{true-false}
-use Rattle.degree.specs.Case.{Case, mostScale}
+use Rattle.degree.specs.Case.{Case}
 use Rattle.degree.specs.Given.{Worked}
 use Rattle.degree.specs.Notes.{flag, Row, Noted, Clear, Outside}
 use Rattle.degree.specs.Heavy.{Stands, Written, Heavy, Headed}
-use Rattle.degree.proofs.Stands.{Place, stands-place, below}
+use Rattle.degree.proofs.Stands.{below}
 use Rattle.degree.proofs.But.{mark-zero}
 use Rattle.degree.proofs.Fold.{Rest, Head, head, given, rest-at, rest-skip, rest-pass, rest-next, whole-fits, whole-other}
-use Rattle.degree.proofs.Cases.{case-best, case-pick, other-child, other-case, count-fits, product-fits, child-fits, child-next}
-use Rattle.degree.proofs.Noted.{row-by, outside-then, noted-same, One, Entered, entered-start, entered-pass, entered-clear, entered-next, entered-end, noted-node}
+use Rattle.degree.proofs.Cases.{case-best, case-pick, other-case, count-fits, product-fits, child-fits, child-next}
+use Rattle.degree.proofs.Noted.{row-by, outside-then, noted-same, Entered, entered-start, entered-pass, entered-clear, entered-next, entered-end, noted-node}
 
 module _ {s : List ℕ} {items links : ℕ} {names roles ends marks : List ℕ} {node left : ℕ} (k : Case s items links names roles ends marks node left) where
   abbrev pub written : Written ends node

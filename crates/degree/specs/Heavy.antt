@@ -1,13 +1,13 @@
 -- A node's children by their rows, and the one that is folded in before the others.
 -- Assumes nothing.
 use mathlib.Core.Path.{_≡_}
-use mathlib.Core.Bool.{Bool, false}
+use mathlib.Core.Bool.{false}
 use mathlib.Core.Logic.{_⊎_}
 use mathlib.Core.List.{List}
 use Prim.Native.Nat.{ℕ, _+_, _*_, _≤_, _<_}
 use lib.ListN.{getD}
 use Rattle.meaning.specs.Names.{common}
-use Rattle.meaning.specs.Tree.{Tree, node, Forest, none, more, Concept, children}
+use Rattle.meaning.specs.Tree.{node, Forest, none, more, Concept, children}
 use Rattle.meaning.specs.Register.{targets, judged}
 use Rattle.meaning.specs.Degree.{best}
 use Rattle.meaning.specs.InPlace.{scaleIn, degreeIn}

@@ -11,7 +11,7 @@ use Prim.Native.Nat.{ℕ, _+_, _≤_, _<_}
 use lib.Dec.{eqb}
 use lib.ListN.{length, getD}
 use Rattle.meaning.specs.Names.{has}
-use Rattle.meaning.specs.Tree.{Tree, node, Forest, none, more, Concept}
+use Rattle.meaning.specs.Tree.{node, Forest, none, more, Concept}
 use Rattle.meaning.specs.Register.{Link, Register, targets, judged}
 use Rattle.meaning.specs.InPlace.{degreeIn}
 use Rattle.meaning.specs.Shown.{pick}

@@ -11,7 +11,7 @@ ghost use lib.ListN.{length, getD, set, replicate};
 ghost use lib.Seq.{sets};
 ghost use Rattle.meaning.specs.Names.{common};
 ghost use Rattle.meaning.specs.Names.{names as many};
-ghost use Rattle.meaning.specs.Register.{targets, judged};
+ghost use Rattle.meaning.specs.Register.{targets};
 ghost use Rattle.meaning.specs.Session.{withName};
 ghost use Rattle.meaning.specs.Shown.{pick};
 ghost use Rattle.meaning.specs.Degree.{orOne, best};

@@ -1,10 +1,10 @@
 -- Number 3's test in a session and of a whole input, as the code comes to it.
 -- Assumes nothing.
-use mathlib.Core.Path.{_≡_, refl, sym}
-use mathlib.Core.Bool.{Bool, true, false, not}
+use mathlib.Core.Path.{_≡_}
+use mathlib.Core.Bool.{Bool, true, false}
 use Prim.Native.Nat.{ℕ, _≤_, _<_}
 use native.Mathlib.Omega.{arith}
-use lib.Dec.{T, eqb, eqb→eq, eqb-refl}
+use lib.Dec.{eqb, eqb→eq, eqb-refl}
 use Rattle.meaning.proofs.Tests.{is-not}
 use Rattle.meaning.proofs.Reading.{below, not-below, not-not}
 use Rattle.fields.specs.Head.{wrongIn}

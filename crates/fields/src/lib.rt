@@ -2,7 +2,7 @@
 pub mod bits; // bits.rt: sets of up to 64 things as numbers
 
 ghost use mathlib.Core.Path.{_≡_};
-ghost use Prim.Native.Nat.{_+_, _≤_, _<_, _^_};
+ghost use Prim.Native.Nat.{_+_, _≤_, _<_};
 ghost use lib.ListN.{length};
 ghost use Rattle.meaning.specs.declared.Side.{Side};
 ghost use Rattle.meaning.specs.Bytes.{number, readHead};

@@ -1,6 +1,6 @@
 -- The history that the program is handed, as calls: four bytes for each call, its kind as a letter, then a, b and c.
 -- Assumes nothing.
-use mathlib.Core.Bool.{Bool, true, false, cond}
+use mathlib.Core.Bool.{true, false, cond}
 use mathlib.Core.List.{List, [], _∷_}
 use Prim.Native.Nat.{ℕ}
 use lib.Dec.{eqb}

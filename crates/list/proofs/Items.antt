@@ -1,14 +1,13 @@
 -- From a call's promise to an item's line: the places that it wrote are its map; lines one after the other; the pieces of the listing.
 -- Assumes nothing.
-use mathlib.Core.Path.{_≡_, refl, sym, ap, ap₂, subst, _∙_}
-use mathlib.Core.Bool.{Bool, true, false, cond}
+use mathlib.Core.Path.{_≡_, refl, sym, ap, ap₂, _∙_}
+use mathlib.Core.Bool.{Bool, true, false}
 use mathlib.Core.List.{List, [], _∷_, _++_}
 use mathlib.Core.Option.{some}
 use Prim.Native.Nat.{ℕ, suc, _+_, _-_, min, _≤_, _<_}
 use native.Mathlib.Numerals.{add-one}
-use native.Mathlib.Nat.{min-eq-left, min-eq-right}
 use native.Mathlib.Omega.{arith}
-use lib.Dec.{T, ltb, leb}
+use lib.Dec.{T}
 use lib.ListN.{length, take, drop, replicate, length-map, length-drop}
 use lib.Seq.{sets, sets-eq, take-at, take-all, length-sets}
 use borrow.Author.Tests.{lt-ltb, le-ltb}

@@ -1,22 +1,19 @@
 -- The pieces of a line: a side's word, a place of a map, the places one after the other.
 -- Assumes nothing.
-use mathlib.Core.Path.{_≡_, refl, sym, ap, subst, _∙_}
-use mathlib.Core.Bool.{Bool, true, false, cond}
+use mathlib.Core.Path.{_≡_, refl, sym, ap, _∙_}
 use mathlib.Core.List.{List, [], _∷_, _++_, append-assoc, append-nil}
 use Prim.Native.Nat.{ℕ, suc, _+_, _-_, _≤_, _<_}
 use native.Mathlib.Numerals.{add-one}
 use native.Mathlib.Omega.{arith}
-use lib.Dec.{eqb, eqb-refl}
 use lib.ListN.{length, getD, take, drop, length-drop}
 use lib.Seq.{take-suc, take-all, length-take-le}
 use borrow.Author.Tests.{ne-eqb}
 use Rattle.meaning.specs.declared.Side.{Side}
 use Rattle.meaning.specs.declared.Side.the-variants.{Register, Requirement, Call}
-use Rattle.list.specs.Text.{Wrote, decimal}
+use Rattle.list.specs.Text.{decimal}
 use Rattle.meaning.specs.declared.Refusal.{Refusal}
 use Rattle.meaning.specs.Fraction.{Frac}
 use Rattle.list.specs.Listing.{sideWord, refusedWord, atWord, yesWord, noWord, refusalLine, place, places, shownMap, degreeLine, yesLine, noLine}
-use Rattle.list.proofs.Writing.{as-text, wrote-more, decimal-short}
 
 -- ---- a place
 

@@ -11,7 +11,6 @@ use lib.Dec.{ltb}
 use lib.ListN.{length, getD, take, set, length-append}
 use lib.Seq.{sets, length-sets, take-suc, take-all}
 use borrow.Author.Tests.{lt-ltb, le-ltb}
-use Rattle.meaning.proofs.Tests.{is-true}
 use Rattle.meaning.proofs.Stores.{sets-append}
 use Rattle.list.specs.Text.{Wrote, digits, decimal}
 

@@ -3,34 +3,32 @@
 -- what it was (`undo-accepted`, `taken-back`), also where the edit changed nothing. Undo that always reverses the edit is wrong (`undo-slip`).
 -- An edit or undo that has something to change changes the image (`edit-moves`, `undo-moves`).
 -- Assumes nothing.
-use mathlib.Core.Path.{_≡_, refl, sym, ap, ap₂, _∙_, subst}
+use mathlib.Core.Path.{_≡_, refl, sym, ap, _∙_, subst}
 use mathlib.Core.Bool.{Bool, true, false, _&&_, _||_, not, cond}
 use mathlib.Core.List.{List, [], _∷_, _++_}
-use Prim.Native.Nat.{ℕ, zero, suc, _+_, _-_, _≤_, _<_}
+use Prim.Native.Nat.{ℕ, _+_, _-_, _≤_}
 use native.Mathlib.Omega.{arith}
 use lib.Dec.{T, ltb, leb, eqb, eqb→eq}
-use lib.ListN.{length, getD, take}
-use lib.Seq.{take-at}
+use lib.ListN.{length}
 use Rattle.meaning.specs.declared.Fact.{Fact}
 use Rattle.meaning.specs.declared.Fact.the-variants.{Name as nameOn, Link as linkOf}
 use Rattle.meaning.specs.declared.Step.{Step}
-use Rattle.meaning.specs.Refusal.{Answer, good, refused, onCall, refuseIf, _>>=_, _>>_}
-use Rattle.meaning.specs.Bytes.{Bytes, number, headed}
-use Rattle.meaning.specs.Tree.{Concept, nodes}
+use Rattle.meaning.specs.Refusal.{Answer, good, _>>=_, _>>_}
+use Rattle.meaning.specs.Bytes.{Bytes}
+use Rattle.meaning.specs.Tree.{nodes}
 use Rattle.meaning.specs.Register.{Register, isFact, anyLink, mostLinks, wellFormed, encode, readRegister, readBuffer}
-use Rattle.meaning.specs.Requirement.{Requirement}
-use Rattle.meaning.specs.Message.{Part, readRequirement, lawful}
+use Rattle.meaning.specs.Message.{readRequirement, lawful}
 use Rattle.meaning.specs.Calls.{readPlain, degreeCall, marginCall, memberCall}
-use Rattle.meaning.specs.Session.{Facts, link, sameFact, Edit, edited, insert, without, setFact, cleared, imageOf, room, outOfRange, roleAbove, noPlace, Changed, openCall, undoCall}
-use Rattle.meaning.specs.Session.{noSteps, counted, bufferOpened, Session, Call, opens, edits, undoes, keeps, lastStep}
+use Rattle.meaning.specs.Session.{Facts, link, Edit, edited, insert, without, setFact, cleared, imageOf, room, outOfRange, roleAbove, noPlace, Changed, openCall, undoCall}
+use Rattle.meaning.specs.Session.{noSteps, counted, bufferOpened, Session, Call, opens, edits, undoes, lastStep}
 use Rattle.meaning.specs.Session.{answer, buffer, log, countAfter, next, play, keptIf, accepted, Standing, nothing, told, standing, applied, standingFacts, historyFacts}
-use Rattle.meaning.specs.Demand3.{RegisterOf, Shows}
-use Rattle.meaning.proofs.Tests.{true-false, is-true, is-false, neither}
-use Rattle.meaning.proofs.Reading.{good-inj, not-good, pass, took, not-below, not-le}
+use Rattle.meaning.specs.Demand3.{Shows}
+use Rattle.meaning.proofs.Tests.{is-true, is-false, neither}
+use Rattle.meaning.proofs.Reading.{pass, took, not-below, not-le}
 use Rattle.meaning.proofs.Image.{image-length, image-read, one-register, read-buffer, fits}
 use Rattle.meaning.proofs.SessionFacts.{fact-same, same-rising, same-register, Sounds, set-items, set-facts, set-rises, set-grows, set-same, Grows}
-use Rattle.meaning.proofs.SessionCalls.{alone, alone-length, alone-read, alone-image}
-use Rattle.meaning.proofs.History.{edit-undone, edited-agree, Has, Logged, Held, Stepped, read-here, last-step, step, held-play}
+use Rattle.meaning.proofs.SessionCalls.{alone, alone-length, alone-image}
+use Rattle.meaning.proofs.History.{edit-undone, edited-agree, Logged, Held, Stepped, read-here, last-step, step, held-play}
 
 -- ---- a session in which all that holds
 

@@ -1,7 +1,7 @@
 -- Euclid's remainders, turn by turn, as code takes them.
 -- Assumes nothing.
-use mathlib.Core.Path.{_≡_, refl, sym, _∙_}
-use Prim.Native.Nat.{ℕ, zero, suc, _%_, _≤_, _<_}
+use mathlib.Core.Path.{_≡_, refl}
+use Prim.Native.Nat.{ℕ, zero, suc, _%_, _<_}
 use native.Mathlib.Nat.{mod-lt, zero-lt-suc, le-refl, not-suc-le-zero}
 use native.Mathlib.Omega.{arith}
 use Rattle.meaning.specs.Fraction.{gcdIn, gcd}

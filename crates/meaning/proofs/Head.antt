@@ -1,17 +1,17 @@
 -- The 3-byte head: read from what stands under it, and what a head that was read says.
 -- Assumes nothing.
-use mathlib.Core.Path.{_≡_, refl, sym, ap, _∙_, subst}
+use mathlib.Core.Path.{_≡_, sym, ap, _∙_, subst}
 use mathlib.Core.Bool.{Bool, true, false, not}
-use mathlib.Core.List.{List, [], _∷_, _++_}
-use Prim.Native.Nat.{ℕ, zero, suc, _+_, _*_, _-_, _≤_, _<_}
+use mathlib.Core.List.{List, [], _∷_}
+use Prim.Native.Nat.{ℕ, _+_, _-_, _≤_, _<_}
 use native.Mathlib.Omega.{arith}
-use lib.Dec.{T, ltb, eqb, eqb→eq, eqb-refl}
+use lib.Dec.{ltb, eqb, eqb→eq}
 use lib.ListN.{length, getD, length-append}
 use Rattle.meaning.specs.declared.Side.{Side}
-use Rattle.meaning.specs.Refusal.{Answer, good, refused, at, refuseIf, _>>=_, _>>_}
-use Rattle.meaning.specs.Bytes.{number, bytes, Bytes, readHead, unequal, moreThan, headed}
+use Rattle.meaning.specs.Refusal.{good, refused, at, refuseIf, _>>=_, _>>_}
+use Rattle.meaning.specs.Bytes.{number, bytes, Bytes, readHead, unequal, headed}
 use Rattle.meaning.proofs.Tests.{is-not, of-not}
-use Rattle.meaning.proofs.Reading.{good-inj, pass, passed, stop, below, number-one, not-below, le-of-not-below, not-not, not-unequal, eq-of-unequal, Stands, stands-self, stands-whole, number-stands, stands-left, stands-right, stands-both, bytes-length, number-of, bytes-of}
+use Rattle.meaning.proofs.Reading.{good-inj, pass, passed, stop, below, number-one, not-below, le-of-not-below, not-not, not-unequal, eq-of-unequal, Stands, stands-self, stands-whole, number-stands, stands-left, stands-right, stands-both, bytes-length, number-of}
 
 -- the version byte and the length's two, and the body behind them
 pub headed-length : (body : List ℕ) → length (headed body) ≡ 3 + length body

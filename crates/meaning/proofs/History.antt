@@ -2,33 +2,23 @@
 -- The log is what makes an undo set back what was: each record in use holds its edit's fact and whether the edits before it gave that fact.
 -- Assumes nothing.
 use mathlib.Core.Path.{_≡_, refl, sym, ap, ap₂, _∙_, subst}
-use mathlib.Core.Bool.{Bool, true, false, _&&_, _||_, not, cond}
+use mathlib.Core.Bool.{Bool, true, false, cond}
 use mathlib.Core.List.{List, [], _∷_, _++_}
-use mathlib.Core.Option.{none as nowhere}
-use Prim.Native.Nat.{ℕ, zero, suc, _+_, _-_, _≤_, _<_}
+use Prim.Native.Nat.{ℕ, suc, _+_, _-_, _≤_, _<_}
 use native.Mathlib.Omega.{arith}
-use lib.Dec.{T, ltb, leb, eqb}
-use lib.ListN.{length, getD, set, take, length-set}
-use lib.Seq.{getD-set-same, getD-set-other, take-at}
+use lib.ListN.{length, getD, set, length-set}
+use lib.Seq.{getD-set-same, getD-set-other}
 use Rattle.meaning.specs.declared.Fact.{Fact}
-use Rattle.meaning.specs.declared.Fact.the-variants.{Name as nameOn, Link as linkOf}
 use Rattle.meaning.specs.declared.Step.{Step}
-use Rattle.meaning.specs.Refusal.{Answer, good, refused, onCall, refuseIf, _>>=_, _>>_}
-use Rattle.meaning.specs.Bytes.{Bytes, number}
-use Rattle.meaning.specs.Tree.{Concept, nodes}
-use Rattle.meaning.specs.Register.{Register, isFact, mostLinks, wellFormed, linksOf, encode, readRegister, readBuffer}
-use Rattle.meaning.specs.Requirement.{Requirement}
-use Rattle.meaning.specs.Message.{Part, readRequirement}
-use Rattle.meaning.specs.Calls.{readPlain, degreeCall, memberCall}
-use Rattle.meaning.specs.Session.{Facts, sameFact, Edit, edited, setFact, cleared, rewritten, imageOf, room, outOfRange, roleAbove, noPlace, Changed, openCall, editCall, undoCall, keepCall}
+use Rattle.meaning.specs.Refusal.{Answer, good, refused, _>>=_, _>>_}
+use Rattle.meaning.specs.Register.{Register, isFact, encode, readBuffer}
+use Rattle.meaning.specs.Session.{Facts, sameFact, Edit, edited, setFact, cleared, rewritten, room, noPlace, Changed, openCall, editCall, undoCall, keepCall}
 use Rattle.meaning.specs.Session.{noSteps, counted, bufferOpened, bufferAfter, stepOf, logAfter, Session, Call, opens, edits, undoes, keeps, noStep, lastStep}
-use Rattle.meaning.specs.Session.{answer, buffer, log, countAfter, next, play, keptIf, accepted, Standing, nothing, told, standing, applied, standingFacts, historyFacts}
-use Rattle.meaning.specs.Demand3.{RegisterOf, Shows}
-use Rattle.meaning.proofs.Tests.{true-false, is-false, neither}
-use Rattle.meaning.proofs.Reading.{good-inj, not-good, pass, stop, took, stopped, not-below, not-le}
-use Rattle.meaning.proofs.Image.{image-length, image-read, read-buffer, fits}
-use Rattle.meaning.proofs.SessionFacts.{same-fact, fact-same, same-rising, same-register, Sounds, sounds, set-items, set-facts, Placed, placed, set-well, set-rises, set-grows, Grows}
-use Rattle.meaning.proofs.SessionCalls.{differs, EditPassed, edit-passed, UndoPassed, undo-passed, open-passed, alone, alone-length, alone-read, alone-cleared, alone-rewritten}
+use Rattle.meaning.specs.Session.{answer, buffer, log, countAfter, next, play, keptIf, accepted, Standing, told, standing, applied, standingFacts}
+use Rattle.meaning.specs.Demand3.{RegisterOf}
+use Rattle.meaning.proofs.Reading.{good-inj}
+use Rattle.meaning.proofs.SessionFacts.{same-fact, Sounds, sounds, set-items, set-facts, placed, set-well}
+use Rattle.meaning.proofs.SessionCalls.{edit-passed, UndoPassed, undo-passed, open-passed, alone, alone-length, alone-read, alone-cleared, alone-rewritten}
 
 -- ---- an edit and its undo, on facts
 

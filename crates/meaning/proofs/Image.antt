@@ -1,19 +1,19 @@
 -- Register images: every well-formed register is read back from its image, and whatever is read is a well-formed register whose image stands there.
 -- So one register has one image. Both hold for a whole input and for the front of a session's buffer.
 -- Assumes nothing.
-use mathlib.Core.Path.{_≡_, refl, sym, ap, ap₂, _∙_, subst}
-use mathlib.Core.Bool.{Bool, true, false, _&&_, _||_, not}
+use mathlib.Core.Path.{_≡_, refl, sym, ap, _∙_, subst}
+use mathlib.Core.Bool.{Bool, false, _&&_, _||_, not}
 use mathlib.Core.List.{List, [], _∷_, _++_}
 use mathlib.Core.Option.{Option, some}
 use mathlib.Core.Option.{none as nowhere}
-use Prim.Native.Nat.{ℕ, zero, suc, _+_, _*_, _-_, _^_, _≤_, _<_}
-use native.Mathlib.Nat.{add-zero, le-refl, le-trans, le-of-eq}
+use Prim.Native.Nat.{ℕ, zero, suc, _+_, _*_, _-_, _≤_, _<_}
+use native.Mathlib.Nat.{le-refl, le-of-eq}
 use native.Mathlib.Omega.{arith}
-use lib.Dec.{T, ltb, leb, eqb, ltb→lt, leb→le, lt→ltb, le→leb, eqb-refl, eqb→eq, lit≤}
+use lib.Dec.{T, ltb, leb, ltb→lt, leb→le, lt→ltb, le→leb}
 use lib.ListN.{length, getD, length-append}
 use Rattle.meaning.specs.declared.Side.the-variants.{Register as register}
-use Rattle.meaning.specs.Refusal.{Answer, good, refused, at, refuseIf, _>>=_, _>>_}
-use Rattle.meaning.specs.Bytes.{number, bytes, Bytes, fields, readHead, unequal, moreThan, headed}
+use Rattle.meaning.specs.Refusal.{good, _>>=_, _>>_}
+use Rattle.meaning.specs.Bytes.{number, bytes, Bytes, readHead, unequal, moreThan}
 use Rattle.meaning.specs.Names.{isSet}
 use Rattle.meaning.specs.Register.{Link, Register, above, allSets, linksOf, mostItems, mostLinks, wellFormed, linkBytes, itemsBytes, linksBytes, encode, linkAt, readItems, readLink, readLinks, readBody, readRegisterBy, readRegister, readBuffer}
 use Rattle.meaning.proofs.Tests.{of-not, and-both, both-and, neither, neither-of}

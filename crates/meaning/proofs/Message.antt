@@ -5,17 +5,17 @@ use mathlib.Core.Path.{_≡_, refl, sym, ap, ap₂, _∙_, subst}
 use mathlib.Core.List.{List, [], _∷_, _++_, map, append-assoc, Forall₂, Forall₂·nil, Forall₂·cons, List·Memᴰ}
 use Prim.Native.Nat.{ℕ, zero, suc, _+_, _*_, _≤_, _<_}
 use native.Mathlib.Omega.{arith}
-use lib.Dec.{T, ltb, leb, leb→le, le→leb}
+use lib.Dec.{T, leb, leb→le, le→leb}
 use lib.ListN.{length, getD, take, drop, length-append}
 use Rattle.meaning.specs.declared.Side.the-variants.{Requirement as requirement}
 use Rattle.meaning.specs.declared.Refusal.{Refusal}
-use Rattle.meaning.specs.Refusal.{Answer, good, refused, at, refuseIf, _>>=_, _>>_}
-use Rattle.meaning.specs.Bytes.{Bytes, readHead, unequal}
+use Rattle.meaning.specs.Refusal.{good, refused, _>>=_, _>>_}
+use Rattle.meaning.specs.Bytes.{Bytes}
 use Rattle.meaning.specs.Names.{isSet}
 use Rattle.meaning.specs.Tree.{node, Forest, none, more, nodes, levels, written, writtenF}
 use Rattle.meaning.specs.Requirement.{Threshold, Label, Requirement, every}
 use Rattle.meaning.specs.Message.{mostLevels, mostNodes, mostThresholds, lawful, bounded, soundInner, soundThreshold, soundLabel, joined}
-use Rattle.meaning.specs.Message.{thresholdsOf, sound, conceptBytes, thresholdsBytes, requirementBytes, encode, Part, Spot, entered, readNode}
+use Rattle.meaning.specs.Message.{thresholdsOf, sound, conceptBytes, thresholdsBytes, requirementBytes, encode, Part, Spot, entered}
 use Rattle.meaning.specs.Message.{withThresholds, readRequirement, partBytes, kth, partOf, innerPart}
 use Rattle.meaning.specs.Message.{passed as onward}
 use Rattle.meaning.proofs.Tests.{and-both, both-and, pairs-append, pair-of}

@@ -1,7 +1,7 @@
 -- The labels of a message: the sets of names in an inner concept, and the names and thresholds in a requirement.
 -- Both are kinds of label for MessageTree.antt: reading gives a label exactly when its bytes stand there.
 -- Assumes nothing.
-use mathlib.Core.Path.{_≡_, refl, sym, ap, ap₂, _∙_, subst}
+use mathlib.Core.Path.{_≡_, refl, sym, ap, _∙_, subst}
 use mathlib.Core.Bool.{Bool, _&&_, not}
 use mathlib.Core.List.{List, [], _∷_, _++_, append-assoc, append-nil, Forall₂, Forall₂·nil, Forall₂·cons}
 use Prim.Native.Nat.{ℕ, zero, suc, _+_, _*_, _≤_, _<_}
@@ -10,8 +10,8 @@ use native.Mathlib.Omega.{arith}
 use lib.Dec.{T, ltb, leb, eqb, leb→le, le→leb, ltb→lt, lt→ltb}
 use lib.ListN.{length, length-append}
 use Rattle.meaning.specs.declared.Side.the-variants.{Requirement as requirement}
-use Rattle.meaning.specs.Refusal.{Answer, good, at, refuseIf, _>>=_, _>>_}
-use Rattle.meaning.specs.Bytes.{number, bytes, Bytes, fields}
+use Rattle.meaning.specs.Refusal.{good, at, _>>=_, _>>_}
+use Rattle.meaning.specs.Bytes.{number, bytes, Bytes}
 use Rattle.meaning.specs.Names.{isSet}
 use Rattle.meaning.specs.Tree.{Tree, node, Forest, none, more, Concept, nodes, levels, each, written}
 use Rattle.meaning.specs.Fraction.{_//_, gcd, Comparison, less, atMost, greater, atLeast}

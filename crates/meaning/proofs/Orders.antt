@@ -6,13 +6,12 @@ use mathlib.Core.List.{List, [], _∷_, _++_}
 use Prim.Native.Nat.{ℕ, zero, suc, _+_}
 use lib.Count.{ones}
 use lib.Dec.{T, eqb}
-use lib.ListN.{replicate}
 use Rattle.meaning.specs.declared.Side.{Side}
 use Rattle.meaning.specs.declared.Side.the-variants.{Register as register, Requirement as requirement, Call as call}
 use Rattle.meaning.specs.Refusal.{Answer, good, refused, refuseIf, _>>=_, _>>_}
 use Rattle.meaning.specs.Bytes.{number, bytes, fields, readHead, headed}
-use Rattle.meaning.specs.Tree.{Tree, node, Forest, none, more, Concept, count, under, nodes, relabel}
-use Rattle.meaning.specs.Fraction.{_//_, gcd, lowest, atLeast}
+use Rattle.meaning.specs.Tree.{node, Forest, none, more, Concept, count, under, nodes, relabel}
+use Rattle.meaning.specs.Fraction.{gcd, lowest}
 use Rattle.meaning.specs.Register.{targets, itemsBytes, linksBytes, readItems, readLink, readLinks, readBody, readRegisterBy, readRegister, readBuffer}
 use Rattle.meaning.specs.Register.{encode as image}
 use Rattle.meaning.specs.Whole.{any, meetsBy}
@@ -23,7 +22,7 @@ use Rattle.meaning.specs.Message.{conceptBytes, nodeBytes, thresholdsByt
 use Rattle.meaning.specs.Message.{encode as message}
 use Rattle.meaning.specs.Shown.{shown, yesBy}
 use Rattle.meaning.specs.Calls.{readPlain, degreeCall, marginCall, memberCall}
-use Rattle.meaning.specs.Sheet.{R1, Q1, leaf, asks, C1, allTrue}
+use Rattle.meaning.specs.Sheet.{R1, Q1, leaf, allTrue}
 
 sameSide : Side → Side → Bool
 sameSide register register = true

@@ -1,16 +1,16 @@
 -- Laws of reading: what a good answer says of the steps before it, fields that fit, and numbers and bytes as they stand in a list.
 -- Assumes nothing.
-use mathlib.Core.Path.{_≡_, refl, sym, ap, ap₂, _∙_, subst}
+use mathlib.Core.Path.{_≡_, refl, sym, ap, _∙_, subst}
 use mathlib.Core.Bool.{Bool, true, false, not}
 use mathlib.Core.List.{List, [], _∷_, _++_}
 use Prim.Native.Nat.{ℕ, zero, suc, _+_, _*_, _-_, _/_, _%_, _^_, _≤_, _<_}
-use native.Mathlib.Nat.{div-lt-iff-lt-mul, add-zero, zero-add, add-assoc, pow-suc, div-add-mod', mod-lt, le-refl, le-trans}
+use native.Mathlib.Nat.{div-lt-iff-lt-mul, add-zero, zero-add, add-assoc, pow-suc, div-add-mod'}
 use native.Mathlib.Decide.{decLt}
 use native.Mathlib.Omega.{arith}
 use lib.Dec.{lit≤, T, ltb, ltb→lt, lt→ltb, nltb→le, leb, leb→le, le→leb, nleb→lt, eqb, eqb→eq, eqb-refl}
 use lib.ListN.{length, getD, take, drop, length-append, length-take, length-drop}
 use lib.ListN.{List·getD-append as getD-append}
-use lib.Seq.{getD-append-add, getD-append-seam, getD-take, getD-drop, ext-getD}
+use lib.Seq.{getD-append-add, getD-take, getD-drop, ext-getD}
 use Rattle.meaning.specs.declared.Side.{Side}
 use Rattle.meaning.specs.declared.Refusal.{Refusal}
 use Rattle.meaning.specs.Refusal.{Answer, good, refused, at, refuseIf, _>>=_, _>>_}

@@ -1,18 +1,18 @@
 -- What an accepted call of a session says of its tests; and the buffer that an image leaves.
 -- Assumes nothing.
-use mathlib.Core.Path.{_≡_, refl, sym, ap, ap₂, _∙_, subst}
-use mathlib.Core.Bool.{Bool, true, false, _||_}
-use mathlib.Core.List.{List, [], _∷_, _++_, append-assoc}
+use mathlib.Core.Path.{_≡_, refl, sym, ap, _∙_, subst}
+use mathlib.Core.Bool.{false, _||_}
+use mathlib.Core.List.{List, _++_, append-assoc}
 use Prim.Native.Nat.{ℕ, zero, suc, _+_, _-_, _≤_, _<_, max}
 use native.Mathlib.Omega.{arith}
-use lib.Dec.{T, ltb, eqb, eqb-refl}
+use lib.Dec.{T, ltb, eqb}
 use lib.ListN.{length, drop, length-append, length-replicate, replicate-append-replicate}
 use lib.Seq.{drop-append-add, take-at}
 use Rattle.meaning.specs.declared.Step.{Step}
-use Rattle.meaning.specs.Refusal.{Answer, good, refused, onCall, refuseIf, _>>=_, _>>_}
-use Rattle.meaning.specs.Bytes.{Bytes, number, bytes, headed}
+use Rattle.meaning.specs.Refusal.{good, _>>=_, _>>_}
+use Rattle.meaning.specs.Bytes.{number, bytes, headed}
 use Rattle.meaning.specs.Register.{Register, wellFormed, itemsBytes, linksBytes, encode, readBuffer}
-use Rattle.meaning.specs.Session.{Edit, setFact, zeros, cleared, rewritten, imageOf, room, outOfRange, roleAbove, noPlace, Changed, openCall, editCall, undoCall, keepCall}
+use Rattle.meaning.specs.Session.{Edit, setFact, zeros, cleared, rewritten, imageOf, room, outOfRange, roleAbove, noPlace, Changed, openCall, editCall, undoCall}
 use Rattle.meaning.proofs.Tests.{neither-of, true-false, is-true, is-eqb}
 use Rattle.meaning.proofs.Reading.{good-inj, passed, taken, le-of-not-below, Stands, stands-self, stands-left, number-of}
 use Rattle.meaning.proofs.Image.{buffer-read, largest-image}

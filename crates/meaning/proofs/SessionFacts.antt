@@ -2,12 +2,10 @@
 -- Two well-formed registers with as many items and the same facts are the same. So a register whose facts are given has one image.
 -- Assumes nothing.
 use mathlib.Core.Path.{_≡_, refl, sym, ap, ap₂, _∙_, subst}
-use mathlib.Core.Logic.{_↔_}
 use mathlib.Core.Bool.{Bool, true, false, _&&_, _||_, not, cond}
-use mathlib.Core.List.{List, [], _∷_, _++_, List·Memᴰ}
+use mathlib.Core.List.{List, [], _∷_, List·Memᴰ}
 use mathlib.Core.Option.{none as nowhere}
-use Prim.Native.Nat.{ℕ, zero, suc, _+_, _*_, _^_, _≤_, _<_, max}
-use native.Mathlib.Decide.{decLt}
+use Prim.Native.Nat.{ℕ, zero, suc, _+_, _≤_, _<_}
 use native.Mathlib.Omega.{arith}
 use lib.Dec.{T, eqb, ltb, leb, eqb→eq, eqb-refl, ltb→lt, lt→ltb}
 use lib.ListN.{length, getD, set, length-set}
@@ -15,11 +13,11 @@ use lib.Seq.{getD-set-same, getD-set-other, ext-getD}
 use Rattle.meaning.specs.declared.Fact.{Fact}
 use Rattle.meaning.specs.declared.Fact.the-variants.{Name as nameOn, Link as linkOf}
 use Rattle.meaning.specs.Names.{has, isSet}
-use Rattle.meaning.specs.Register.{Link, Register, sameLink, anyLink, isFact, allSets, linksOf, mostLinks, wellFormed, encode}
-use Rattle.meaning.specs.Session.{Facts, link, sameFact, Edit, edited, withName, withLink, setFact, outOfRange, roleAbove, noPlace}
-use Rattle.meaning.proofs.Tests.{holds, is-true, is-false, true-false, is-eqb, and-both, both-and, neither-of, bool-eq}
+use Rattle.meaning.specs.Register.{Link, Register, isFact, allSets, linksOf, mostLinks, wellFormed, encode}
+use Rattle.meaning.specs.Session.{Facts, link, sameFact, edited, withName, withLink, setFact, outOfRange, roleAbove, noPlace}
+use Rattle.meaning.proofs.Tests.{holds, is-true, true-false, is-eqb, and-both, both-and, neither-of}
 use Rattle.meaning.proofs.Reading.{le-of-not-below, lt-of-not-le}
-use Rattle.meaning.proofs.Image.{Fits, fits, well, image-length}
+use Rattle.meaning.proofs.Image.{fits, well, image-length}
 use Rattle.meaning.proofs.Links.{same-link, fact-link}
 use Rattle.meaning.proofs.SessionNames.{with-has, with-below, same-names}
 use Rattle.meaning.proofs.SessionLinks.{among, Sound, same-links, with-rises, with-among, insert-length, without-length, with-same}

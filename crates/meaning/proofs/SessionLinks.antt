@@ -6,14 +6,14 @@ use mathlib.Core.Bool.{Bool, true, false, _&&_, _||_, cond}
 use mathlib.Core.List.{List, [], _∷_, List·Memᴰ, List·Memᴰ·head, List·Memᴰ·tail, List·Memᴰ·cases-cons}
 use mathlib.Core.Option.{Option, some}
 use mathlib.Core.Option.{none as nowhere}
-use Prim.Native.Nat.{ℕ, suc, _+_, _≤_, _<_}
+use Prim.Native.Nat.{ℕ, suc, _≤_, _<_}
 use native.Mathlib.Decide.{decLt}
 use native.Mathlib.Omega.{arith}
-use lib.Dec.{T, eqb, ltb, leb, eqb→eq, eqb-refl, lt→ltb, ltb→lt}
+use lib.Dec.{T, eqb, ltb, lt→ltb}
 use lib.ListN.{length}
 use Rattle.meaning.specs.Register.{Link, sameLink, anyLink, rises, above, linksOf}
 use Rattle.meaning.specs.Session.{insert, without, withLink}
-use Rattle.meaning.proofs.Tests.{holds, is-true, is-false, true-false, bool-eq, is-eqb, and-both, both-and, or-cases, or-left, or-right, any-found, found-any}
+use Rattle.meaning.proofs.Tests.{holds, is-true, is-false, true-false, bool-eq, is-eqb, both-and, or-cases, or-left, or-right, any-found, found-any}
 use Rattle.meaning.proofs.Image.{Right, right, wrote}
 use Rattle.meaning.proofs.Links.{same-link, link-same, any-link, Below, below-trans, rises-below, rest, all-below}
 

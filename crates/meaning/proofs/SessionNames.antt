@@ -1,16 +1,16 @@
 -- A set of names with a name or without it: each name of the outcome, its bound, and sets that have the same names.
 -- Assumes nothing.
-use mathlib.Core.Path.{_≡_, refl, sym, ap, _∙_, subst}
+use mathlib.Core.Path.{_≡_, refl, sym, ap, _∙_}
 use mathlib.Core.Bool.{Bool, true, false, cond}
 use Prim.Native.Nat.{ℕ, zero, suc, _+_, _*_, _-_, _/_, _%_, _^_, _≤_, _<_}
-use native.Mathlib.Nat.{pow-suc, div-add-mod', mod-lt, zero-lt-suc}
+use native.Mathlib.Nat.{pow-suc, mod-lt, zero-lt-suc}
 use native.Mathlib.Omega.{arith}
 use lib.Arith.{bin-ind}
 use lib.Pow.{shr-shr}
-use lib.Dec.{T, eqb, eqb→eq, eqb-refl, eqb·zero-suc, eqb·suc-zero, eqb·suc-suc}
+use lib.Dec.{eqb, eqb→eq, eqb·zero-suc, eqb·suc-zero, eqb·suc-suc}
 use Rattle.meaning.specs.Names.{has}
 use Rattle.meaning.specs.Session.{withName}
-use Rattle.meaning.proofs.Tests.{holds, is-true, is-false, true-false}
+use Rattle.meaning.proofs.Tests.{holds, true-false}
 
 -- ---- one name, lowest first
 

@@ -1,14 +1,14 @@
 -- Each slip of document 01 differs from our definition on an input of the sheet. (The undo slip is told apart with the session.)
 -- Assumes nothing.
 use mathlib.Core.Path.{_≡_, refl}
-use mathlib.Core.Bool.{Bool, true, false}
-use mathlib.Core.List.{List, [], _∷_}
+use mathlib.Core.Bool.{true, false}
+use mathlib.Core.List.{[], _∷_}
 use Prim.Native.Nat.{ℕ}
 use lib.Count.{ones}
-use Rattle.meaning.specs.Tree.{Tree, node, Forest, none, more, Concept, count, under}
+use Rattle.meaning.specs.Tree.{node, none, more, Concept, count, under}
 use Rattle.meaning.specs.Graph.{Graph}
-use Rattle.meaning.specs.Fraction.{Frac, _//_, gcd, lowest, atLeast, compares}
-use Rattle.meaning.specs.Register.{Register, judged, targets}
+use Rattle.meaning.specs.Fraction.{_//_, gcd, lowest, atLeast, compares}
+use Rattle.meaning.specs.Register.{judged, targets}
 use Rattle.meaning.specs.Whole.{any, meetsBy}
 use Rattle.meaning.specs.Reduce.{dropped, keep, reduce, scale}
 use Rattle.meaning.specs.Degree.{best, degree, degreeOf, answered}

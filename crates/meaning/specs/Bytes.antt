@@ -1,12 +1,12 @@
 -- Big-endian numbers in a list of bytes, and fields that must fit before an end.
 -- Assumes nothing.
-use mathlib.Core.Bool.{Bool, true, false, not}
+use mathlib.Core.Bool.{Bool, not}
 use mathlib.Core.List.{List, [], _∷_, _++_}
 use Prim.Native.Nat.{ℕ, zero, suc, _+_, _*_, _-_, _/_, _%_, _<_}
 use lib.Dec.{ltb, eqb}
 use lib.ListN.{length, getD}
 use Rattle.meaning.specs.declared.Side.{Side}
-use Rattle.meaning.specs.Refusal.{Answer, good, refused, at, refuseIf, _>>=_, _>>_}
+use Rattle.meaning.specs.Refusal.{Answer, good, at, refuseIf, _>>=_, _>>_}
 
 -- the number that the w bytes from place p on hold
 unfoldable pub number : List ℕ → ℕ → ℕ → ℕ

@@ -3,8 +3,6 @@
 -- Assumes nothing.
 use mathlib.Core.Bool.{Bool, true, false, not}
 use mathlib.Core.List.{List, [], _∷_}
-use mathlib.Core.Option.{Option, some}
-use mathlib.Core.Option.{none as nowhere}
 use Prim.Native.Nat.{ℕ}
 use lib.Dec.{ltb, leb}
 use lib.IntN.{ℤ}
@@ -17,7 +15,7 @@ use Rattle.meaning.specs.Fraction.{Frac, _//_, margin, marginOver}
 use Rattle.meaning.specs.Register.{Register, judged, readRegister}
 use Rattle.meaning.specs.Reduce.{reduce, size, mostSize}
 use Rattle.meaning.specs.Degree.{answered}
-use Rattle.meaning.specs.Requirement.{Requirement, bare, member}
+use Rattle.meaning.specs.Requirement.{bare, member}
 use Rattle.meaning.specs.Message.{Part, readRequirement, lawful}
 use Rattle.meaning.specs.Shown.{degreeMap, yesMap}
 

@@ -1,10 +1,9 @@
 -- The degree as it is worked out, from below: a whole number over the tree's scale.
 -- Assumes nothing.
-use mathlib.Core.Bool.{Bool}
 use mathlib.Core.List.{List, [], _∷_}
 use Prim.Native.Nat.{ℕ, zero, suc, _+_, _*_, max}
 use Rattle.meaning.specs.Names.{names, common}
-use Rattle.meaning.specs.Tree.{Tree, node, Forest, none, more, Concept, count}
+use Rattle.meaning.specs.Tree.{node, Forest, none, more, Concept, count}
 use Rattle.meaning.specs.Graph.{Graph}
 use Rattle.meaning.specs.Fraction.{Frac, _//_, lowest}
 use Rattle.meaning.specs.Reduce.{reduce, scale, scaleF}

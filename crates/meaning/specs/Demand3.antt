@@ -4,13 +4,12 @@
 -- (proofs/Demand3.antt, `edit-moves`, `undo-moves`).
 -- Assumes nothing.
 use mathlib.Core.Path.{_≡_}
-use mathlib.Core.Bool.{Bool, true, false}
 use mathlib.Core.List.{List, _++_}
 use Prim.Native.Nat.{ℕ, _-_, _≤_, _<_}
 use lib.Dec.{T}
 use lib.ListN.{length}
 use Rattle.meaning.specs.declared.Fact.{Fact}
-use Rattle.meaning.specs.Refusal.{Answer, good}
+use Rattle.meaning.specs.Refusal.{good}
 use Rattle.meaning.specs.Tree.{Concept, nodes}
 use Rattle.meaning.specs.Register.{Register, isFact, judged, wellFormed, encode}
 use Rattle.meaning.specs.Degree.{answered}

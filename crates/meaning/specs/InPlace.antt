@@ -1,11 +1,10 @@
 -- The degree in the reduced tree, worked out over the tree as it is written: a dropped child is passed over. This is what code computes;
 -- that it is the degree of Degree.antt is a theorem (proofs/InPlace.antt).
 -- Assumes nothing.
-use mathlib.Core.Bool.{Bool, true, false, cond}
-use mathlib.Core.List.{List, [], _∷_}
-use Prim.Native.Nat.{ℕ, zero, suc, _+_, _*_, max}
+use mathlib.Core.Bool.{cond}
+use Prim.Native.Nat.{ℕ, _+_, _*_, max}
 use Rattle.meaning.specs.Names.{names, common}
-use Rattle.meaning.specs.Tree.{Tree, node, Forest, none, more, Concept, under}
+use Rattle.meaning.specs.Tree.{node, Forest, none, more, Concept, under}
 use Rattle.meaning.specs.Graph.{Graph}
 use Rattle.meaning.specs.Reduce.{dropped}
 use Rattle.meaning.specs.Degree.{orOne, best}

@@ -1,6 +1,6 @@
 -- Document 01, "Requirement message": the bytes of a requirement, and their reading with every refusal.
 -- Assumes nothing.
-use mathlib.Core.Bool.{Bool, true, false, _&&_, not}
+use mathlib.Core.Bool.{Bool, _&&_, not}
 use mathlib.Core.List.{List, [], _∷_, _++_}
 use Prim.Native.Nat.{ℕ, zero, suc, _+_}
 use lib.Dec.{ltb, leb, eqb}
@@ -10,7 +10,7 @@ use Rattle.meaning.specs.Refusal.{Answer, good, refused, at, refuseIf, _
 use Rattle.meaning.specs.Bytes.{number, bytes, fields, readHead, unequal, headed}
 use Rattle.meaning.specs.Names.{isSet}
 use Rattle.meaning.specs.Tree.{Tree, node, Forest, none, more, Concept, count, nodes, levels, each, written}
-use Rattle.meaning.specs.Fraction.{Frac, _//_, gcd, Comparison, less, atMost, greater, atLeast}
+use Rattle.meaning.specs.Fraction.{_//_, gcd, Comparison, less, atMost, greater, atLeast}
 use Rattle.meaning.specs.Reduce.{reduce, size, mostSize}
 use Rattle.meaning.specs.Requirement.{Threshold, Label, Requirement, every}
 

@@ -6,7 +6,7 @@ use mathlib.Core.Option.{Option, some}
 use mathlib.Core.Option.{none as nowhere}
 use Prim.Native.Nat.{ℕ, zero, suc, _+_}
 use Rattle.meaning.specs.Names.{names, common}
-use Rattle.meaning.specs.Tree.{Tree, node, Forest, none, more, Concept, count, roleAt}
+use Rattle.meaning.specs.Tree.{node, Forest, none, more, Concept, count, roleAt}
 use Rattle.meaning.specs.Graph.{Graph}
 use Rattle.meaning.specs.Fraction.{Frac, _//_, _⊕_, per, Same, AtMost}
 use Rattle.meaning.specs.Reduce.{reduce}

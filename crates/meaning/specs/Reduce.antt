@@ -5,7 +5,7 @@ use mathlib.Core.List.{List, [], _∷_, _++_}
 use Prim.Native.Nat.{ℕ, _+_, _*_, max}
 use lib.ListN.{replicate}
 use Rattle.meaning.specs.Names.{names}
-use Rattle.meaning.specs.Tree.{Tree, node, Forest, none, more, Concept, count, under, nodes}
+use Rattle.meaning.specs.Tree.{node, Forest, none, more, Concept, count, under, nodes}
 use Rattle.meaning.specs.Graph.{treeGraph}
 use Rattle.meaning.specs.Whole.{any, meets}
 

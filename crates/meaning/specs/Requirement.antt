@@ -1,10 +1,9 @@
 -- Document 01, "Requirement message" and "Member": concept trees with thresholds, and the items that meet them.
 -- Assumes nothing.
-use mathlib.Core.Bool.{Bool, true, false, _&&_}
+use mathlib.Core.Bool.{Bool, true, _&&_}
 use mathlib.Core.List.{List, [], _∷_}
 use Prim.Native.Nat.{ℕ}
-use Rattle.meaning.specs.Names.{within}
-use Rattle.meaning.specs.Tree.{Tree, Forest, Concept, relabel}
+use Rattle.meaning.specs.Tree.{Tree, Concept, relabel}
 use Rattle.meaning.specs.Graph.{Graph}
 use Rattle.meaning.specs.Fraction.{Frac, Comparison, compares}
 use Rattle.meaning.specs.Whole.{meetsBy, held, WholeMap}

@@ -2,11 +2,11 @@
 -- and the index just past its subtree: so the first child of i stands at i + 1, and what follows the child c at the end of c.
 -- Assumes nothing.
 use mathlib.Core.Path.{_≡_}
-use mathlib.Core.Bool.{Bool, true, false, cond}
+use mathlib.Core.Bool.{Bool, cond}
 use mathlib.Core.List.{List}
 use Prim.Native.Nat.{ℕ, _+_, _-_, _≤_, _<_}
 use lib.ListN.{getD}
-use Rattle.meaning.specs.Tree.{Tree, node, Forest, none, more, Concept, under}
+use Rattle.meaning.specs.Tree.{node, Forest, none, more, Concept, under}
 use Rattle.meaning.specs.Reduce.{dropped}
 
 module _ (names roles ends : List ℕ) where

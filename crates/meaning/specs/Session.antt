@@ -3,7 +3,7 @@
 -- Assumes nothing.
 use mathlib.Core.Bool.{Bool, true, false, _&&_, _||_, not, cond}
 use mathlib.Core.List.{List, [], _∷_, _++_}
-use Prim.Native.Nat.{ℕ, zero, suc, _+_, _-_, _^_, min, max}
+use Prim.Native.Nat.{ℕ, _+_, _-_, _^_, min, max}
 use lib.Dec.{ltb, leb, eqb}
 use lib.ListN.{length, getD, set, take, drop, replicate}
 use Rattle.meaning.specs.declared.Fact.{Fact}

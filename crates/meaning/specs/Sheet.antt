@@ -8,11 +8,11 @@ use Prim.Native.Nat.{ℕ}
 use lib.Dec.{eqb}
 use lib.IntN.{ℤ, pos, negsuc}
 use Rattle.meaning.specs.Refusal.{Answer, good, refused}
-use Rattle.meaning.specs.Tree.{Tree, node, Forest, none, more, Concept}
+use Rattle.meaning.specs.Tree.{node, none, more, Concept}
 use Rattle.meaning.specs.Fraction.{Frac, _//_, Comparison, less, atMost, greater, atLeast}
-use Rattle.meaning.specs.Register.{Register, Link}
+use Rattle.meaning.specs.Register.{Link}
 use Rattle.meaning.specs.Register.{encode as image}
-use Rattle.meaning.specs.Requirement.{Threshold, Label, plain}
+use Rattle.meaning.specs.Requirement.{plain}
 use Rattle.meaning.specs.Message.{encode as message}
 use Rattle.meaning.specs.Calls.{Found, degreeCall, Against, marginCall, Decision, met, unmet, memberCall}
 

@@ -1,6 +1,6 @@
 -- Document 01, "Map shown": one number for each written node of the outer tree in reading order.
 -- Assumes nothing.
-use mathlib.Core.Bool.{Bool, true, false, cond}
+use mathlib.Core.Bool.{Bool, cond}
 use mathlib.Core.List.{List, [], _∷_, _++_, map}
 use mathlib.Core.Option.{Option, some}
 use mathlib.Core.Option.{none as nowhere}
@@ -12,7 +12,7 @@ use Rattle.meaning.specs.Graph.{Graph}
 use Rattle.meaning.specs.Whole.{meetsBy}
 use Rattle.meaning.specs.Reduce.{reduce, reduceF, dropped}
 use Rattle.meaning.specs.Degree.{degree}
-use Rattle.meaning.specs.Requirement.{Label, Requirement, fulfils}
+use Rattle.meaning.specs.Requirement.{Requirement, fulfils}
 
 -- ---- for a degree
 

@@ -1,19 +1,19 @@
 -- Document 01, "Slips that look right": each wrong definition, to be told apart from ours on an input (proofs/Slips.antt).
 -- Nothing here is used by a promise.
 -- Assumes nothing.
-use mathlib.Core.Bool.{Bool, true, false, _||_, not, cond}
+use mathlib.Core.Bool.{_||_, cond}
 use mathlib.Core.List.{List, [], _∷_}
 use mathlib.Core.Option.{Option, some}
 use mathlib.Core.Option.{none as nowhere}
 use Prim.Native.Nat.{ℕ, zero, suc, _+_, _*_, _/_, max}
 use lib.Dec.{eqb}
 use Rattle.meaning.specs.Names.{names, common}
-use Rattle.meaning.specs.Tree.{Tree, node, Forest, none, more, Concept, labelOf, count, under}
+use Rattle.meaning.specs.Tree.{node, Forest, none, more, Concept, labelOf, count, under}
 use Rattle.meaning.specs.Graph.{Graph}
-use Rattle.meaning.specs.Fraction.{Frac, _//_, Comparison, compares}
+use Rattle.meaning.specs.Fraction.{Frac, _//_}
 use Rattle.meaning.specs.Whole.{any}
-use Rattle.meaning.specs.Reduce.{subsumes, scale, scaleF, reduce, reduceF}
-use Rattle.meaning.specs.Degree.{orOne, best, degree, degreeOf}
+use Rattle.meaning.specs.Reduce.{subsumes, scale, scaleF, reduceF}
+use Rattle.meaning.specs.Degree.{orOne, best, degree}
 use Rattle.meaning.specs.Shown.{pick}
 
 -- "Scoring the tree as written"

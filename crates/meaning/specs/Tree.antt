@@ -1,7 +1,7 @@
 -- Trees whose nodes carry labels and whose edges carry roles. A plain concept is a tree of sets of names (LTCS-Report 15-09, Definition 1).
 -- The nodes of a tree are written in reading order: a node, then its children, each with all that is below it.
 -- Assumes nothing.
-use mathlib.Core.Bool.{Bool, true, false, _&&_, cond}
+use mathlib.Core.Bool.{Bool, true, _&&_, cond}
 use mathlib.Core.List.{List, [], _∷_, _++_}
 use mathlib.Core.Option.{Option, some}
 use mathlib.Core.Option.{none as nowhere}

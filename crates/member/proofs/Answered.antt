@@ -3,7 +3,7 @@
 use mathlib.Core.Path.{_≡_, refl, sym, ap, subst, _∙_}
 use mathlib.Core.Bool.{Bool, true, false, cond}
 use mathlib.Core.List.{List}
-use Prim.Native.Nat.{ℕ, _+_, _≤_, _<_}
+use Prim.Native.Nat.{ℕ, _≤_, _<_}
 use native.Mathlib.Omega.{arith}
 use lib.Dec.{T, ltb, leb}
 use lib.ListN.{length}
@@ -14,7 +14,7 @@ use Rattle.meaning.specs.Bytes.{Bytes}
 use Rattle.meaning.specs.Refusal.{Answer, good, refused, onCall, _>>=_}
 use Rattle.meaning.specs.Tree.{nodes}
 use Rattle.meaning.specs.Register.{Register, judged, readRegisterBy, readRegister}
-use Rattle.meaning.specs.Requirement.{Requirement, bare, fulfils, member}
+use Rattle.meaning.specs.Requirement.{Requirement, fulfils, member}
 use Rattle.meaning.specs.Message.{Part, readRequirement}
 use Rattle.meaning.specs.Shown.{yesMap}
 use Rattle.meaning.specs.Calls.{Decision, met, unmet, memberCall, afterMember}
@@ -32,7 +32,7 @@ use Rattle.requirement.specs.Reading.{Arrays, MessageGood, MessageOutcome, Mess
 use Rattle.member.specs.declared.call.Verdict.{Verdict}
 use Rattle.member.specs.declared.call.Verdict.the-variants.{Yes, No, Refused}
 use Rattle.member.specs.Case.{Settled}
-use Rattle.member.specs.Call.{Said, yes, no, said, paper, refusedCall, Imaged, Ready}
+use Rattle.member.specs.Call.{yes, said, paper, refusedCall, Imaged, Ready}
 use Rattle.member.proofs.Decided.{member-answer}
 
 -- ---- what was read

@@ -1,19 +1,18 @@
 -- Folding a node's children in, one after the other: what is folded in and what is left say which items meet the node.
 -- Assumes nothing.
-use mathlib.Core.Path.{_≡_, refl, sym, ap, ap₂, subst, _∙_}
+use mathlib.Core.Path.{_≡_, refl, sym, ap, ap₂, _∙_}
 use mathlib.Core.Bool.{Bool, true, false, _&&_, and-true}
-use mathlib.Core.List.{List, List·Memᴰ}
+use mathlib.Core.List.{List}
 use Prim.Native.Nat.{ℕ, _+_, _-_, _≤_, _<_}
-use native.Mathlib.Nat.{le-trans}
 use native.Mathlib.Omega.{arith}
 use lib.ListN.{getD}
 use Rattle.meaning.specs.Names.{within}
-use Rattle.meaning.specs.Tree.{Tree, node, Forest, none, more, children, relabelF, relabel}
+use Rattle.meaning.specs.Tree.{node, Forest, none, more, children, relabelF, relabel}
 use Rattle.meaning.specs.Graph.{Graph}
 use Rattle.meaning.specs.Whole.{any, meetsBy, meetsByF}
-use Rattle.meaning.specs.Requirement.{Label, Requirement, every, passes, fulfils, member, bare}
+use Rattle.meaning.specs.Requirement.{Label, Requirement, fulfils, member, bare}
 use Rattle.meaning.specs.Rows.{Holds, HoldsF}
-use Rattle.meaning.proofs.Rows.{opened, holdsF-le}
+use Rattle.meaning.proofs.Rows.{opened}
 use Rattle.member.specs.Table.{cell, Rowed, ruledAt, Ruled, RuledF, Met, MetF}
 use Rattle.member.specs.Case.{Outside, Done}
 use Rattle.member.proofs.Inside.{Closed, any-same}

@@ -10,15 +10,15 @@ use native.Mathlib.Omega.{arith}
 use lib.Dec.{T}
 use lib.ListN.{length}
 use borrow.Author.Tests.{lt-leb, le-ltb}
-use Rattle.meaning.specs.Refusal.{Answer, good}
+use Rattle.meaning.specs.Refusal.{good}
 use Rattle.meaning.specs.Tree.{nodes}
 use Rattle.meaning.specs.Register.{Register, judged, readRegister}
 use Rattle.meaning.specs.Degree.{answered}
-use Rattle.meaning.specs.Whole.{WholeMap, meets, held}
+use Rattle.meaning.specs.Whole.{held}
 use Rattle.meaning.specs.Requirement.{Requirement, bare, fulfils, member, RespectingMap}
 use Rattle.meaning.specs.Message.{Part, readRequirement, thresholdsOf}
 use Rattle.meaning.specs.Shown.{yesMap}
-use Rattle.meaning.specs.Calls.{Decision, met, unmet, decide, memberCall}
+use Rattle.meaning.specs.Calls.{met, decide, memberCall}
 use Rattle.meaning.proofs.Tests.{is-true}
 use Rattle.meaning.proofs.Reading.{then-test, then-take, good-inj}
 use Rattle.meaning.proofs.Whole.{meets-whole}

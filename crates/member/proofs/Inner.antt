@@ -12,11 +12,11 @@ use lib.ListN.{length, getD}
 use borrow.Author.Tests.{eqb-true, eqb-false}
 use Rattle.meaning.specs.Bytes.{number, Bytes}
 use Rattle.meaning.specs.Refusal.{good}
-use Rattle.meaning.specs.Tree.{Concept, nodes}
+use Rattle.meaning.specs.Tree.{nodes}
 use Rattle.meaning.specs.Graph.{Graph}
 use Rattle.meaning.specs.Register.{Register, readBuffer, judged}
 use Rattle.meaning.specs.Fraction.{_//_, Frac, Comparison, compares}
-use Rattle.meaning.specs.Reduce.{reduce, size, mostSize}
+use Rattle.meaning.specs.Reduce.{size}
 use Rattle.meaning.specs.Degree.{degreeOf}
 use Rattle.meaning.specs.Requirement.{Threshold, passes}
 use Rattle.meaning.specs.Message.{comparison}

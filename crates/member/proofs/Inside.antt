@@ -1,7 +1,7 @@
 -- The successors of an item are items, so what is asked of them depends on the items alone.
 -- Assumes nothing.
-use mathlib.Core.Path.{_≡_, refl, sym, ap, ap₂, subst, _∙_}
-use mathlib.Core.Bool.{Bool, true, false, _||_, cond}
+use mathlib.Core.Path.{_≡_, refl, sym, ap₂, subst}
+use mathlib.Core.Bool.{Bool, _||_, cond}
 use mathlib.Core.Logic.{_⊎_, inl, inr}
 use mathlib.Core.List.{List, [], _∷_, List·Memᴰ, List·Memᴰ·head, List·Memᴰ·tail, List·Memᴰ·cases-cons}
 use mathlib.Core.Option.{Option, some}
@@ -12,7 +12,7 @@ use lib.ListN.{length}
 use Rattle.meaning.specs.Bytes.{Bytes}
 use Rattle.meaning.specs.Refusal.{good}
 use Rattle.meaning.specs.Graph.{Graph}
-use Rattle.meaning.specs.Register.{Link, Register, targets, linksOf, judged, readBuffer}
+use Rattle.meaning.specs.Register.{Link, Register, linksOf, judged, readBuffer}
 use Rattle.meaning.specs.Whole.{any}
 use Rattle.meaning.specs.Shown.{first}
 use Rattle.meaning.proofs.Links.{targets-links, link}

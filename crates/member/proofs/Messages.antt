@@ -1,17 +1,17 @@
 -- The thresholds that reading a message hands on, one after the other, and what a table says of them: so each written node's are its label's.
 -- Assumes nothing.
-use mathlib.Core.Path.{_≡_, refl, sym, ap, ap₂, subst, _∙_}
+use mathlib.Core.Path.{_≡_, refl, sym, ap, subst, _∙_}
 use mathlib.Core.List.{List, [], _∷_, _++_, append-assoc}
-use Prim.Native.Nat.{ℕ, zero, suc, _+_, _≤_, _<_, suc-le-suc}
+use Prim.Native.Nat.{ℕ, suc, _+_, _<_, suc-le-suc}
 use native.Mathlib.Numerals.{add-one}
 use native.Mathlib.Nat.{zero-add}
 use native.Mathlib.Omega.{arith}
 use lib.ListN.{length, getD, length-append, List·getD-append}
 use lib.Seq.{getD-append-add}
-use Rattle.meaning.specs.Tree.{Tree, node, Forest, none, more, nodes, written, writtenF}
+use Rattle.meaning.specs.Tree.{node, Forest, none, more, nodes, written, writtenF}
 use Rattle.meaning.specs.Graph.{Graph}
 use Rattle.meaning.specs.Requirement.{Threshold, Label, Requirement, passes, bare}
-use Rattle.meaning.specs.Message.{Part, joined, thresholdsOf, thresholdsBytes, requirementBytes, conceptBytes, thresholdBytes}
+use Rattle.meaning.specs.Message.{Part, joined, thresholdsOf, thresholdsBytes, requirementBytes, conceptBytes}
 use Rattle.meaning.specs.Rows.{Holds}
 use Rattle.meaning.proofs.MessageTree.{partsOf, partsOfF}
 use Rattle.meaning.proofs.MessageLabel.{partsAt, at-length, outerKind}

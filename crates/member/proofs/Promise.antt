@@ -13,10 +13,10 @@ use native.Mathlib.Omega.{arith}
 use lib.Dec.{T, ltb, leb}
 use lib.ListN.{length}
 use lib.Seq.{sets}
-use borrow.Author.Tests.{leb-true, leb-false, ltb-true, ltb-false}
+use borrow.Author.Tests.{leb-true, ltb-true}
 use Rattle.meaning.specs.declared.Refusal.{Refusal}
 use Rattle.meaning.specs.Bytes.{Bytes}
-use Rattle.meaning.specs.Refusal.{Answer, good, refused, onCall}
+use Rattle.meaning.specs.Refusal.{Answer, good, refused}
 use Rattle.meaning.specs.Tree.{Tree, nodes, subtree, roleAt}
 use Rattle.meaning.specs.Graph.{Graph}
 use Rattle.meaning.specs.Fraction.{Frac, _//_, Lowest}
@@ -29,7 +29,7 @@ use Rattle.meaning.specs.Shown.{yesMap}
 use Rattle.meaning.specs.Calls.{Decision, met, unmet, memberCall, afterMember}
 use Rattle.meaning.specs.Calls.{decide as decision}
 use Rattle.meaning.proofs.Tests.{is-true, is-false}
-use Rattle.meaning.proofs.Reading.{pass, stop, stopped, took, below, at-most, not-le, lt-of-not-le, not-below, le-of-not-below, good-inj}
+use Rattle.meaning.proofs.Reading.{pass, stop, stopped, took, below, at-most, not-le, lt-of-not-le, le-of-not-below, good-inj}
 use Rattle.meaning.proofs.Image.{read-image}
 use Rattle.meaning.proofs.Degree.{answered-lowest}
 use Rattle.meaning.proofs.Rising.{LowestOf}
@@ -37,7 +37,7 @@ use Rattle.meaning.proofs.Member.{member-map}
 use Rattle.meaning.proofs.YesShown.{YesShows, yes-shows, yes-lowest}
 use Rattle.member.specs.declared.call.Verdict.{Verdict}
 use Rattle.member.specs.declared.call.Verdict.the-variants.{Yes, No, Refused}
-use Rattle.member.specs.Call.{Said, yes, no, said, paper}
+use Rattle.member.specs.Call.{yes, no, said, paper}
 use Rattle.member.specs.Promise.{Promised, Refuses, badImage, badMessage, noItem, noRoom}
 use Rattle.member.proofs.Decided.{member-answer, yes-one}
 

@@ -1,21 +1,20 @@
 -- The map shown for a yes, child by child: what is written and what is left make up the map.
 -- Assumes nothing.
-use mathlib.Core.Path.{_≡_, refl, sym, ap, subst, _∙_}
-use mathlib.Core.Bool.{Bool, _&&_}
-use mathlib.Core.List.{List, [], _∷_, _++_}
-use mathlib.Core.Option.{Option, some}
-use Prim.Native.Nat.{ℕ, zero, suc, _+_, _-_, _≤_, _<_}
+use mathlib.Core.Path.{_≡_, refl, sym, ap, _∙_}
+use mathlib.Core.List.{List, _++_}
+use mathlib.Core.Option.{some}
+use Prim.Native.Nat.{ℕ, _+_, _-_, _≤_, _<_}
 use native.Mathlib.Numerals.{add-one}
 use native.Mathlib.Omega.{arith}
 use lib.Dec.{T}
 use lib.ListN.{length, getD, set}
 use lib.Seq.{sets}
-use Rattle.meaning.specs.Tree.{Tree, node, Forest, none, more, children, relabel, nodes, nodesF}
+use Rattle.meaning.specs.Tree.{node, Forest, none, more, children, relabel, nodes, nodesF}
 use Rattle.meaning.specs.Graph.{Graph}
 use Rattle.meaning.specs.Whole.{any, meetsBy, meetsByF}
 use Rattle.meaning.specs.Requirement.{Label, Requirement, fulfils, member, bare}
 use Rattle.meaning.specs.Rows.{Holds, HoldsF}
-use Rattle.meaning.specs.Shown.{first, from, yesBy, yesByF, yesMap}
+use Rattle.meaning.specs.Shown.{first, yesBy, yesByF, yesMap}
 use Rattle.meaning.proofs.Tests.{and-both, first-found}
 use Rattle.meaning.proofs.Rows.{opened}
 use Rattle.meaning.proofs.Stores.{sets-append}

@@ -2,7 +2,7 @@
 -- The rows of a requirement's written nodes say which items meet them; those of its thresholds, which items satisfy them.
 -- Assumes nothing.
 use mathlib.Core.Path.{_≡_}
-use mathlib.Core.Bool.{Bool, true, false, _&&_, _||_, not}
+use mathlib.Core.Bool.{Bool, true, _&&_, _||_, not}
 use mathlib.Core.List.{List}
 use mathlib.Core.Option.{Option, some}
 use mathlib.Core.Option.{none as nowhere}
@@ -10,7 +10,7 @@ use Prim.Native.Nat.{ℕ, zero, suc, _+_, _≤_, _<_}
 use lib.Dec.{eqb}
 use lib.ListN.{length, getD}
 use Rattle.meaning.specs.Names.{has}
-use Rattle.meaning.specs.Tree.{Tree, node, Forest, none, more}
+use Rattle.meaning.specs.Tree.{node, Forest, none, more}
 use Rattle.meaning.specs.Graph.{Graph}
 use Rattle.meaning.specs.Requirement.{Label, Requirement, every, passes, member}
 

@@ -10,10 +10,10 @@ use lib.Seq.{getD-set-same, getD-set-other}
 use Rattle.meaning.specs.Tree.{node, Forest, none, more, Concept, under}
 use Rattle.meaning.specs.Reduce.{dropped}
 use Rattle.meaning.specs.Rows.{Holds, HoldsF, mark, Marked, MarkedF}
-use Rattle.meaning.proofs.Rows.{opened, first, ran-out, holdsF-le, holds-none, marked-kept, onto, holds-onto, dropped-onto}
-use Rattle.reduction.specs.Held.{Held, HeldF, ForTree}
+use Rattle.meaning.proofs.Rows.{opened, first, ran-out, holdsF-le, marked-kept, onto, holds-onto, dropped-onto}
+use Rattle.reduction.specs.Held.{Held, ForTree}
 use Rattle.reduction.specs.Subsumed.{Sibling, TestsDropped}
-use Rattle.reduction.specs.Marks.{Put, MarkedBelow, MarkedChild, MarkedWhole}
+use Rattle.reduction.specs.Marks.{Put, MarkedBelow, MarkedChild}
 
 pub put-one : (old : List ℕ) (c v : ℕ) → c < length old → Put old (set old c v) c v
 put-one old c v lt = record { here = getD-set-same old c v 0 lt; others = λ k n. getD-set-other old c k v 0 n }

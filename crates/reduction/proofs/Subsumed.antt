@@ -15,8 +15,8 @@ use Rattle.meaning.specs.Whole.{any, meetsBy, meetsF}
 use Rattle.meaning.specs.Reduce.{subsumes, dropped}
 use Rattle.meaning.specs.Rows.{Holds, HoldsF}
 use Rattle.meaning.proofs.Rows.{opened, ran-out}
-use Rattle.reduction.specs.Held.{Held, HeldF, ForTree, ForTrees}
-use Rattle.reduction.specs.Subsumed.{yields, Two, Tests, TestsLike, Among, TestsOne, Sibling, TestsDropped}
+use Rattle.reduction.specs.Held.{HeldF, ForTree, ForTrees}
+use Rattle.reduction.specs.Subsumed.{yields, Two, Tests, TestsLike, Among, TestsOne, TestsDropped}
 
 module _ (names roles ends : List ℕ) (left : ℕ) where
   abbrev H : Concept → ℕ → Type 0

@@ -1,23 +1,22 @@
 -- The end of each test under the head, as the code comes to it. The items are passed over at once: any eight bytes are a set of names.
 -- Assumes nothing.
-use mathlib.Core.Path.{_≡_, refl, sym, ap, _∙_, subst}
+use mathlib.Core.Path.{_≡_, refl, sym, ap, _∙_}
 use mathlib.Core.Bool.{Bool, true, false, _||_}
 use mathlib.Core.List.{List, [], _∷_}
-use mathlib.Core.Option.{Option, some}
 use mathlib.Core.Option.{none as nowhere}
 use Prim.Native.Nat.{ℕ, zero, suc, _+_, _*_, _-_, _/_, _≤_, _<_}
 use native.Mathlib.Decide.{decLt}
 use native.Mathlib.Omega.{arith}
-use lib.Dec.{T, ltb}
+use lib.Dec.{ltb}
 use lib.ListN.{length}
 use Rattle.meaning.specs.declared.Side.the-variants.{Register as register}
 use Rattle.meaning.specs.declared.Refusal.{Refusal}
 use Rattle.meaning.specs.Refusal.{Answer, good, refused, at, refuseIf, _>>=_, _>>_}
 use Rattle.meaning.specs.Bytes.{number, fields}
-use Rattle.meaning.specs.Register.{Link, Register, mostItems, mostLinks, readItems, readLinks, readBody}
+use Rattle.meaning.specs.Register.{Link, mostItems, mostLinks, readItems, readLinks, readBody}
 use Rattle.meaning.proofs.Tests.{neither}
-use Rattle.meaning.proofs.Reading.{pass, stop, stopped, halted, took, below, not-below, fitted, total}
-use Rattle.register.specs.Reading.{Counts, sizes, counted, linksAnswer}
+use Rattle.meaning.proofs.Reading.{pass, stop, stopped, halted, took, below, not-below, fitted}
+use Rattle.register.specs.Reading.{Counts, counted, linksAnswer}
 
 -- one field that does not fit
 cut-field : (end w : ℕ) (p : ℕ) → end < p + w → fields register end (w ∷ []) p ≡ refused (at register 1 p)

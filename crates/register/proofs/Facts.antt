@@ -1,12 +1,12 @@
 -- Where the facts of an image that was read stand.
 -- Assumes nothing.
-use mathlib.Core.Path.{_≡_, refl, sym, ap, _∙_, subst}
+use mathlib.Core.Path.{_≡_, sym, ap, _∙_, subst}
 use mathlib.Core.List.{List}
 use Prim.Native.Nat.{ℕ, _+_, _*_, _≤_, _<_}
 use native.Mathlib.Omega.{arith}
 use lib.ListN.{length, getD}
 use Rattle.meaning.specs.Bytes.{number, Bytes}
-use Rattle.meaning.specs.Register.{Link, Register, linkAt, readBuffer}
+use Rattle.meaning.specs.Register.{Register, linkAt}
 use Rattle.meaning.specs.Refusal.{good}
 use Rattle.meaning.proofs.Image.{image-fits, image-names, image-link, link-right}
 use Rattle.register.specs.Image.{Asked, Image, noLink, linkNo}

@@ -1,23 +1,19 @@
 -- Reading link after link: what holds when some are read, and how it ends.
 -- Assumes nothing.
-use mathlib.Core.Path.{_≡_, refl, sym, ap, _∙_, subst}
-use mathlib.Core.Bool.{Bool, true, false}
-use mathlib.Core.List.{List, [], _∷_}
+use mathlib.Core.Path.{_≡_, refl, sym, ap, _∙_}
+use mathlib.Core.List.{List, _∷_}
 use mathlib.Core.Option.{Option, some}
 use mathlib.Core.Option.{none as nowhere}
-use Prim.Native.Nat.{ℕ, zero, suc, _+_, _*_, _-_, _≤_, _<_}
+use Prim.Native.Nat.{ℕ, suc, _+_, _*_, _-_, _≤_, _<_}
 use native.Mathlib.Omega.{arith}
-use lib.Dec.{T, ltb}
-use lib.ListN.{length}
+use lib.Dec.{ltb}
 use Rattle.meaning.specs.declared.Side.the-variants.{Register as register}
 use Rattle.meaning.specs.declared.Refusal.{Refusal}
-use Rattle.meaning.specs.Refusal.{Answer, good, refused, at, refuseIf, _>>=_, _>>_}
+use Rattle.meaning.specs.Refusal.{Answer, good, refused, at, _>>=_, _>>_}
 use Rattle.meaning.specs.Register.{Link, readLink, readLinks}
 use Rattle.meaning.proofs.Reading.{good-inj, pass, stop, stopped, took, taken, below, not-below}
 use Rattle.meaning.proofs.Image.{read-link, read-links-many}
-use Rattle.register.specs.declared.Linked.{Linked}
-use Rattle.register.specs.declared.Linked.the-variants.{Good as GoodLink, Refused as RefusedLink}
-use Rattle.register.specs.Reading.{Counts, key, Floor, paperLink, keyed, linksAnswer}
+use Rattle.register.specs.Reading.{Floor, keyed, linksAnswer}
 
 -- whether reading goes well, and if not, its refusal
 unfoldable pub tested : {A : Type 0} → Answer A → Answer (Unit {0})

@@ -1,21 +1,20 @@
 -- The end of each test at a link, as the code comes to it.
 -- Assumes nothing.
-use mathlib.Core.Path.{_≡_, refl, sym, ap, _∙_, subst}
-use mathlib.Core.Bool.{Bool, true, false, not, cond}
+use mathlib.Core.Path.{_≡_, refl, ap, _∙_}
+use mathlib.Core.Bool.{not}
 use mathlib.Core.List.{List, [], _∷_}
-use mathlib.Core.Option.{Option, some}
-use Prim.Native.Nat.{ℕ, _+_, _*_, _-_, _≤_, _<_}
+use mathlib.Core.Option.{Option}
+use Prim.Native.Nat.{ℕ, _+_, _-_, _≤_, _<_}
 use native.Mathlib.Omega.{arith}
 use native.Mathlib.Decide.{decLt}
-use lib.Dec.{T, ltb, leb}
+use lib.Dec.{ltb, leb}
 use Rattle.meaning.specs.declared.Side.the-variants.{Register as register}
 use Rattle.meaning.specs.Refusal.{Answer, good, refused, at, refuseIf, _>>=_, _>>_}
 use Rattle.meaning.specs.Bytes.{number, fields}
 use Rattle.meaning.specs.Register.{Link, linkAt, above, readLink}
-use Rattle.meaning.proofs.Reading.{pass, stop, stopped, halted, took, below, not-below, at-most, not-le, not-not, fitted, total}
-use Rattle.register.specs.declared.Linked.the-variants.{Good as GoodLink, Refused as RefusedLink}
+use Rattle.meaning.proofs.Reading.{pass, stop, stopped, halted, took, below, not-below, at-most, not-le, fitted}
 use Rattle.register.specs.Reading.{key, Floor, paperLink, keyed, cutAt}
-use Rattle.register.proofs.Rising.{Small, above-floor}
+use Rattle.register.proofs.Rising.{above-floor}
 
 module _ (s : List ℕ) (end n : ℕ) (before : Option Link) (p : ℕ) where
   abbrev answer : Answer ℕ

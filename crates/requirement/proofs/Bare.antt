@@ -1,7 +1,7 @@
 -- Reading a requirement and forgetting its thresholds is reading its names alone: the readers with `labelIn` answer for the tree without thresholds.
 -- Assumes nothing.
-use mathlib.Core.Path.{_≡_, refl, sym, ap, _∙_, subst, fun-ext}
-use mathlib.Core.Bool.{Bool, true, false}
+use mathlib.Core.Path.{_≡_, refl, sym, ap, _∙_}
+use mathlib.Core.Bool.{false}
 use mathlib.Core.List.{List, [], _∷_}
 use Prim.Native.Nat.{ℕ, zero, suc, _+_}
 use lib.Dec.{ltb, leb}
@@ -10,9 +10,9 @@ use Rattle.meaning.specs.declared.Refusal.{Refusal}
 use Rattle.meaning.specs.Refusal.{Answer, good, refused, at, refuseIf, _>>=_, _>>_}
 use Rattle.meaning.specs.Bytes.{number, fields}
 use Rattle.meaning.specs.Tree.{Tree, node, Forest, none, more, Concept, relabel, relabelF}
-use Rattle.meaning.specs.Requirement.{Label, Requirement, bare}
+use Rattle.meaning.specs.Requirement.{Label}
 use Rattle.meaning.specs.Message.{Spot, mostNodes, passed, readChildren, readNode, withThresholds}
-use Rattle.requirement.specs.Reading.{labelIn, nodeIn, childrenIn}
+use Rattle.requirement.specs.Reading.{labelIn, nodeIn}
 
 -- ---- steps put together otherwise
 

@@ -1,13 +1,13 @@
 -- An inner concept that was read again: the rows hold it.
 -- Assumes nothing.
-use mathlib.Core.Path.{_≡_, refl, subst, _∙_}
+use mathlib.Core.Path.{_≡_, refl, subst}
 use mathlib.Core.Bool.{true}
 use mathlib.Core.List.{List, []}
-use Prim.Native.Nat.{ℕ, _≤_}
+use Prim.Native.Nat.{ℕ}
 use native.Mathlib.Omega.{arith}
-use Rattle.meaning.specs.Refusal.{Answer, good}
+use Rattle.meaning.specs.Refusal.{Answer}
 use Rattle.meaning.specs.Tree.{Concept, nodes}
-use Rattle.meaning.specs.Message.{Spot, readInner}
+use Rattle.meaning.specs.Message.{Spot}
 use Rattle.meaning.specs.Rows.{Holds}
 use Rattle.requirement.specs.declared.Read.{Read}
 use Rattle.requirement.specs.Reading.{Arrays, Outcome, ReadGood, NodeHeld, NodeDone, PartsHeld, ConceptDone}

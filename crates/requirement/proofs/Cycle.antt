@@ -6,16 +6,15 @@ use mathlib.Core.List.{List, [], _∷_, _++_}
 use mathlib.Core.Option.{some}
 use mathlib.Core.Option.{none as nowhere}
 use Prim.Native.Nat.{ℕ, zero, suc, _+_, _-_, _≤_, _<_}
-use native.Mathlib.Nat.{le-trans, le-refl}
+use native.Mathlib.Nat.{le-refl}
 use native.Mathlib.Omega.{arith}
 use lib.Dec.{T, T-not, ltb, leb}
 use lib.ListN.{length, getD, set, length-append}
 use lib.Seq.{set-getD}
 use Rattle.meaning.specs.declared.Side.the-variants.{Requirement as requirement}
-use Rattle.meaning.specs.declared.Refusal.{Refusal}
 use Rattle.meaning.specs.Refusal.{Answer, good, refused, at}
 use Rattle.meaning.specs.Bytes.{number}
-use Rattle.meaning.specs.Tree.{Tree, node, Forest, none, more, Concept}
+use Rattle.meaning.specs.Tree.{node, Forest, none, more, Concept}
 use Rattle.meaning.specs.Requirement.{Threshold}
 use Rattle.meaning.specs.Message.{Part, Spot, lawful, readThreshold, readThresholds}
 use Rattle.meaning.specs.Rows.{Holds, HoldsF}
@@ -24,7 +23,7 @@ use Rattle.meaning.proofs.Tests.{is-true, is-false, of-not}
 use Rattle.meaning.proofs.Reading.{at-most, not-le}
 use Rattle.requirement.specs.declared.Read.{Read}
 use Rattle.requirement.specs.declared.Read.the-variants.{Good, Refused}
-use Rattle.requirement.specs.Reading.{spot, Arrays, arrays, Parted, parted, PartsHeld, RowsKept, refusalOf, Further, nodeIn, childrenIn, ReadGood, Outcome, NodeHeld, NodeDone, ForestHeld, ChildrenDone, PartsGood, PartsOutcome, ThresholdsDone, ThresholdDone, wholeInner, InnerOutcome, InnerDone}
+use Rattle.requirement.specs.Reading.{spot, Arrays, arrays, Parted, parted, PartsHeld, RowsKept, refusalOf, nodeIn, childrenIn, ReadGood, Outcome, NodeHeld, NodeDone, ForestHeld, ChildrenDone, PartsGood, PartsOutcome, ThresholdsDone, ThresholdDone, InnerOutcome, InnerDone}
 use Rattle.reduction.specs.Held.{Held, ForTree}
 use Rattle.requirement.proofs.Outcomes.{outcome-refused, outcome-good, is-refused, is-good, parts-refused, parts-good, parts-is-refused, parts-is-good}
 use Rattle.requirement.proofs.Nodes.{ends-at, node-thresholds, node-children, node-good, children-none, child-refused, rest-refused, rest-good, kept-trans, forest-held, node-held, node-kept}

@@ -1,9 +1,9 @@
 -- Where an inner concept stands, and that its bytes are that part of the message.
 -- Assumes nothing.
-use mathlib.Core.Path.{_≡_, refl, sym, ap, _∙_, subst}
+use mathlib.Core.Path.{_≡_, refl, sym, ap, _∙_}
 use mathlib.Core.List.{List, [], _∷_}
 use mathlib.Core.List.{List·Memᴰ, List·Memᴰ·head, List·Memᴰ·tail}
-use mathlib.Core.List.{Forall₂, Forall₂·nil, Forall₂·cons}
+use mathlib.Core.List.{Forall₂, Forall₂·cons}
 use Prim.Native.Nat.{ℕ, zero, suc, _+_, _≤_, _<_}
 use native.Mathlib.Omega.{arith}
 use lib.ListN.{length, getD, take, drop}
@@ -12,7 +12,7 @@ use Rattle.meaning.specs.Refusal.{Answer, good, refused}
 use Rattle.meaning.specs.Tree.{nodes}
 use Rattle.meaning.specs.Bytes.{number, Bytes}
 use Rattle.meaning.specs.Requirement.{Threshold, Requirement}
-use Rattle.meaning.specs.Message.{Part, readRequirement, kth, partBytes, partOf, innerPart, thresholdsOf}
+use Rattle.meaning.specs.Message.{Part, readRequirement, kth, partOf, innerPart, thresholdsOf}
 use Rattle.meaning.proofs.MessageLabel.{PartAt}
 use Rattle.meaning.proofs.Message.{Accepted, read-back, parts-stand, parts-inside}
 use Rattle.requirement.specs.declared.Place.{Place}

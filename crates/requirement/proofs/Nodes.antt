@@ -5,24 +5,20 @@ use mathlib.Core.Bool.{Bool, true, false, _&&_, cond}
 use mathlib.Core.List.{List, [], _∷_}
 use Prim.Native.Nat.{ℕ, zero, suc, _+_, _-_, _≤_, _<_}
 use native.Mathlib.Decide.{decLt}
-use native.Mathlib.Nat.{le-trans}
-use native.Mathlib.Numerals.{sub-one}
 use native.Mathlib.Omega.{arith}
-use lib.Dec.{T, ltb, leb}
+use lib.Dec.{ltb, leb}
 use lib.ListN.{length, getD, set}
 use lib.Seq.{getD-set-same, getD-set-other}
 use Rattle.meaning.specs.declared.Side.the-variants.{Requirement as requirement}
 use Rattle.meaning.specs.declared.Refusal.{Refusal}
-use Rattle.meaning.specs.Refusal.{Answer, good, refused, at, refuseIf, _>>=_, _>>_}
+use Rattle.meaning.specs.Refusal.{Answer, good, refused, at, _>>=_, _>>_}
 use Rattle.meaning.specs.Bytes.{number, fields}
-use Rattle.meaning.specs.Tree.{Tree, node, Forest, none, more, Concept}
+use Rattle.meaning.specs.Tree.{node, Forest, none, more, Concept}
 use Rattle.meaning.specs.Requirement.{Threshold}
-use Rattle.meaning.specs.Message.{Part, Spot, entered, passed, readChildren, readNode, noThresholds, readThresholds, withThresholds}
+use Rattle.meaning.specs.Message.{Part, Spot, entered, readChildren, readNode, noThresholds, readThresholds, withThresholds}
 use Rattle.meaning.specs.Rows.{Holds, HoldsF}
-use Rattle.meaning.proofs.Reading.{good-inj, not-good, le-of-not-below, pass, stop, stopped, halted, took, below, not-below, at-most, not-le, fitted, number-one, then-test, then-take, then-fit}
-use Rattle.requirement.specs.declared.Read.{Read}
-use Rattle.requirement.specs.declared.Read.the-variants.{Good, Refused}
-use Rattle.requirement.specs.Reading.{spot, Arrays, arrays, Parted, parted, Kept, RowsKept, NodeHeld, ForestHeld, labelIn, nodeIn, childrenIn}
+use Rattle.meaning.proofs.Reading.{good-inj, not-good, le-of-not-below, pass, stop, stopped, halted, took, below, not-below, at-most, not-le, fitted}
+use Rattle.requirement.specs.Reading.{spot, Arrays, Parted, RowsKept, NodeHeld, ForestHeld, labelIn, nodeIn, childrenIn}
 use Rattle.requirement.proofs.Same.{tree-some, tree-same, forest-same}
 
 suc-of : (k : ℕ) → 0 < k → suc (k - 1) ≡ k

@@ -1,12 +1,12 @@
 -- Reading thresholds and their inner concepts: each end, as the code comes to it.
 -- Assumes nothing.
-use mathlib.Core.Path.{_≡_, refl, sym, ap, _∙_, subst}
+use mathlib.Core.Path.{_≡_, refl, sym, ap, _∙_}
 use mathlib.Core.Bool.{Bool, true, false, _&&_, not, cond}
 use mathlib.Core.List.{List, [], _∷_, _++_}
 use Prim.Native.Nat.{ℕ, zero, suc, _+_, _-_, _≤_, _<_}
 use native.Mathlib.Decide.{decLt}
 use native.Mathlib.Omega.{arith}
-use lib.Dec.{T, ltb, leb}
+use lib.Dec.{ltb, leb}
 use lib.ListN.{length, getD, set, length-append}
 use lib.ListN.{List·getD-append as getD-append}
 use lib.Seq.{getD-set-same, getD-set-other, getD-append-seam}
@@ -20,7 +20,7 @@ use Rattle.meaning.specs.Reduce.{reduce, size, mostSize}
 use Rattle.meaning.specs.Requirement.{Threshold}
 use Rattle.meaning.specs.Message.{Part, Spot, lawful, comparison, readInner, readThreshold, readThresholds}
 use Rattle.meaning.proofs.Reading.{pass, stop, stopped, halted, took, below, not-below, at-most, not-le, fitted}
-use Rattle.requirement.specs.Reading.{spot, Parted, parted, noPart, PartsHeld, nodeIn, wholeInner}
+use Rattle.requirement.specs.Reading.{spot, parted, noPart, PartsHeld, nodeIn, wholeInner}
 
 -- ---- one after the other
 

@@ -1,7 +1,7 @@
 -- A message is its head, its tree, and nothing behind it.
 -- Assumes nothing.
 use mathlib.Core.Path.{_≡_, refl, sym, ap, _∙_, subst}
-use mathlib.Core.Bool.{Bool, true, false}
+use mathlib.Core.Bool.{false}
 use mathlib.Core.List.{List, []}
 use Prim.Native.Nat.{ℕ, suc, _+_, _≤_, _<_}
 use native.Mathlib.Omega.{arith}
@@ -9,19 +9,18 @@ use lib.Dec.{ltb}
 use lib.ListN.{length}
 use Rattle.meaning.specs.declared.Side.the-variants.{Requirement as requirement}
 use Rattle.meaning.specs.declared.Refusal.{Refusal}
-use Rattle.meaning.specs.Refusal.{Answer, good, refused, at, refuseIf, _>>=_, _>>_}
+use Rattle.meaning.specs.Refusal.{Answer, good, refused, at, _>>=_, _>>_}
 use Rattle.meaning.specs.Bytes.{Bytes, readHead, unequal}
 use Rattle.meaning.proofs.Head.{read-head}
 use Rattle.meaning.specs.Tree.{Tree, node, Forest, none, more, Concept, nodes, nodesF, relabel, relabelF}
 use Rattle.meaning.specs.Requirement.{Label, Requirement, bare}
-use Rattle.meaning.specs.Message.{Part, Spot, readNode, withThresholds, readRequirement}
+use Rattle.meaning.specs.Message.{Spot, readNode, withThresholds, readRequirement}
 use Rattle.meaning.specs.Rows.{Holds, HoldsF}
 use Rattle.meaning.proofs.Reading.{number-below, pass, stop, stopped, took, taken, below, not-below, good-inj}
 use Rattle.requirement.specs.declared.Read.{Read}
 use Rattle.requirement.specs.declared.Read.the-variants.{Good, Refused}
-use Rattle.requirement.specs.declared.Message.{Message}
-use Rattle.requirement.specs.declared.Message.the-variants.{Good as GoodMessage, Refused as RefusedMessage}
-use Rattle.requirement.specs.Reading.{spot, Arrays, PartsHeld, nodeIn, Outcome, ReadGood, NodeHeld, NodeDone, refusedAt, MessageGood, MessageOutcome, MessageDone}
+use Rattle.requirement.specs.declared.Message.the-variants.{Good as GoodMessage}
+use Rattle.requirement.specs.Reading.{spot, Arrays, PartsHeld, nodeIn, Outcome, ReadGood, NodeHeld, NodeDone, refusedAt, MessageOutcome, MessageDone}
 use Rattle.requirement.proofs.Outcomes.{outcome-refused, outcome-good}
 use Rattle.requirement.proofs.Bare.{names, bareTree, bare-node}
 

@@ -1,12 +1,12 @@
 -- Each end of the calls, as the code comes to it.
 -- Assumes nothing.
 use mathlib.Core.Path.{_≡_, refl, sym, ap, ap₂, _∙_, subst}
-use mathlib.Core.Bool.{Bool, true, false, _&&_, _||_, not, cond}
+use mathlib.Core.Bool.{Bool, true, false, _||_}
 use mathlib.Core.List.{List, _++_}
-use Prim.Native.Nat.{ℕ, _+_, _*_, _-_, _/_, _%_, _≤_, _<_, min}
+use Prim.Native.Nat.{ℕ, _+_, _*_, _-_, _≤_, _<_, min}
 use native.Mathlib.Omega.{arith}
-use lib.Dec.{T, ltb, leb, eqb, eqb→eq}
-use lib.ListN.{length, getD, take, drop}
+use lib.Dec.{ltb, leb, eqb, eqb→eq}
+use lib.ListN.{length, take, drop}
 use Rattle.meaning.specs.declared.Fact.{Fact}
 use Rattle.meaning.specs.declared.Fact.the-variants.{Name as nameOn, Link as linkOf}
 use Rattle.meaning.specs.declared.Step.{Step}
@@ -14,17 +14,17 @@ use Rattle.meaning.specs.declared.Refusal.{Refusal}
 use Rattle.meaning.specs.Refusal.{Answer, good, refused, onCall, refuseIf, _>>=_, _>>_}
 use Rattle.meaning.specs.Bytes.{Bytes}
 use Rattle.meaning.specs.Register.{Register, isFact, encode, readBuffer, readRegisterBy}
-use Rattle.meaning.specs.Session.{zeros, Edit, setFact, cleared, rewritten, room, outOfRange, roleAbove, noPlace, Changed}
+use Rattle.meaning.specs.Session.{zeros, setFact, cleared, room, outOfRange, roleAbove, noPlace, Changed}
 use Rattle.meaning.specs.Session.{openCall, editCall, undoCall, keepCall, noSteps, counted, bufferOpened, bufferAfter}
-use Rattle.meaning.proofs.Tests.{is-false, neither, neither-of}
-use Rattle.meaning.proofs.Reading.{good-inj, pass, stop, stopped, took, taken, below, not-below, at-most, not-le, lt-of-not-le, le-of-not-below}
+use Rattle.meaning.proofs.Tests.{is-false, neither}
+use Rattle.meaning.proofs.Reading.{good-inj, pass, stop, stopped, took, taken, below, not-below, at-most, not-le}
 use Rattle.meaning.proofs.Image.{image-length, image-fits}
-use Rattle.meaning.proofs.SessionCalls.{differs, EditPassed, edit-passed}
+use Rattle.meaning.proofs.SessionCalls.{edit-passed}
 use Rattle.meaning.proofs.SessionFacts.{Sounds, sounds}
 use Rattle.fields.specs.Head.{wrongIn}
 use Rattle.register.specs.declared.Reading.{Reading}
 use Rattle.register.specs.declared.Reading.the-variants.{Good as GoodReading, Refused as RefusedReading}
-use Rattle.register.specs.Image.{Asked, Image}
+use Rattle.register.specs.Image.{Asked}
 use Rattle.register.specs.Reading.{Counts}
 use Rattle.register.specs.Reading.{paper as paperReading, counted as sized}
 use Rattle.session.specs.declared.Setting.{Setting}

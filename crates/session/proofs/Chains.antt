@@ -1,20 +1,20 @@
 -- One call after the other: the lists that the stores of an insertion and a removal pass through, and the facts that a search passes.
 -- Assumes nothing.
-use mathlib.Core.Path.{_≡_, refl, sym, ap, ap₂, _∙_, subst}
-use mathlib.Core.Bool.{Bool, true, false, _&&_}
+use mathlib.Core.Path.{_≡_, sym, ap, ap₂, _∙_, subst}
+use mathlib.Core.Bool.{Bool, false, _&&_}
 use mathlib.Core.List.{List}
 use Prim.Native.Nat.{ℕ, _+_, _*_, _-_, _≤_, _<_}
 use native.Mathlib.Omega.{arith}
 use native.Mathlib.Decide.{decLt}
 use lib.Dec.{ltb, eqb}
-use lib.ListN.{length, getD}
+use lib.ListN.{length}
 use lib.Seq.{sets}
 use Rattle.meaning.specs.Refusal.{good}
 use Rattle.meaning.specs.Bytes.{bytes, Bytes}
-use Rattle.meaning.specs.Register.{Link, Register, readBuffer}
+use Rattle.meaning.specs.Register.{Register, readBuffer}
 use Rattle.meaning.specs.Session.{link}
 use Rattle.meaning.proofs.Reading.{below, not-below}
-use Rattle.register.specs.Image.{Asked, Image, noLink, linkNo}
+use Rattle.register.specs.Image.{Image, linkNo}
 use Rattle.register.specs.Reading.{key}
 use Rattle.session.specs.Moved.{movedUp, movedDown}
 use Rattle.session.specs.Setting.{PlaceOf, bufferInserted, bufferRemoved}

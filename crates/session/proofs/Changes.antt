@@ -1,18 +1,17 @@
 -- What the stores of the code make of a buffer that begins with an image: the image of the changed register.
 -- Assumes nothing.
-use mathlib.Core.Path.{_≡_, refl, sym, ap, ap₂, _∙_, subst}
-use mathlib.Core.List.{List, [], _∷_, _++_, append-assoc, append-nil}
-use Prim.Native.Nat.{ℕ, zero, suc, _+_, _*_, _-_, _≤_, _<_, max}
+use mathlib.Core.Path.{_≡_, refl, sym, ap, ap₂, _∙_}
+use mathlib.Core.List.{List, _∷_, _++_, append-assoc, append-nil}
+use Prim.Native.Nat.{ℕ, suc, _+_, _*_, _-_, _≤_, _<_, max}
 use native.Mathlib.Omega.{arith}
-use lib.Dec.{T}
-use lib.ListN.{length, getD, set, take, drop, length-append, length-take, length-drop, length-set, length-replicate, take-append-drop}
-use lib.Seq.{sets, take-append-seam, drop-drop, drop-cons, length-take-le, set-split, split-at}
+use lib.ListN.{length, getD, set, take, drop, length-append, length-drop, length-set, length-replicate, take-append-drop}
+use lib.Seq.{sets, drop-drop, length-take-le, set-split, split-at}
 use Rattle.meaning.specs.Refusal.{good}
 use Rattle.meaning.specs.Bytes.{number, bytes, Bytes}
-use Rattle.meaning.specs.Register.{Link, Register, linkBytes, itemsBytes, linksBytes, encode, readBuffer, wellFormed}
+use Rattle.meaning.specs.Register.{Link, Register, linkBytes, itemsBytes, linksBytes, encode, readBuffer}
 use Rattle.meaning.specs.Session.{zeros, rewritten}
-use Rattle.meaning.proofs.Reading.{bytes-length, Stands, stands-taken}
-use Rattle.meaning.proofs.Image.{items-length, links-length, link-length, image-length, read-buffer, image-fits}
+use Rattle.meaning.proofs.Reading.{bytes-length, stands-taken}
+use Rattle.meaning.proofs.Image.{items-length, links-length, link-length, image-length, read-buffer}
 use Rattle.register.specs.Image.{noLink}
 use Rattle.register.specs.Reading.{key}
 use Rattle.session.specs.Moved.{movedUp, movedDown}

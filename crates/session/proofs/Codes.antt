@@ -6,7 +6,7 @@ use mathlib.Core.List.{List, [], _∷_, map}
 use Prim.Native.Nat.{ℕ, zero, suc, _+_, _*_, _-_, _/_, _%_, _≤_, _<_}
 use native.Mathlib.Omega.{arith}
 use lib.Dec.{eqb, eqb→eq}
-use lib.ListN.{length, getD, set, length-map}
+use lib.ListN.{length, getD, set}
 use lib.ListN.{List·getD-map as getD-map}
 use Rattle.meaning.specs.declared.Fact.{Fact}
 use Rattle.meaning.specs.declared.Fact.the-variants.{Name as nameOn, Link as linkOf}
@@ -15,7 +15,7 @@ use Rattle.meaning.specs.declared.Refusal.{Refusal}
 use Rattle.meaning.specs.Refusal.{Answer, good, refused}
 use Rattle.meaning.specs.Bytes.{Bytes}
 use Rattle.meaning.specs.Register.{isFact}
-use Rattle.meaning.specs.Session.{link, Changed, stepOf, noStep, editCall, undoCall, counted, bufferAfter, logAfter}
+use Rattle.meaning.specs.Session.{link, Changed, noStep, editCall, undoCall, counted, bufferAfter, logAfter}
 use Rattle.meaning.proofs.Tests.{is-true, is-false, is-eqb}
 use Rattle.register.specs.Reading.{key}
 use Rattle.session.specs.declared.Counted.{Counted}

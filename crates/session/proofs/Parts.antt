@@ -1,22 +1,18 @@
 -- The image as parts that stand one after the other, and what the stores of an insertion, a removal and a set of names make of them.
 -- Assumes nothing.
-use mathlib.Core.Path.{_≡_, refl, sym, ap, ap₂, _∙_, subst}
-use mathlib.Core.List.{List, [], _∷_, _++_, append-assoc, append-nil}
-use Prim.Native.Nat.{ℕ, zero, suc, _+_, _*_, _-_, _/_, _%_, _≤_, _<_}
+use mathlib.Core.Path.{_≡_, refl, sym, ap, ap₂, _∙_}
+use mathlib.Core.List.{List, [], _∷_, _++_, append-assoc}
+use Prim.Native.Nat.{ℕ, _+_, _*_, _-_, _/_, _%_, _≤_, _<_}
 use native.Mathlib.Omega.{arith}
-use lib.Dec.{T}
-use lib.ListN.{length, getD, set, take, drop, length-append, length-take, length-drop, length-replicate, take-append-drop}
-use lib.Seq.{sets, slice, sets-eq, take-at, drop-at, take-append-add, drop-append-add, length-take-le, set-split, split-at, take-append-seam}
-use Rattle.meaning.specs.Bytes.{number, bytes, Bytes, headed}
+use lib.ListN.{length, take, drop, length-append, length-drop}
+use lib.Seq.{sets, slice, sets-eq, take-at, drop-at, take-append-add, drop-append-add, length-take-le, take-append-seam}
+use Rattle.meaning.specs.Bytes.{bytes, headed}
 use Rattle.meaning.specs.Register.{Link, Register, linkBytes, itemsBytes, linksBytes, encode}
-use Rattle.meaning.specs.Session.{zeros}
-use Rattle.meaning.proofs.Reading.{bytes-length, Stands, stands-taken}
+use Rattle.meaning.proofs.Reading.{bytes-length}
 use Rattle.meaning.proofs.Head.{headed-length}
-use Rattle.meaning.proofs.Image.{items-length, links-length, link-length, image-length}
+use Rattle.meaning.proofs.Image.{items-length, image-length}
 use Rattle.register.specs.Reading.{key}
-use Rattle.register.proofs.Rising.{Small}
 use Rattle.session.specs.Moved.{movedUp, movedDown}
-use Rattle.session.specs.Setting.{insertedAt, removedAt, bufferInserted, bufferRemoved}
 
 -- ---- stores between parts
 

@@ -1,18 +1,17 @@
 -- Where a link stands, or is to stand, in the order.
 -- Assumes nothing.
-use mathlib.Core.Path.{_≡_, refl, sym, ap, ap₂, _∙_, subst}
+use mathlib.Core.Path.{_≡_, refl, sym, ap, _∙_, subst}
 use mathlib.Core.Logic.{_⊎_, inl, inr}
 use mathlib.Core.Bool.{Bool, true, false, _&&_, _||_, cond}
 use mathlib.Core.List.{List, [], _∷_, _++_, List·Memᴰ, List·Memᴰ·cases-cons}
 use mathlib.Core.Option.{Option, some}
-use mathlib.Core.Option.{none as nowhere}
 use Prim.Native.Nat.{ℕ, zero, suc, _+_, _*_, _≤_, _<_}
 use native.Mathlib.Omega.{arith}
-use lib.Dec.{T, ltb, leb, eqb, eqb→eq, lt→ltb, ltb→lt}
+use lib.Dec.{T, ltb, eqb, eqb→eq, lt→ltb, ltb→lt}
 use lib.ListN.{length, getD, take, drop}
 use Rattle.meaning.specs.Register.{Link, sameLink, anyLink, rises, linksOf}
 use Rattle.meaning.specs.Session.{insert, without}
-use Rattle.meaning.proofs.Tests.{holds, is-true, is-false, true-false, bool-eq, is-eqb, both-and, and-both}
+use Rattle.meaning.proofs.Tests.{holds, is-true, is-false, true-false, bool-eq, is-eqb, both-and}
 use Rattle.meaning.proofs.Reading.{at-most, not-le, below, not-below}
 use Rattle.meaning.proofs.Image.{right}
 use Rattle.meaning.proofs.Links.{same-link, Below, rises-below, all-below}

@@ -8,17 +8,16 @@ use Prim.Native.Nat.{ℕ, _-_}
 use native.Mathlib.Omega.{arith}
 use lib.ListN.{length, getD, length-map}
 use Rattle.meaning.specs.declared.Step.{Step}
-use Rattle.meaning.specs.declared.Refusal.{Refusal}
-use Rattle.meaning.specs.Refusal.{Answer, good, refused}
+use Rattle.meaning.specs.Refusal.{Answer, good}
 use Rattle.meaning.specs.Register.{Register, isFact, readBuffer}
 use Rattle.meaning.specs.Session.{Edit, Changed, Call, opens, edits, undoes, keeps, editCall, undoCall, keepCall, noSteps, counted, bufferAfter, logAfter, imageOf}
-use Rattle.meaning.specs.Session.{Session, noStep, lastStep, answer, buffer, log, countAfter, next, play, keptIf, accepted, Standing, nothing, told, standing, standingFacts}
+use Rattle.meaning.specs.Session.{Session, lastStep, answer, buffer, log, countAfter, next, play, keptIf, accepted, Standing, nothing, told, standing, standingFacts}
 use Rattle.meaning.specs.Demand3.{Shows}
 use Rattle.meaning.proofs.Reading.{good-inj}
 use Rattle.session.specs.declared.Counted.{Counted}
 use Rattle.session.specs.declared.Counted.the-variants.{Good, Refused}
 use Rattle.session.specs.Coded.{decoded}
-use Rattle.session.specs.Calls.{paper, anEdit, numbersAfter}
+use Rattle.session.specs.Calls.{paper}
 use Rattle.session.specs.Played.{Lent, lent, steps, Promised, Called, Result, Played, calls, taken}
 use Rattle.session.proofs.Answered.{refused-inj}
 use Rattle.session.proofs.Codes.{last-decoded, log-decoded}

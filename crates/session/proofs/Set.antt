@@ -2,26 +2,26 @@
 -- Assumes nothing.
 use mathlib.Core.Path.{_≡_, refl, sym, ap, ap₂, _∙_, subst}
 use mathlib.Core.Bool.{Bool, true, false, _&&_, _||_, not}
-use mathlib.Core.List.{List, [], _∷_, _++_, append-nil}
+use mathlib.Core.List.{List, _∷_, _++_, append-nil}
 use mathlib.Core.Option.{none as nowhere}
 use Prim.Native.Nat.{ℕ, suc, _+_, _*_, _-_, _≤_, _<_, max}
 use native.Mathlib.Omega.{arith}
-use lib.Dec.{T, ltb, leb, eqb, ltb→lt}
-use lib.ListN.{length, getD, set, take, drop, length-append, length-take, length-drop}
+use lib.Dec.{ltb, leb, eqb, ltb→lt}
+use lib.ListN.{length, getD, set, take, drop, length-append, length-drop}
 use lib.Seq.{length-take-le}
 use Rattle.meaning.specs.declared.Fact.{Fact}
 use Rattle.meaning.specs.declared.Fact.the-variants.{Name as nameOn, Link as linkOf}
 use Rattle.meaning.specs.Refusal.{good}
 use Rattle.meaning.specs.Bytes.{Bytes}
 use Rattle.meaning.specs.Names.{has}
-use Rattle.meaning.specs.Register.{Link, Register, anyLink, isFact, mostLinks, encode, readBuffer, wellFormed}
-use Rattle.meaning.specs.Session.{link, zeros, withName, withLink, insert, without, setFact, rewritten, noPlace}
-use Rattle.meaning.proofs.Tests.{holds, is-true, true-false, neither, or-right, and-both}
+use Rattle.meaning.specs.Register.{Link, Register, isFact, mostLinks, encode, readBuffer}
+use Rattle.meaning.specs.Session.{link, zeros, withName, setFact, rewritten, noPlace}
+use Rattle.meaning.proofs.Tests.{holds, neither, and-both}
 use Rattle.meaning.proofs.Reading.{good-inj, at-most, not-le, below, not-below}
-use Rattle.meaning.proofs.Image.{image-length, read-buffer, fits, image-fits}
-use Rattle.meaning.proofs.SessionFacts.{Sounds, set-same}
-use Rattle.meaning.proofs.SessionLinks.{among, Sound}
-use Rattle.register.specs.Image.{Asked, Image, noLink, linkNo}
+use Rattle.meaning.proofs.Image.{image-length, read-buffer, image-fits}
+use Rattle.meaning.proofs.SessionFacts.{set-same}
+use Rattle.meaning.proofs.SessionLinks.{Sound}
+use Rattle.register.specs.Image.{Asked, Image, linkNo}
 use Rattle.register.specs.Reading.{key}
 use Rattle.session.specs.declared.Setting.{Setting}
 use Rattle.session.specs.declared.Setting.the-variants.{Done, NoPlace}

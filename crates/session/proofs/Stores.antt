@@ -1,18 +1,17 @@
 -- Loops that store bytes: one turn of each, and its end.
 -- Assumes nothing.
-use mathlib.Core.Path.{_≡_, refl, sym, ap, ap₂, _∙_, subst}
+use mathlib.Core.Path.{_≡_, refl, sym, ap, ap₂, _∙_}
 use mathlib.Core.List.{List, [], _∷_, _++_, append-assoc, append-nil}
-use Prim.Native.Nat.{ℕ, zero, suc, _+_, _-_, _/_, _%_, _≤_, _<_}
-use native.Mathlib.Nat.{add-zero}
+use Prim.Native.Nat.{ℕ, suc, _+_, _-_, _/_, _%_, _≤_, _<_}
 use native.Mathlib.Omega.{arith}
-use lib.ListN.{length, getD, set, take, drop, length-append, length-take, length-drop, length-set, length-replicate, replicate-append-replicate, take-append-drop}
+use lib.ListN.{length, getD, set, take, drop, length-append, length-replicate, replicate-append-replicate, take-append-drop}
 use lib.ListN.{List·getD-append as getD-append}
 use lib.Seq.{sets, slice, set-comm, set-at, take-suc, drop-cons, slice-cons, slice-empty, length-slice, drop-append-le, getD-take, getD-drop, getD-append-add, length-take-le}
 use Rattle.meaning.specs.Bytes.{bytes}
 use Rattle.meaning.specs.Session.{zeros}
 use Rattle.meaning.proofs.Reading.{bytes-length}
 use Rattle.meaning.proofs.Stores.{sets-append}
-use Rattle.session.specs.Moved.{movedUp, movedDown}
+use Rattle.session.specs.Moved.{movedDown}
 
 -- ---- a number, from its lowest byte up
 

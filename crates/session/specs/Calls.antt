@@ -1,13 +1,10 @@
 -- What the calls answer, in the document's words.
 -- Assumes nothing.
-use mathlib.Core.Path.{_≡_}
-use mathlib.Core.Bool.{Bool, true, false}
-use mathlib.Core.List.{List, map}
-use Prim.Native.Nat.{ℕ, _-_, _<_}
-use lib.ListN.{length, getD, set}
+use mathlib.Core.Bool.{Bool}
+use mathlib.Core.List.{List}
+use Prim.Native.Nat.{ℕ}
+use lib.ListN.{set}
 use Rattle.meaning.specs.declared.Fact.{Fact}
-use Rattle.meaning.specs.declared.Step.{Step}
-use Rattle.meaning.specs.declared.Refusal.{Refusal}
 use Rattle.meaning.specs.Refusal.{Answer, good, refused}
 use Rattle.meaning.specs.Register.{isFact}
 use Rattle.meaning.specs.Session.{Changed, Edit}

@@ -5,9 +5,8 @@ use mathlib.Core.Path.{_≡_}
 use mathlib.Core.List.{List, [], _∷_, map}
 use Prim.Native.Nat.{ℕ, _-_}
 use lib.ListN.{length, getD}
-use Rattle.meaning.specs.Refusal.{Answer}
 use Rattle.meaning.specs.Bytes.{Bytes}
-use Rattle.meaning.specs.Session.{Edit, Session, Call, opens, edits, undoes, keeps, openCall, editCall, undoCall, keepCall}
+use Rattle.meaning.specs.Session.{Session, Call, opens, edits, undoes, keeps, openCall, editCall, undoCall, keepCall}
 use Rattle.meaning.specs.Session.{noSteps, counted, bufferOpened, bufferAfter, countAfter, keptIf}
 use Rattle.session.specs.declared.Counted.{Counted}
 use Rattle.session.specs.Coded.{decoded}

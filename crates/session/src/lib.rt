@@ -15,7 +15,7 @@ use register::Reading;
 ghost use mathlib.Core.Path.{_≡_};
 ghost use mathlib.Core.Bool.{true, _&&_};
 ghost use mathlib.Core.List.{_++_};
-ghost use Prim.Native.Nat.{min, _+_, _*_, _-_, _/_, _%_, _^_, _≤_, _<_};
+ghost use Prim.Native.Nat.{min, _+_, _*_, _-_, _/_, _%_, _≤_, _<_};
 ghost use lib.Dec.{eqb, ltb};
 ghost use lib.ListN.{length, take, getD};
 ghost use lib.Seq.{sets};

@@ -16,17 +16,16 @@ use Rattle.degree.proofs.passed.Reads as passed-reads
 use Rattle.degree.proofs.wide.Reads as wide-reads
 use Rattle.degree.proofs.+others+work.{statement}
 use Rattle.degree.proofs.+others+work.Tie.{close}
-use mathlib.Core.Path.{_≡_, refl, sym, ap, subst, _∙_}
-use mathlib.Core.List.{List, _++_}
+use mathlib.Core.Path.{_≡_, refl, sym, subst, _∙_}
 use Prim.Native.Nat.{_+_, _-_, _*_, _≤_}
 use native.Mathlib.Omega.{arith}
-use lib.ListN.{length, getD, replicate, drop, take, length-replicate}
+use lib.ListN.{length, length-replicate}
 use lib.Seq.{length-take-le, length-front}
 use Rattle.fields.proofs.Known.{bytes-known}
 use Rattle.degree.specs.Case.{Case}
 use Rattle.degree.specs.Heavy.{Heavy, Headed}
 use Rattle.degree.proofs.Cases.{here}
-use Rattle.degree.proofs.Working.{written, alone-worked, alone-noted, heavy-tree, heavy-case, heavy-inside, heavy-clear, heavy-fits, heavy-empty, heavy-outside, headed, Going, first-fits, going-start, going-inside, going-pass, going-case, going-clear, going-count, going-product, going-fits, going-empty, going-next, going-fits-all, going-worked, going-noted}
+use Rattle.degree.proofs.Working.{written, alone-worked, alone-noted, heavy-case, heavy-inside, heavy-clear, heavy-fits, heavy-empty, heavy-outside, headed, Going, going-start, going-inside, going-pass, going-case, going-clear, going-count, going-product, going-fits, going-empty, going-next, going-fits-all, going-worked, going-noted}
 use borrow.Author.Needs.{needs}
 
 abbrev μ-others : Measures 8 others-kinds.ps ℕ

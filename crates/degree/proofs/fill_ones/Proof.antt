@@ -2,7 +2,7 @@ use Rattle.degree.proofs.fill_ones.Statement.{statement}
 use Rattle.degree.proofs.fill_ones.Tie as tie
 use Rattle.degree.proofs.fill_ones.Reads as reads
 use Rattle.degree.proofs.fill_ones.Lts as lts
-use Prim.Native.Nat.{_-_, ℕ}
+use Prim.Native.Nat.{_-_}
 use native.Mathlib.Omega.{arith}
 use mathlib.Core.Path.{refl}
 use lib.ListN.{length}

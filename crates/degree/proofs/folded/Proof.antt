@@ -4,7 +4,7 @@ use Rattle.degree.proofs.folded.Tie as tie
 use Rattle.degree.proofs.folded.Reads as reads
 use Rattle.degree.proofs.folded.Lts as lts
 use Rattle.degree.proofs.broad.Reads as broad-reads
-use mathlib.Core.Path.{_≡_, sym, ap, ap₂, _∙_}
+use mathlib.Core.Path.{ap, ap₂}
 use Prim.Native.Nat.{ℕ, _*_, _+_}
 use native.Mathlib.Omega.{arith}
 

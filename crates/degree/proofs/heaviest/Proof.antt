@@ -1,8 +1,8 @@
 use Rattle.degree.proofs.heaviest.Statement.{statement}
 use Rattle.degree.proofs.heaviest.Tie as tie
-use mathlib.Core.Path.{_≡_, sym, subst}
+use mathlib.Core.Path.{sym, subst}
 use Prim.Native.Nat.{ℕ}
-use Prim.Native.Nat.{_+_, _-_, _≤_, _<_}
+use Prim.Native.Nat.{_+_, _-_}
 use native.Mathlib.Omega.{arith}
 use Rattle.degree.specs.Heavy.{Written}
 use Rattle.degree.proofs.Seeking.{Sought, start-inside, sought-start, sought-inside, sought-pass, sought-take, sought-end}

@@ -1,10 +1,10 @@
 use borrow.Author.Needs.{needs}
 use Rattle.degree.proofs.lowest.Statement.{statement}
 use Rattle.degree.proofs.lowest.Tie as tie
-use mathlib.Core.Path.{_≡_, sym, ap, subst}
-use Prim.Native.Nat.{ℕ, _/_, _<_}
+use mathlib.Core.Path.{ap}
+use Prim.Native.Nat.{ℕ, _/_}
 use native.Mathlib.Omega.{arith}
-use Rattle.meaning.specs.Fraction.{gcd, lowest}
+use Rattle.meaning.specs.Fraction.{lowest}
 use Rattle.meaning.proofs.Lowest.{gcd-pos}
 
 common-divisor-requires : tie.Need-common-divisor-requires

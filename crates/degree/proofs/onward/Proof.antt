@@ -1,4 +1,3 @@
-use borrow.Author.Needs.{needs}
 use Rattle.degree.proofs.onward.Statement.{statement}
 use Rattle.degree.proofs.onward.Tie as tie
 use mathlib.Core.Path.{refl}

@@ -3,9 +3,9 @@ use Rattle.degree.proofs.own.Tie as tie
 use Rattle.degree.proofs.own.Reads as reads
 use Rattle.degree.proofs.own.Lts as lts
 use Rattle.register.proofs.names_of.Reads as names-of-reads
-use Prim.Native.Nat.{_-_, ℕ}
+use Prim.Native.Nat.{_-_}
 use native.Mathlib.Omega.{arith}
-use mathlib.Core.Path.{_≡_, _∙_, sym, refl, ap}
+use mathlib.Core.Path.{_≡_, refl, ap}
 use lib.ListN.{length, getD, length-set}
 use Rattle.meaning.specs.Names.{common}
 use Rattle.register.specs.Image.{Image}

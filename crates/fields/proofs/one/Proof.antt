@@ -1,7 +1,6 @@
 use borrow.Author.Needs.{needs}
 use Rattle.fields.proofs.one.Statement.{statement}
 use Rattle.fields.proofs.one.Tie as tie
-use mathlib.Core.Path.{_≡_, sym, _∙_, ap}
 use native.Mathlib.Omega.{arith}
 use Rattle.meaning.proofs.Reading.{number-one}
 

@@ -1,13 +1,13 @@
 use borrow.Author.Needs.{needs}
 use Rattle.fields.proofs.read_head.Statement.{statement}
 use Rattle.fields.proofs.read_head.Tie as tie
-use mathlib.Core.Path.{_≡_, sym, _∙_, ap, subst}
-use Prim.Native.Nat.{ℕ, _+_, _-_, _≤_, _<_}
+use mathlib.Core.Path.{_≡_, sym, _∙_, ap}
+use Prim.Native.Nat.{ℕ, _-_, _≤_, _<_}
 use native.Mathlib.Omega.{arith}
-use lib.ListN.{length, getD}
+use lib.ListN.{length}
 use Rattle.meaning.proofs.Head.{head-short, head-version, head-length, head-good}
 use Rattle.meaning.specs.Refusal.{Answer, good}
-use Rattle.meaning.specs.Bytes.{readHead, number}
+use Rattle.meaning.specs.Bytes.{number}
 use Rattle.fields.specs.Head.{wrongIn}
 use Rattle.fields.proofs.Wrong.{wrong-longer, wrong-shorter, right-front, right-whole}
 

@@ -1,8 +1,6 @@
 use borrow.Author.Needs.{needs}
 use Rattle.fields.proofs.two.Statement.{statement}
 use Rattle.fields.proofs.two.Tie as tie
-use mathlib.Core.Path.{_≡_, sym, _∙_, ap}
-use Prim.Native.Nat.{ℕ, _+_, _*_}
 use native.Mathlib.Omega.{arith}
 use Rattle.meaning.proofs.Reading.{number-two}
 

@@ -3,7 +3,6 @@
 use borrow.Author.Needs.{needs}
 use Rattle.history.proofs.call.Statement.{statement}
 use Rattle.history.proofs.call.Tie as tie
-use mathlib.Core.Path.{_≡_, refl}
 use Rattle.history.proofs.Histories.{first, second, third, fourth, fifth, sixth, none-of-them, called}
 
 open-requires : tie.Need-open-requires

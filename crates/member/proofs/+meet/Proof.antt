@@ -11,11 +11,9 @@ use Rattle.member.proofs.own.Reads as own-reads
 use Rattle.member.proofs.wide.Reads as wide-reads
 use Rattle.member.proofs.+meet.{statement}
 use Rattle.member.proofs.+meet.Tie.{close}
-use Prim.Native.Nat.{_+_, _-_, _*_, _≤_}
+use Prim.Native.Nat.{_+_, _-_}
 use native.Mathlib.Omega.{arith}
-use native.Mathlib.Nat.{le-refl, le-trans}
-use mathlib.Core.Path.{_≡_, refl, sym, ap, subst, _∙_}
-use mathlib.Core.List.{List}
+use mathlib.Core.Path.{_≡_, refl, _∙_}
 use lib.ListN.{length, getD}
 use Rattle.fields.proofs.Known.{bytes-known}
 use Rattle.member.specs.Case.{Case, Outside}

@@ -10,11 +10,10 @@ use Rattle.member.proofs.wide.Reads as wide-reads
 use Rattle.register.proofs.first_link.Reads as first-link-reads
 use Rattle.member.proofs.+walk.{statement}
 use Rattle.member.proofs.+walk.Tie.{close}
-use Prim.Native.Nat.{_+_, _-_, _*_, _≤_}
+use Prim.Native.Nat.{_+_, _-_}
 use native.Mathlib.Omega.{arith}
-use mathlib.Core.Path.{_≡_, refl, sym, ap, subst, _∙_}
-use mathlib.Core.List.{List}
-use lib.ListN.{length, getD, length-set}
+use mathlib.Core.Path.{_≡_, refl, _∙_}
+use lib.ListN.{length, length-set}
 use Rattle.fields.proofs.Known.{bytes-known}
 use Rattle.member.specs.Case.{Walk}
 use Rattle.member.proofs.Cases.{there, Ahead, below, ahead-start, ahead-end, next, goes, next-ahead, next-walk}

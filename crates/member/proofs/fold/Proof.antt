@@ -1,12 +1,12 @@
 -- `member::fold` meets its contract. Assumes nothing.
 use Rattle.member.proofs.fold.Statement.{statement}
 use Rattle.member.proofs.fold.Tie as tie
-use Prim.Native.Nat.{_-_, _≤_, ℕ}
+use Prim.Native.Nat.{_-_, _≤_}
 use native.Mathlib.Omega.{arith}
 use native.Mathlib.Nat.{le-refl}
-use mathlib.Core.Path.{_≡_, _∙_, sym, refl, ap, ap₂}
-use mathlib.Core.Bool.{Bool, _&&_}
-use lib.ListN.{length, getD, length-set}
+use mathlib.Core.Path.{_≡_, _∙_, refl, ap₂}
+use mathlib.Core.Bool.{_&&_}
+use lib.ListN.{length, length-set}
 use Rattle.meaning.specs.Register.{targets}
 use Rattle.meaning.specs.Whole.{any}
 use Rattle.register.specs.Image.{Image, Begins}

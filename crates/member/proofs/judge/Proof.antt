@@ -3,7 +3,7 @@ use Rattle.member.proofs.judge.Statement.{statement}
 use Rattle.member.proofs.judge.Tie as tie
 use Prim.Native.Nat.{_-_, _≤_, ℕ}
 use native.Mathlib.Omega.{arith}
-use mathlib.Core.Path.{_≡_, _∙_, sym, refl, ap}
+use mathlib.Core.Path.{_≡_, _∙_, refl, ap}
 use lib.ListN.{length, getD, length-set}
 use Rattle.meaning.specs.Fraction.{_//_, compares}
 use Rattle.meaning.specs.Message.{comparison}

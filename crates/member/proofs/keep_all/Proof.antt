@@ -1,10 +1,10 @@
 -- `member::keep_all` meets its contract. Assumes nothing.
 use Rattle.member.proofs.keep_all.Statement.{statement}
 use Rattle.member.proofs.keep_all.Tie as tie
-use Prim.Native.Nat.{_-_, _≤_, ℕ}
+use Prim.Native.Nat.{_-_, _≤_}
 use native.Mathlib.Omega.{arith}
-use mathlib.Core.Path.{_≡_, _∙_, sym, refl, ap}
-use lib.ListN.{length, getD}
+use mathlib.Core.Path.{_≡_, _∙_, refl}
+use lib.ListN.{length}
 use Rattle.member.proofs.Fill.{Through, through-none, through-pass, through-take}
 use borrow.Author.Needs.{needs}
 

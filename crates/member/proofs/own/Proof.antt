@@ -3,14 +3,12 @@ use Rattle.member.proofs.own.Statement.{statement}
 use Rattle.member.proofs.own.Tie as tie
 use Prim.Native.Nat.{_-_, _≤_, ℕ}
 use native.Mathlib.Omega.{arith}
-use mathlib.Core.Path.{_≡_, _∙_, sym, refl, ap}
-use mathlib.Core.Bool.{Bool}
+use mathlib.Core.Path.{_≡_, refl, ap}
 use lib.Dec.{eqb}
 use lib.Bits.{bitAnd}
 use lib.ListN.{length, getD, length-set}
 use Rattle.meaning.specs.Names.{within}
 use Rattle.register.specs.Image.{Image}
-use Rattle.register.proofs.Begins.{asked-image}
 use Rattle.member.specs.Table.{Rowed}
 use Rattle.member.proofs.Fill.{rowed-none, rowed-more, rowed-all}
 use borrow.Author.Needs.{needs}

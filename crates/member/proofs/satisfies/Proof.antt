@@ -1,10 +1,10 @@
 -- `member::satisfies` meets its contract. Assumes nothing.
 use Rattle.member.proofs.satisfies.Statement.{statement}
 use Rattle.member.proofs.satisfies.Tie as tie
-use Prim.Native.Nat.{ℕ, _≤_, _*_}
+use Prim.Native.Nat.{_≤_}
 use native.Mathlib.Omega.{arith}
 use native.Mathlib.Nat.{mul-le-mul-right}
-use mathlib.Core.Path.{_≡_, sym, ap}
+use mathlib.Core.Path.{sym, ap}
 use Rattle.meaning.specs.Fraction.{_//_, Comparison, compares}
 use Rattle.member.proofs.Compare.{is-less, is-at-most, is-greater, is-at-least}
 

@@ -1,10 +1,9 @@
 -- `member::seek` meets its contract. Assumes nothing.
 use Rattle.member.proofs.seek.Statement.{statement}
 use Rattle.member.proofs.seek.Tie as tie
-use Prim.Native.Nat.{_-_, _≤_, ℕ}
+use Prim.Native.Nat.{_-_, _≤_}
 use native.Mathlib.Omega.{arith}
-use mathlib.Core.Path.{_∙_, sym, refl}
-use lib.ListN.{length, getD}
+use lib.ListN.{length}
 use Rattle.fields.proofs.Known.{bytes-known}
 use Rattle.register.specs.Image.{Image}
 use Rattle.register.proofs.Begins.{asked-image}

@@ -2,10 +2,7 @@
 use borrow.Author.Needs.{needs}
 use Rattle.member.proofs.settle.Statement.{statement}
 use Rattle.member.proofs.settle.Tie as tie
-use Prim.Native.Nat.{_≤_, _<_, ℕ}
 use native.Mathlib.Omega.{arith}
-use mathlib.Core.Path.{_≡_, _∙_, sym, refl}
-use lib.ListN.{length, getD}
 use Rattle.member.proofs.Cases.{zeros-length, settled-no, walk-case, settled-yes}
 
 slice-aggregate-meet : tie.Need-slice-aggregate-meet

@@ -12,8 +12,8 @@ use Rattle.reduction.proofs.wide.Reads as wide-reads
 use Rattle.reduction.proofs.+child_size+size.{statement}
 use Rattle.reduction.proofs.+child_size+size.Tie.{close}
 use native.Mathlib.Omega.{arith}
-use Prim.Native.Nat.{_+_, _*_, _-_, _≤_}
-use mathlib.Core.Path.{_≡_, refl, sym, _∙_}
+use Prim.Native.Nat.{_+_, _*_, _-_}
+use mathlib.Core.Path.{_≡_}
 use lib.ListN.{getD}
 use Rattle.reduction.proofs.Held.{in-range, inside}
 use Rattle.reduction.proofs.Sizes.{Sizing, size-start, size-child, size-next, size-all, none-sized, kept-sized}

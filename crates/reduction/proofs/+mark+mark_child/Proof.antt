@@ -13,8 +13,8 @@ use Rattle.reduction.proofs.wide.Reads as wide-reads
 use Rattle.reduction.proofs.+mark+mark_child.{statement}
 use Rattle.reduction.proofs.+mark+mark_child.Tie.{close}
 use native.Mathlib.Omega.{arith}
-use Prim.Native.Nat.{_+_, _*_, _-_, _≤_}
-use mathlib.Core.Path.{_≡_, refl, sym, _∙_}
+use Prim.Native.Nat.{_+_, _*_, _-_}
+use mathlib.Core.Path.{_≡_}
 use lib.ListN.{getD}
 use Rattle.reduction.proofs.Held.{in-range, inside}
 use Rattle.reduction.proofs.Marks.{child-dropped, child-kept, Marking, mark-start, mark-all, next-child, mark-next}

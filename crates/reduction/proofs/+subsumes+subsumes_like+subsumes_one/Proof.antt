@@ -16,9 +16,8 @@ use Rattle.reduction.proofs.+subsumes+subsumes_like+subsumes_one.{state
 use Rattle.reduction.proofs.+subsumes+subsumes_like+subsumes_one.Tie.{close}
 use native.Mathlib.Omega.{arith}
 use borrow.Author.Needs.{needs}
-use Prim.Native.Nat.{_+_, _*_, _-_, _≤_}
-use mathlib.Core.Path.{_≡_, refl, sym, _∙_}
-use mathlib.Core.List.{List}
+use Prim.Native.Nat.{_+_, _*_, _-_}
+use mathlib.Core.Path.{_≡_}
 use lib.ListN.{getD}
 use borrow.Author.Tests.{not-true, not-false}
 use Rattle.meaning.specs.Reduce.{subsumes as above}

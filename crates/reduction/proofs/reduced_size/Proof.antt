@@ -2,7 +2,7 @@ use borrow.Author.Needs.{needs}
 use Rattle.reduction.proofs.reduced_size.Statement.{statement}
 use Rattle.reduction.proofs.reduced_size.Tie as tie
 use native.Mathlib.Omega.{arith}
-use mathlib.Core.Path.{_≡_, refl, sym, _∙_}
+use mathlib.Core.Path.{sym, _∙_}
 use Rattle.meaning.proofs.InPlace.{size-in}
 
 reduce-requires : tie.Need-reduce-requires

@@ -1,8 +1,8 @@
 use borrow.Author.Needs.{needs}
 use Rattle.register.proofs.cut.Statement.{statement}
 use Rattle.register.proofs.cut.Tie as tie
-use mathlib.Core.Path.{_≡_, refl, sym, _∙_, ap}
-use Prim.Native.Nat.{ℕ, _+_, _≤_, _<_}
+use mathlib.Core.Path.{refl}
+use Prim.Native.Nat.{_≤_, _<_}
 use native.Mathlib.Omega.{arith}
 use Rattle.meaning.proofs.Reading.{below, not-below}
 

@@ -1,8 +1,7 @@
 use Rattle.register.proofs.first_link.Statement.{statement}
 use Rattle.register.proofs.first_link.Tie as tie
-use Prim.Native.Nat.{_≤_, _-_, _+_, _/_}
+use Prim.Native.Nat.{_≤_, _-_}
 use native.Mathlib.Omega.{arith}
-use lib.ListN.{length}
 use Rattle.fields.proofs.Known.{bytes-known}
 use Rattle.register.specs.Image.{Image}
 use Rattle.register.proofs.Begins.{asked-image, Narrowed, narrowed-none, narrowed-up, narrowed-down, narrowed-all}

@@ -1,10 +1,10 @@
 use Rattle.register.proofs.from_of.Statement.{statement}
 use Rattle.register.proofs.from_of.Tie as tie
-use mathlib.Core.Path.{_≡_, sym, _∙_, ap, subst}
-use Prim.Native.Nat.{ℕ, _<_, _≤_}
+use mathlib.Core.Path.{sym, _∙_, ap, subst}
+use Prim.Native.Nat.{ℕ, _<_}
 use native.Mathlib.Omega.{arith}
 use lib.ListN.{length}
-use Rattle.meaning.specs.Register.{Link, Register}
+use Rattle.meaning.specs.Register.{Link}
 use Rattle.fields.proofs.Known.{bytes-known}
 use Rattle.register.proofs.Facts.{link-place, link-value}
 

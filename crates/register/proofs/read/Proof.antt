@@ -1,8 +1,7 @@
 use borrow.Author.Needs.{needs}
 use Rattle.register.proofs.read.Statement.{statement}
 use Rattle.register.proofs.read.Tie as tie
-use mathlib.Core.Path.{_≡_, refl, sym, _∙_, ap, subst}
-use native.Mathlib.Omega.{arith}
+use mathlib.Core.Path.{sym, _∙_, ap, subst}
 use lib.ListN.{length}
 use Rattle.meaning.specs.declared.Side.the-variants.{Register as register}
 use Rattle.fields.specs.Head.{paperHead, wrongIn, EndsWithin}

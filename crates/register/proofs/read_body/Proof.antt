@@ -1,12 +1,11 @@
 use borrow.Author.Needs.{needs}
 use Rattle.register.proofs.read_body.Statement.{statement}
 use Rattle.register.proofs.read_body.Tie as tie
-use mathlib.Core.Path.{_≡_, refl, sym, _∙_, ap, subst}
-use Prim.Native.Nat.{ℕ, _+_, _*_, _-_, _≤_, _<_}
+use mathlib.Core.Path.{_≡_, sym, _∙_, ap}
+use Prim.Native.Nat.{_+_, _*_, _-_}
 use native.Mathlib.Omega.{arith}
-use lib.ListN.{length}
 use Rattle.meaning.specs.Bytes.{number}
-use Rattle.register.specs.Reading.{paper, linksAnswer}
+use Rattle.register.specs.Reading.{paper}
 use Rattle.register.proofs.Body.{body-items-cut, body-items-few, body-items-many, body-names-cut, body-links-cut, body-links-many, body-links}
 
 refused-requires : tie.Need-refused-requires

@@ -1,9 +1,8 @@
 use Rattle.register.proofs.read_links.Statement.{statement}
 use Rattle.register.proofs.read_links.Tie as tie
-use mathlib.Core.Path.{_≡_, refl, sym, _∙_, ap, subst}
-use Prim.Native.Nat.{ℕ, _+_, _*_, _-_, _≤_, _<_}
+use mathlib.Core.Path.{_≡_, sym, _∙_, ap, subst}
+use Prim.Native.Nat.{_+_, _*_, _-_, _≤_}
 use native.Mathlib.Omega.{arith}
-use lib.ListN.{length}
 use Rattle.register.specs.Reading.{paper, paperLink, Passed}
 use Rattle.register.proofs.Links.{Going, going-none, going-more, going-stop, going-left, going-done}
 use borrow.Author.Needs.{needs}

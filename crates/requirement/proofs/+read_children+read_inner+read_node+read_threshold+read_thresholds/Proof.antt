@@ -30,19 +30,18 @@ use mathlib.Core.Path.{_≡_, refl, sym, _∙_, ap, subst}
 use Prim.Native.Nat.{_+_, _*_, _-_, _≤_}
 use native.Mathlib.Nat.{le-trans}
 use native.Mathlib.Omega.{arith}
-use lib.ListN.{length, getD, set, length-set}
+use lib.ListN.{getD, set, length-set}
 use Rattle.meaning.specs.Bytes.{number}
-use Rattle.meaning.specs.Message.{lawful}
-use Rattle.meaning.proofs.Reading.{number-one, at-most, not-le}
+use Rattle.meaning.proofs.Reading.{number-one}
 use Rattle.requirement.specs.declared.Read.the-variants.{Good}
 use mathlib.Core.Bool.{_&&_}
 use lib.Dec.{ltb}
-use Rattle.requirement.specs.Reading.{InnerDone, Outcome, ThresholdsDone, arrays, parted, spot, NodeHeld, ForestHeld, nodeIn, childrenIn, NodeDone, ThresholdDone}
+use Rattle.requirement.specs.Reading.{InnerDone, arrays, parted, ThresholdDone}
 use Rattle.requirement.proofs.Outcomes.{is-refused, is-refused-by, parts-is-refused, parts-is-refused-by}
 use Rattle.requirement.proofs.Nodes.{node-cut-end, node-deep, node-many, node-forbidden, children-cut, children-role}
-use Rattle.requirement.proofs.Thresholds.{threshold-many, threshold-cut-end, threshold-rule, threshold-length-cut, threshold-past, inner-refused, inner-left, inner-large, inner-good}
+use Rattle.requirement.proofs.Thresholds.{threshold-many, threshold-cut-end, threshold-rule, threshold-length-cut, threshold-past}
 use Rattle.requirement.proofs.Turns.{Children, child-read, children-begun, Thresholds, threshold-read, thresholds-begun}
-use Rattle.requirement.proofs.Cycle.{some-parts, children-empty, child-stops, child-here, children-then, node-stops, children-here, children-stop, children-end, node-then, thresholds-empty, first-stops, others-here, thresholds-then, inner-stops, threshold-then, rule-kept, rule-broken, rule-above, inner-first, inner-short, inner-rows, inner-big, inner-whole}
+use Rattle.requirement.proofs.Cycle.{some-parts, children-empty, child-stops, node-stops, children-here, children-stop, children-end, node-then, thresholds-empty, first-stops, inner-stops, threshold-then, rule-kept, rule-broken, rule-above, inner-first, inner-short, inner-rows, inner-big, inner-whole}
 use borrow.Author.Needs.{needs}
 
 abbrev μ-read-children : Measures 6 read-children-kinds.ps ℕ

@@ -4,8 +4,8 @@ use Rattle.requirement.proofs.allowed.Tie as tie
 use Rattle.requirement.proofs.allowed.Reads as reads
 use Rattle.requirement.proofs.allowed.Lts as lts
 use Rattle.requirement.proofs.common_divisor.Reads as common-divisor-reads
-use mathlib.Core.Path.{_≡_, refl, sym, _∙_, ap}
-use Prim.Native.Nat.{ℕ, _+_, _≤_, _<_}
+use mathlib.Core.Path.{refl, ap}
+use Prim.Native.Nat.{ℕ, _≤_, _<_}
 use native.Mathlib.Omega.{arith}
 use lib.Dec.{eqb}
 use Rattle.meaning.proofs.Reading.{at-most, not-le}

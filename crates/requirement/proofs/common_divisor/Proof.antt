@@ -3,7 +3,7 @@ use Rattle.requirement.proofs.common_divisor.Tie as tie
 use Rattle.requirement.proofs.common_divisor.Reads as reads
 use Rattle.requirement.proofs.common_divisor.Lts as lts
 use mathlib.Core.Path.{_≡_, refl, sym, _∙_, ap}
-use Prim.Native.Nat.{ℕ, _≤_, _<_, _%_}
+use Prim.Native.Nat.{_<_}
 use native.Mathlib.Nat.{mod-lt}
 use native.Mathlib.Omega.{arith}
 use Rattle.meaning.specs.Fraction.{gcd}

@@ -6,14 +6,9 @@ use Rattle.requirement.proofs.find_inner.Lts as lts
 use Rattle.fields.proofs.two.Reads as two-reads
 use Rattle.requirement.proofs.read_message.Reads as read-message-reads
 use Rattle.requirement.proofs.wide.Reads as wide-reads
-use mathlib.Core.Path.{_≡_, refl, sym, _∙_, ap, subst}
-use Prim.Native.Nat.{ℕ, _+_, _≤_, _<_}
 use native.Mathlib.Omega.{arith}
-use lib.ListN.{length, getD}
 use Rattle.fields.proofs.Known.{bytes-known}
-use Rattle.meaning.specs.Message.{readRequirement}
-use Rattle.requirement.specs.Reading.{arrays}
-use Rattle.requirement.proofs.Inner.{Found, found, found-none, found-refused, found-room, found-place}
+use Rattle.requirement.proofs.Inner.{found, found-none, found-refused, found-room, found-place}
 
 -- src/lib.rt:68:29
 slice-aggregate-read-message : tie.Need-slice-aggregate-read-message

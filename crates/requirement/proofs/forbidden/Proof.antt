@@ -1,9 +1,8 @@
-use borrow.Author.Needs.{needs}
 use Rattle.requirement.proofs.forbidden.Statement.{statement}
 use Rattle.requirement.proofs.forbidden.Tie as tie
 use Rattle.requirement.proofs.forbidden.Reads as reads
 use Rattle.requirement.proofs.forbidden.Lts as lts
-use mathlib.Core.Path.{_≡_, refl, sym, _∙_, ap}
+use mathlib.Core.Path.{refl}
 
 -- src/lib.rt:175:9
 returns : tie.Need-returns

@@ -4,8 +4,8 @@ use Rattle.requirement.proofs.inner_part.Tie as tie
 use Rattle.requirement.proofs.inner_part.Reads as reads
 use Rattle.requirement.proofs.inner_part.Lts as lts
 use Rattle.requirement.proofs.find_inner.Reads as find-inner-reads
-use mathlib.Core.Path.{_≡_, refl, sym, _∙_, ap, subst}
-use Prim.Native.Nat.{ℕ, _+_, _-_, _≤_}
+use mathlib.Core.Path.{_≡_, _∙_, ap, subst}
+use Prim.Native.Nat.{ℕ, _-_}
 use mathlib.Core.List.{List}
 use native.Mathlib.Nat.{add-sub-cancel-left}
 use native.Mathlib.Omega.{arith}

@@ -3,8 +3,8 @@ use Rattle.requirement.proofs.node_cut.Statement.{statement}
 use Rattle.requirement.proofs.node_cut.Tie as tie
 use Rattle.requirement.proofs.node_cut.Reads as reads
 use Rattle.requirement.proofs.node_cut.Lts as lts
-use mathlib.Core.Path.{_≡_, refl, sym, _∙_, ap}
-use Prim.Native.Nat.{ℕ, _+_, _≤_, _<_}
+use mathlib.Core.Path.{refl}
+use Prim.Native.Nat.{_≤_, _<_}
 use native.Mathlib.Omega.{arith}
 use Rattle.meaning.proofs.Reading.{below, not-below}
 

@@ -6,14 +6,13 @@ use Rattle.requirement.proofs.read_message.Lts as lts
 use Rattle.fields.proofs.read_head.Reads as read-head-reads
 use Rattle.requirement.proofs.read_node.Reads as read-node-reads
 use Rattle.requirement.proofs.refused.Reads as refused-reads
-use mathlib.Core.Path.{_≡_, refl, sym, _∙_, ap, subst}
-use Prim.Native.Nat.{ℕ, _+_, _≤_, _<_}
+use mathlib.Core.Path.{sym, _∙_, ap, subst}
 use native.Mathlib.Omega.{arith}
 use lib.ListN.{length}
 use Rattle.meaning.specs.declared.Side.the-variants.{Requirement as requirement}
 use Rattle.fields.proofs.Known.{bytes-known}
 use Rattle.fields.specs.Head.{paperHead, EndsWithin}
-use Rattle.requirement.specs.Reading.{MessageDone, arrays}
+use Rattle.requirement.specs.Reading.{MessageDone}
 use Rattle.requirement.proofs.Whole.{head-refused, whole-refused, whole-left, whole-good, head-short}
 
 -- src/lib.rt:35:9

@@ -2,7 +2,7 @@
 -- Assumes nothing.
 use Rattle.session.proofs.clear.Statement.{statement}
 use Rattle.session.proofs.clear.Tie as tie
-use mathlib.Core.Path.{_≡_, refl, sym, ap, _∙_}
+use mathlib.Core.Path.{_≡_, refl, ap, _∙_}
 use mathlib.Core.List.{List, _++_}
 use Prim.Native.Nat.{ℕ, _≤_, _+_, _-_}
 use native.Mathlib.Omega.{arith}

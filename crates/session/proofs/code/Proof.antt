@@ -1,13 +1,12 @@
 -- `session::code` meets its contract.
 -- Assumes nothing.
-use Rattle.fields.proofs.Known.{bytes-known}
 use Rattle.meaning.specs.declared.Fact.{Fact}
 use Rattle.session.proofs.Codes.{code-name, code-link}
 use Rattle.session.proofs.code.Statement.{statement}
 use Rattle.session.proofs.code.Tie as tie
 use Rattle.session.specs.Setting.{Ranged}
 use borrow.Author.Needs.{needs}
-use mathlib.Core.Path.{_≡_, refl, sym, ap, subst, _∙_}
+use mathlib.Core.Path.{subst}
 use native.Mathlib.Omega.{arith}
 
 enum-known-fact : tie.Need-enum-known-fact

@@ -1,13 +1,12 @@
 -- `session::code_of` meets its contract.
 -- Assumes nothing.
-use Prim.Native.Nat.{ℕ, _+_, _*_}
-use Rattle.fields.proofs.Known.{bytes-known}
+use Prim.Native.Nat.{_+_, _*_}
 use Rattle.session.proofs.code_of.Statement.{statement}
 use Rattle.session.proofs.code_of.Tie as tie
 use Rattle.session.specs.Coded.{bit}
 use borrow.Author.Needs.{needs}
 use mathlib.Core.Bool.{Bool}
-use mathlib.Core.Path.{_≡_, refl, sym, ap, _∙_}
+use mathlib.Core.Path.{_≡_, sym, ap, _∙_}
 use native.Mathlib.Omega.{arith}
 
 mul-result : tie.Need-mul-result

@@ -1,11 +1,8 @@
 -- `session::decode` meets its contract.
 -- Assumes nothing.
-use Rattle.fields.proofs.Known.{bytes-known}
 use Rattle.session.proofs.Codes.{decode-name, decode-link}
 use Rattle.session.proofs.decode.Statement.{statement}
 use Rattle.session.proofs.decode.Tie as tie
-use mathlib.Core.Path.{_≡_, refl, sym, ap, _∙_}
-use native.Mathlib.Omega.{arith}
 
 returns : tie.Need-returns
 returns c =

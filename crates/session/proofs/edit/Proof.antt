@@ -5,7 +5,6 @@ use Rattle.session.proofs.Answered.{face-no, face-room, face-done}
 use Rattle.session.proofs.edit.Statement.{statement}
 use Rattle.session.proofs.edit.Tie as tie
 use borrow.Author.Needs.{needs}
-use mathlib.Core.Path.{_≡_, refl, sym, ap, _∙_}
 use native.Mathlib.Omega.{arith}
 
 edit-in-requires : tie.Need-edit-in-requires

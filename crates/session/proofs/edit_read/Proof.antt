@@ -5,7 +5,7 @@ use Rattle.session.proofs.Answered.{edit-no, edit-17, edit-15, edit-7, 
 use Rattle.session.proofs.edit_read.Statement.{statement}
 use Rattle.session.proofs.edit_read.Tie as tie
 use borrow.Author.Needs.{needs}
-use mathlib.Core.Path.{_≡_, refl, sym, ap, _∙_}
+use mathlib.Core.Path.{refl}
 use native.Mathlib.Omega.{arith}
 
 room-requires : tie.Need-room-requires

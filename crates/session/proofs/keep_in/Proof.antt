@@ -1,12 +1,9 @@
 -- `session::keep_in` meets its contract.
 -- Assumes nothing.
-use Rattle.fields.proofs.Known.{bytes-known}
 use Rattle.session.proofs.Answered.{read-sizes, read-refused, keep-unread, keep-17, keep-done}
 use Rattle.session.proofs.keep_in.Statement.{statement}
 use Rattle.session.proofs.keep_in.Tie as tie
 use borrow.Author.Needs.{needs}
-use mathlib.Core.Path.{_≡_, refl, sym, ap, _∙_}
-use native.Mathlib.Omega.{arith}
 
 read-requires : tie.Need-read-requires
 read-requires c κs = search needs

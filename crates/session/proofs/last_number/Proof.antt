@@ -2,12 +2,11 @@
 -- Assumes nothing.
 use lib.ListN.{List·getD-eq-default as past}
 use Prim.Native.Nat.{ℕ, _-_}
-use Rattle.fields.proofs.Known.{bytes-known}
 use Rattle.session.proofs.last_number.Statement.{statement}
 use Rattle.session.proofs.last_number.Tie as tie
 use borrow.Author.Needs.{needs}
 use lib.ListN.{getD}
-use mathlib.Core.Path.{_≡_, refl, sym, ap, _∙_}
+use mathlib.Core.Path.{_≡_, sym, ap}
 use native.Mathlib.Omega.{arith}
 
 shared-slice-read-result : tie.Need-shared-slice-read-result

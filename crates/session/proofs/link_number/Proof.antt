@@ -3,8 +3,7 @@
 use borrow.Author.Needs.{needs}
 use Rattle.session.proofs.link_number.Statement.{statement}
 use Rattle.session.proofs.link_number.Tie as tie
-use mathlib.Core.Path.{_≡_, refl, sym, ap, ap₂, _∙_}
-use Prim.Native.Nat.{ℕ, _+_, _*_}
+use mathlib.Core.Path.{_∙_}
 use native.Mathlib.Omega.{arith}
 use Rattle.meaning.proofs.Image.{image-fits}
 use Rattle.fields.proofs.Known.{bytes-known}

@@ -2,8 +2,8 @@
 -- Assumes nothing.
 use Rattle.session.proofs.move_down.Statement.{statement}
 use Rattle.session.proofs.move_down.Tie as tie
-use mathlib.Core.Path.{_≡_, refl, sym, ap, _∙_}
-use Prim.Native.Nat.{ℕ, _≤_, _+_, _-_}
+use mathlib.Core.Path.{_≡_, refl, sym, _∙_}
+use Prim.Native.Nat.{_≤_, _+_, _-_}
 use native.Mathlib.Omega.{arith}
 use lib.ListN.{length, length-set}
 use Rattle.session.proofs.Stores.{down, down-none, down-more, down-all}

@@ -3,7 +3,7 @@
 use Rattle.session.proofs.move_up.Statement.{statement}
 use Rattle.session.proofs.move_up.Tie as tie
 use mathlib.Core.Path.{_≡_, refl, sym, ap, _∙_}
-use Prim.Native.Nat.{ℕ, _≤_, _+_, _-_}
+use Prim.Native.Nat.{_≤_, _-_}
 use native.Mathlib.Omega.{arith}
 use lib.ListN.{length, length-set}
 use Rattle.session.proofs.Stores.{up, up-none, up-more}

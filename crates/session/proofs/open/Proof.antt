@@ -5,8 +5,6 @@ use Rattle.session.proofs.Answered.{read-sizes, read-refused, open-unre
 use Rattle.session.proofs.open.Statement.{statement}
 use Rattle.session.proofs.open.Tie as tie
 use borrow.Author.Needs.{needs}
-use mathlib.Core.Path.{_≡_, refl, sym, ap, _∙_}
-use native.Mathlib.Omega.{arith}
 
 read-requires : tie.Need-read-requires
 read-requires c κs = search needs

@@ -5,8 +5,6 @@ use Rattle.session.proofs.Answered.{open-done}
 use Rattle.session.proofs.open_read.Statement.{statement}
 use Rattle.session.proofs.open_read.Tie as tie
 use borrow.Author.Needs.{needs}
-use mathlib.Core.Path.{_≡_, refl, sym, ap, _∙_}
-use native.Mathlib.Omega.{arith}
 
 mul-clear : tie.Need-mul-clear
 mul-clear c = search needs

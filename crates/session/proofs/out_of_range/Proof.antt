@@ -1,12 +1,9 @@
 -- `session::out_of_range` meets its contract.
 -- Assumes nothing.
-use Rattle.fields.proofs.Known.{bytes-known}
 use Rattle.session.proofs.Answered.{range-item, range-name, range-from, range-to}
 use Rattle.session.proofs.out_of_range.Statement.{statement}
 use Rattle.session.proofs.out_of_range.Tie as tie
 use borrow.Author.Needs.{needs}
-use mathlib.Core.Path.{_≡_, refl, sym, ap, _∙_}
-use native.Mathlib.Omega.{arith}
 
 enum-known-fact : tie.Need-enum-known-fact
 enum-known-fact c = search needs

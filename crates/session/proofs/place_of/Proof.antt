@@ -2,7 +2,7 @@
 -- Assumes nothing.
 use Rattle.session.proofs.place_of.Statement.{statement}
 use Rattle.session.proofs.place_of.Tie as tie
-use Prim.Native.Nat.{ℕ, _≤_, _-_}
+use Prim.Native.Nat.{_≤_, _-_}
 use native.Mathlib.Omega.{arith}
 use borrow.Author.Needs.{needs}
 use Rattle.session.proofs.Set.{asked-is}

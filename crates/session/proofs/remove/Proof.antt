@@ -3,7 +3,6 @@
 use borrow.Author.Needs.{needs}
 use Rattle.session.proofs.remove.Statement.{statement}
 use Rattle.session.proofs.remove.Tie as tie
-use native.Mathlib.Omega.{arith}
 use Rattle.fields.proofs.Known.{bytes-known}
 use Rattle.session.proofs.Set.{asked-is}
 use Rattle.session.proofs.Chains.{remove-chain}

@@ -1,12 +1,9 @@
 -- `session::role_above` meets its contract.
 -- Assumes nothing.
-use Rattle.fields.proofs.Known.{bytes-known}
 use Rattle.session.proofs.Answered.{role-link}
 use Rattle.session.proofs.role_above.Statement.{statement}
 use Rattle.session.proofs.role_above.Tie as tie
 use borrow.Author.Needs.{needs}
-use mathlib.Core.Path.{_≡_, refl, sym, ap, _∙_}
-use native.Mathlib.Omega.{arith}
 
 enum-told : tie.Need-enum-told
 enum-told c = search needs

@@ -3,11 +3,10 @@
 use borrow.Author.Needs.{needs}
 use Rattle.session.proofs.set_fact.Statement.{statement}
 use Rattle.session.proofs.set_fact.Tie as tie
-use mathlib.Core.Path.{_≡_, refl, sym, ap, subst, _∙_}
+use mathlib.Core.Path.{subst}
 use native.Mathlib.Omega.{arith}
 use Rattle.meaning.specs.declared.Fact.{Fact}
-use Rattle.session.specs.declared.Setting.the-variants.{Done}
-use Rattle.session.specs.Setting.{Ranged, SettingOf}
+use Rattle.session.specs.Setting.{Ranged}
 use Rattle.session.proofs.Set.{name-set, link-set}
 
 enum-known-fact : tie.Need-enum-known-fact

@@ -3,9 +3,7 @@
 use borrow.Author.Needs.{needs}
 use Rattle.session.proofs.set_name.Statement.{statement}
 use Rattle.session.proofs.set_name.Tie as tie
-use mathlib.Core.Path.{_≡_, refl, sym, ap, _∙_}
-use Prim.Native.Nat.{ℕ, _≤_, _-_}
-use native.Mathlib.Omega.{arith}
+use Prim.Native.Nat.{_-_}
 use Rattle.fields.proofs.Known.{bytes-known}
 use Rattle.session.proofs.Set.{asked-is, renames, name-was}
 

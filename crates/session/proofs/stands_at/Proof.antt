@@ -2,10 +2,9 @@
 -- Assumes nothing.
 use Rattle.session.proofs.stands_at.Statement.{statement}
 use Rattle.session.proofs.stands_at.Tie as tie
-use mathlib.Core.Path.{_≡_, refl, sym, ap, _∙_}
-use Prim.Native.Nat.{ℕ, _≤_, _-_}
+use mathlib.Core.Path.{ap, _∙_}
+use Prim.Native.Nat.{ℕ, _-_}
 use native.Mathlib.Omega.{arith}
-use borrow.Author.Needs.{needs}
 use lib.Dec.{eqb}
 use Rattle.session.proofs.Set.{asked-is}
 use Rattle.session.proofs.Chains.{stands-yes, stands-no}

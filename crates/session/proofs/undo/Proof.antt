@@ -1,12 +1,9 @@
 -- `session::undo` meets its contract.
 -- Assumes nothing.
-use Rattle.fields.proofs.Known.{bytes-known}
 use Rattle.session.proofs.Codes.{undo-face}
 use Rattle.session.proofs.undo.Statement.{statement}
 use Rattle.session.proofs.undo.Tie as tie
 use borrow.Author.Needs.{needs}
-use mathlib.Core.Path.{_≡_, refl, sym, ap, _∙_}
-use native.Mathlib.Omega.{arith}
 
 last-number-requires : tie.Need-last-number-requires
 last-number-requires c κs = search needs

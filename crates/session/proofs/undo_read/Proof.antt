@@ -5,14 +5,13 @@ use Rattle.session.proofs.Answered.{undo-no, undo-17, undo-19, undo-ran
 use Rattle.session.proofs.undo_read.Statement.{statement}
 use Rattle.session.proofs.undo_read.Tie as tie
 use borrow.Author.Needs.{needs}
-use mathlib.Core.Path.{_≡_, refl, sym, ap, _∙_, subst}
+use mathlib.Core.Path.{_≡_, refl, subst}
 use mathlib.Core.Bool.{Bool}
 use mathlib.Core.List.{List}
 use Prim.Native.Nat.{ℕ}
 use Rattle.meaning.specs.declared.Fact.{Fact}
 use Rattle.session.specs.declared.Setting.{Setting}
 use Rattle.session.specs.Setting.{SettingOf}
-use native.Mathlib.Omega.{arith}
 
 -- what the fact is set to is an equation of its own: what the last step says of it
 as-it-was : (s after : List ℕ) (fact : Fact) (r : Setting) (was : Bool) {b : Bool} → SettingOf s fact b after r → b ≡ was → SettingOf s fact was after r

@@ -1,7 +1,7 @@
 -- `svelgandur::svelgandur_inner_part` meets its contract: the numbers written are those of the place.
 -- Assumes nothing.
 use borrow.Author.Needs.{needs}
-use mathlib.Core.Path.{_≡_, sym, _∙_, ap}
+use mathlib.Core.Path.{_∙_}
 use Rattle.svelgandur.proofs.Messages.{no-place, some-place}
 use Rattle.svelgandur.proofs.svelgandur_inner_part.Statement.{statement}
 use Rattle.svelgandur.proofs.svelgandur_inner_part.Tie as tie

@@ -3,7 +3,7 @@
 use borrow.Author.Needs.{needs}
 use Rattle.svelgandur.proofs.svelgandur_read_register.Statement.{statement}
 use Rattle.svelgandur.proofs.svelgandur_read_register.Tie as tie
-use mathlib.Core.Path.{_≡_, sym, _∙_, ap}
+use mathlib.Core.Path.{sym, _∙_, ap}
 use Rattle.register.specs.Reading.{paper}
 use Rattle.svelgandur.specs.Numbers.{numbers, counts}
 

@@ -2,7 +2,7 @@
 -- Assumes nothing.
 use borrow.Author.Needs.{needs}
 use native.Mathlib.Omega.{arith}
-use mathlib.Core.Path.{_≡_, sym, _∙_, ap}
+use mathlib.Core.Path.{_≡_, _∙_}
 use Rattle.svelgandur.specs.Numbers.{four}
 use Rattle.svelgandur.proofs.Numbers.{four-same}
 use Rattle.svelgandur.proofs.Messages.{message-good, message-refused}

@@ -2,8 +2,7 @@
 use borrow.Author.Needs.{needs}
 use Rattle.fields.proofs.bits.with_bit.Statement.{statement}
 use Rattle.fields.proofs.bits.with_bit.Tie as tie
-use Prim.Native.Nat.{_≤_, _+_, _-_}
-use native.Mathlib.Omega.{arith}
+use Prim.Native.Nat.{_-_}
 use Rattle.meaning.proofs.NamesChanged.{off-le, name-off, name-on, on-fits}
 
 returns : tie.Need-returns

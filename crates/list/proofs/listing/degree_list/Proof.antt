@@ -10,7 +10,7 @@ use Rattle.list.proofs.listing.degree_rows.Reads as degree-rows-reads
 use Rattle.list.proofs.listing.put_refusal.Reads as put-refusal-reads
 use Rattle.list.proofs.text.put_word.Reads as put-word-reads
 use native.Mathlib.Omega.{arith}
-use mathlib.Core.Path.{_∙_, _≡_, sym, ap}
+use mathlib.Core.Path.{_∙_}
 use Rattle.list.proofs.Writing.{as-text, wrote-more, wrote-length}
 use Rattle.list.proofs.Items.{listed-degrees, listed-refused}
 

@@ -9,7 +9,6 @@ use Rattle.degree.proofs.call.degree_of.Reads as degree-of-reads
 use Rattle.list.proofs.listing.put_degree_line.Reads as put-degree-line-reads
 use Rattle.list.proofs.listing.put_refusal.Reads as put-refusal-reads
 use native.Mathlib.Omega.{arith}
-use mathlib.Core.Path.{_∙_, sym, refl}
 use Rattle.list.proofs.Writing.{as-text, wrote-length}
 use Rattle.list.proofs.Items.{degree-row-good, degree-row-refused}
 

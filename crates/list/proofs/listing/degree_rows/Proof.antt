@@ -7,7 +7,7 @@ use Rattle.list.proofs.listing.degree_rows.Lts as lts
 use Rattle.list.proofs.listing.degree_row.Reads as degree-row-reads
 use Prim.Native.Nat.{_+_, _*_, _-_, _≤_}
 use native.Mathlib.Omega.{arith}
-use mathlib.Core.Path.{_≡_, ap}
+use mathlib.Core.Path.{ap}
 use Rattle.list.specs.Text.{Wrote}
 use Rattle.list.specs.Listing.{degreeRows}
 use Rattle.list.proofs.Writing.{as-text, wrote-none, wrote-more, wrote-length}

@@ -10,8 +10,7 @@ use Rattle.list.proofs.listing.member_list.Reads as member-list-reads
 use Rattle.list.proofs.listing.put_refusal.Reads as put-refusal-reads
 use Rattle.requirement.proofs.read_message.Reads as read-message-reads
 use native.Mathlib.Omega.{arith}
-use mathlib.Core.Path.{_∙_, _≡_, sym, ap}
-use Rattle.list.proofs.Writing.{as-text, wrote-more, wrote-length}
+use Rattle.list.proofs.Writing.{as-text, wrote-length}
 use Rattle.list.proofs.Items.{items-plain, items-ruled, items-refused}
 
 slice-aggregate-read-message : tie.Need-slice-aggregate-read-message

@@ -9,8 +9,7 @@ use Rattle.list.proofs.listing.list_items.Reads as list-items-reads
 use Rattle.list.proofs.listing.put_refusal.Reads as put-refusal-reads
 use Rattle.register.proofs.read.Reads as read-reads
 use native.Mathlib.Omega.{arith}
-use mathlib.Core.Path.{_∙_, _≡_, sym, ap}
-use Rattle.list.proofs.Writing.{as-text, wrote-more, wrote-length}
+use Rattle.list.proofs.Writing.{as-text, wrote-length}
 use Rattle.fields.proofs.Known.{bytes-known}
 use Rattle.list.proofs.Items.{register-good, register-refused}
 

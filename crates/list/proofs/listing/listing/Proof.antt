@@ -9,8 +9,8 @@ use Rattle.list.proofs.listing.list_of.Reads as list-of-reads
 use Rattle.list.proofs.listing.register_end.Reads as register-end-reads
 use Rattle.list.proofs.text.put_word.Reads as put-word-reads
 use native.Mathlib.Omega.{arith}
-use mathlib.Core.Path.{_∙_, _≡_, sym, ap}
-use Rattle.list.proofs.Writing.{as-text, wrote-more, wrote-length}
+use mathlib.Core.Path.{sym}
+use Rattle.list.proofs.Writing.{as-text, wrote-length}
 use lib.Seq.{length-take-le}
 use Rattle.list.proofs.Items.{too-long, not-too-long}
 

@@ -8,8 +8,8 @@ use Rattle.list.proofs.listing.member_list.Lts as lts
 use Rattle.list.proofs.listing.member_rows.Reads as member-rows-reads
 use Rattle.list.proofs.text.put_word.Reads as put-word-reads
 use native.Mathlib.Omega.{arith}
-use mathlib.Core.Path.{_∙_, _≡_, sym, ap}
-use Rattle.list.proofs.Writing.{as-text, wrote-more, wrote-length}
+use mathlib.Core.Path.{_∙_}
+use Rattle.list.proofs.Writing.{wrote-more, wrote-length}
 
 slice-aggregate-put-word : tie.Need-slice-aggregate-put-word
 slice-aggregate-put-word c = search needs

@@ -10,7 +10,6 @@ use Rattle.list.proofs.listing.put_refusal.Reads as put-refusal-reads
 use Rattle.list.proofs.listing.put_yes_line.Reads as put-yes-line-reads
 use Rattle.member.proofs.call.decide.Reads as decide-reads
 use native.Mathlib.Omega.{arith}
-use mathlib.Core.Path.{_∙_, sym, refl}
 use Rattle.list.proofs.Writing.{as-text, wrote-length}
 use Rattle.list.proofs.Items.{member-row-yes, member-row-no, member-row-refused}
 

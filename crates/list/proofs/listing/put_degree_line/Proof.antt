@@ -1,6 +1,5 @@
 -- `list::listing::put_degree_line` meets its contract.
 -- Assumes nothing.
-use borrow.Author.Needs.{needs}
 use Rattle.list.proofs.listing.put_degree_line.Statement.{statement}
 use Rattle.list.proofs.listing.put_degree_line.Tie as tie
 use Rattle.list.proofs.listing.put_degree_line.Reads as reads
@@ -12,7 +11,7 @@ use native.Mathlib.Omega.{arith}
 use mathlib.Core.Path.{_∙_}
 use Rattle.meaning.specs.Fraction.{_//_}
 use Rattle.list.proofs.Writing.{as-text, as-number, wrote-more, wrote-length, decimal-most}
-use Rattle.list.proofs.Lines.{side-most, degree-line}
+use Rattle.list.proofs.Lines.{degree-line}
 
 put-number-requires : tie.Need-put-number-requires
 put-number-requires c κs =

@@ -9,7 +9,6 @@ use Rattle.list.proofs.listing.put_place.Reads as put-place-reads
 use Rattle.list.proofs.listing.put_places.Reads as put-places-reads
 use native.Mathlib.Omega.{arith}
 use mathlib.Core.Path.{_∙_}
-use lib.ListN.{length}
 use Rattle.list.proofs.Writing.{as-text, wrote-none, wrote-more, wrote-length}
 use Rattle.list.proofs.Lines.{shown-none, shown-some, length-rest}
 

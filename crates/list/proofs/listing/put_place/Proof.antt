@@ -1,6 +1,5 @@
 -- `list::listing::put_place` meets its contract.
 -- Assumes nothing.
-use borrow.Author.Needs.{needs}
 use Rattle.list.proofs.listing.put_place.Statement.{statement}
 use Rattle.list.proofs.listing.put_place.Tie as tie
 use Rattle.list.proofs.listing.put_place.Reads as reads

@@ -8,9 +8,8 @@ use Rattle.list.proofs.listing.put_place.Reads as put-place-reads
 use Rattle.list.proofs.text.put_byte.Reads as put-byte-reads
 use Prim.Native.Nat.{_+_, _*_, _-_, _≤_}
 use native.Mathlib.Omega.{arith}
-use mathlib.Core.List.{List}
 use mathlib.Core.Path.{ap, sym}
-use lib.ListN.{length, take, getD}
+use lib.ListN.{length, take}
 use lib.Seq.{take-all}
 use Rattle.list.specs.Text.{Wrote}
 use Rattle.list.specs.Listing.{places}

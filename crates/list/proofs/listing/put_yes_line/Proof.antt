@@ -12,7 +12,7 @@ use Rattle.list.proofs.text.put_word.Reads as put-word-reads
 use native.Mathlib.Omega.{arith}
 use mathlib.Core.Path.{_∙_}
 use Rattle.list.proofs.Writing.{as-text, wrote-more, wrote-length, decimal-most}
-use Rattle.list.proofs.Lines.{side-most, yes-line}
+use Rattle.list.proofs.Lines.{yes-line}
 
 put-number-requires : tie.Need-put-number-requires
 put-number-requires c κs =

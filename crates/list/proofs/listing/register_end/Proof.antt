@@ -1,6 +1,5 @@
 -- `list::listing::register_end` meets its contract.
 -- Assumes nothing.
-use borrow.Author.Needs.{needs}
 use Rattle.list.proofs.listing.register_end.Statement.{statement}
 use Rattle.list.proofs.listing.register_end.Tie as tie
 use Rattle.list.proofs.listing.register_end.Reads as reads
@@ -8,9 +7,8 @@ use Rattle.list.proofs.listing.register_end.Lts as lts
 use Rattle.fields.proofs.two.Reads as two-reads
 use native.Mathlib.Omega.{arith}
 use native.Mathlib.Nat.{min-eq-left, min-eq-right}
-use mathlib.Core.Path.{_∙_, sym, ap, _≡_}
+use mathlib.Core.Path.{_∙_, sym, ap}
 use Prim.Native.Nat.{_+_, ℕ}
-use lib.ListN.{length}
 use Rattle.list.proofs.Items.{end-short, end-long}
 
 returns : tie.Need-returns

@@ -10,12 +10,11 @@ use Rattle.list.proofs.text.digit.Reads as digit-reads
 use Rattle.list.proofs.text.put_byte.Reads as put-byte-reads
 use Rattle.list.proofs.text.+put_digits.{statement}
 use Rattle.list.proofs.text.+put_digits.Tie.{close}
-use Prim.Native.Nat.{_+_, _-_, _/_, _%_, _≤_}
+use Prim.Native.Nat.{_+_, _-_}
 use native.Mathlib.Omega.{arith}
-use mathlib.Core.Path.{_≡_, sym, ap, subst, _∙_}
+use mathlib.Core.Path.{sym, ap, _∙_}
 use mathlib.Core.List.{List, _∷_, []}
-use lib.ListN.{length, length-append}
-use Rattle.list.specs.Text.{Wrote, digits}
+use lib.ListN.{length}
 use Rattle.list.proofs.Writing.{wrote-more, wrote-length, digits-none, digits-one, digits-more, more-length, as-text}
 use borrow.Author.Needs.{needs}
 

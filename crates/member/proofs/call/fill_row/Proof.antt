@@ -5,7 +5,7 @@ use Rattle.member.proofs.call.fill_row.Statement.{statement}
 use Rattle.member.proofs.call.fill_row.Tie as tie
 use native.Mathlib.Omega.{arith}
 use mathlib.Core.Path.{_≡_, sym}
-use Prim.Native.Nat.{ℕ, _≤_, _+_}
+use Prim.Native.Nat.{_+_}
 use Rattle.meaning.specs.Bytes.{number}
 use Rattle.fields.proofs.Known.{bytes-known}
 use Rattle.degree.proofs.Fill.{lent-length, back, back-whole, back-length, back-same}

@@ -4,7 +4,7 @@ use Rattle.member.proofs.call.fill_table.Statement.{statement}
 use Rattle.member.proofs.call.fill_table.Tie as tie
 use native.Mathlib.Omega.{arith}
 use mathlib.Core.Path.{_≡_, refl, _∙_}
-use Prim.Native.Nat.{ℕ, _≤_, _-_}
+use Prim.Native.Nat.{_≤_, _-_}
 use lib.ListN.{length, getD}
 use Rattle.meaning.specs.Refusal.{good}
 use Rattle.meaning.specs.Register.{Register, readBuffer, judged}

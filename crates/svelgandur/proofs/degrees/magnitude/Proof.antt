@@ -1,6 +1,5 @@
 -- `svelgandur::degrees::magnitude` meets its contract: the margin without its sign.
 -- Assumes nothing.
-use borrow.Author.Needs.{needs}
 use Rattle.svelgandur.proofs.degrees.magnitude.Statement.{statement}
 use Rattle.svelgandur.proofs.degrees.magnitude.Tie as tie
 use Rattle.svelgandur.proofs.Margins.{turned-fits, turned-casts, turned-is, casts, same}

@@ -4,7 +4,7 @@ use borrow.Author.Needs.{needs}
 use Rattle.svelgandur.proofs.degrees.svelgandur_degree.Statement.{statement}
 use Rattle.svelgandur.proofs.degrees.svelgandur_degree.Tie as tie
 use native.Mathlib.Omega.{arith}
-use mathlib.Core.Path.{_≡_, sym, _∙_, ap}
+use mathlib.Core.Path.{sym, _∙_, ap}
 use Rattle.svelgandur.proofs.Numbers.{four-same}
 use Rattle.svelgandur.proofs.Margins.{degree-told}
 use Rattle.degree.specs.Answers.{paper}

@@ -3,7 +3,7 @@
 use borrow.Author.Needs.{needs}
 use Rattle.svelgandur.proofs.degrees.svelgandur_margin.Statement.{statement}
 use Rattle.svelgandur.proofs.degrees.svelgandur_margin.Tie as tie
-use mathlib.Core.Path.{_≡_, sym, _∙_, ap}
+use mathlib.Core.Path.{sym, _∙_, ap}
 use lib.IntN.{natAbs}
 use Rattle.degree.specs.Answers.{paperMargin}
 use Rattle.degree.proofs.Promise.{margin-within}

@@ -3,7 +3,7 @@
 use borrow.Author.Needs.{needs}
 use Rattle.svelgandur.proofs.trial.svelgandur_edit_name.Statement.{statement}
 use Rattle.svelgandur.proofs.trial.svelgandur_edit_name.Tie as tie
-use mathlib.Core.Path.{_≡_, _∙_, ap}
+use mathlib.Core.Path.{_∙_, ap}
 use Rattle.svelgandur.specs.Numbers.{numbers, inUse}
 
 edit-requires : tie.Need-edit-requires

@@ -3,7 +3,7 @@
 use borrow.Author.Needs.{needs}
 use Rattle.svelgandur.proofs.trial.svelgandur_keep.Statement.{statement}
 use Rattle.svelgandur.proofs.trial.svelgandur_keep.Tie as tie
-use mathlib.Core.Path.{_≡_, _∙_, ap}
+use mathlib.Core.Path.{_∙_, ap}
 use Rattle.svelgandur.specs.Numbers.{numbers, inUse}
 
 keep-requires : tie.Need-keep-requires

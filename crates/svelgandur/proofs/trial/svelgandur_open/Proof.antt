@@ -3,7 +3,7 @@
 use borrow.Author.Needs.{needs}
 use Rattle.svelgandur.proofs.trial.svelgandur_open.Statement.{statement}
 use Rattle.svelgandur.proofs.trial.svelgandur_open.Tie as tie
-use mathlib.Core.Path.{_≡_, _∙_, ap}
+use mathlib.Core.Path.{_∙_, ap}
 use Rattle.svelgandur.specs.Numbers.{numbers, inUse}
 
 open-requires : tie.Need-open-requires
