@@ -11,11 +11,10 @@ use mir.Syntax.{w64}
 use mir.Val.{SFits, toZ, ofZ, sel}
 use mir.Facts.{toZ-ofZ}
 use Rattle.meaning.specs.Fraction.{_//_}
-use Rattle.meaning.specs.Message.{mostQ}
 use Rattle.meaning.proofs.Reading.{below, not-below}
 use Rattle.degree.specs.declared.call.Margin.the-variants.{Good as GoodMargin}
-use Rattle.degree.specs.Case.{mostScale}
-use Rattle.degree.specs.Answers.{mostMargin, marginOf}
+use Rattle.degree.specs.Answers.{marginOf}
+use Rattle.meaning.specs.Bounds.{mostScale, mostQ, mostMargin}
 
 -- ---- the products of a degree's two numbers and a threshold's
 

@@ -15,7 +15,7 @@ use Rattle.meaning.specs.Tree.{Concept, nodes}
 use Rattle.meaning.specs.Register.{Register, judged, readRegister}
 use Rattle.meaning.specs.Fraction.{Frac, _//_, gcd, lowest, margin, marginOver}
 use Rattle.meaning.specs.Degree.{degreeOf, answered}
-use Rattle.meaning.specs.Message.{mostQ, lawful}
+use Rattle.meaning.specs.Message.{lawful}
 use Rattle.meaning.specs.Shown.{degreeMap, shown, markNumber}
 use Rattle.meaning.specs.Calls.{readPlain, inRange, Found, degreeCall, afterDegree, Against, marginCall}
 use Rattle.meaning.proofs.Tests.{and-both, of-not}
@@ -34,7 +34,8 @@ use Rattle.degree.specs.declared.call.Answered.{Answered}
 use Rattle.degree.specs.declared.call.Answered.the-variants.{Good as GoodDegree, Refused as RefusedDegree}
 use Rattle.degree.specs.declared.call.Margin.{Margin}
 use Rattle.degree.specs.declared.call.Margin.the-variants.{Refused as RefusedMargin}
-use Rattle.degree.specs.Case.{Case, mostScale}
+use Rattle.degree.specs.Case.{Case}
+use Rattle.meaning.specs.Bounds.{mostScale, mostQ}
 use Rattle.degree.specs.Given.{drawn, Graded}
 use Rattle.degree.specs.Asked.{Rows, readBoth, BothGood, BothOutcome, BothDone}
 use Rattle.degree.specs.Answers.{Told, paper, told, degreeRefused, paperMargin, marginOf, marginRefused}

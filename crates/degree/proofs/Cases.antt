@@ -15,7 +15,8 @@ use Rattle.meaning.specs.Degree.{best}
 use Rattle.meaning.specs.Shown.{pick}
 use Rattle.meaning.specs.InPlace.{scaleIn, degreeIn}
 use Rattle.meaning.proofs.Rows.{Opened, opened}
-use Rattle.degree.specs.Case.{Case, mostScale}
+use Rattle.degree.specs.Case.{Case}
+use Rattle.meaning.specs.Bounds.{mostScale}
 use Rattle.degree.specs.declared.Best.{Best}
 use Rattle.degree.specs.declared.Choice.{Choice}
 use Rattle.degree.specs.declared.Sum.{Sum}

@@ -10,7 +10,7 @@ use Rattle.meaning.specs.Refusal.{good}
 use Rattle.meaning.specs.Tree.{Concept}
 use Rattle.meaning.specs.Register.{Register, readBuffer, judged}
 use Rattle.meaning.specs.Fraction.{_//_, lowest}
-use Rattle.meaning.specs.Reduce.{reduce, mostSize}
+use Rattle.meaning.specs.Reduce.{reduce}
 use Rattle.meaning.specs.Degree.{answered}
 use Rattle.meaning.specs.InPlace.{sizeIn, scaleIn}
 use Rattle.meaning.specs.Rows.{Holds, Marked}
@@ -18,7 +18,8 @@ use Rattle.meaning.proofs.Image.{image-fits}
 use Rattle.meaning.proofs.Bound.{scale-bound}
 use Rattle.meaning.proofs.InPlace.{size-in, scale-in, degree-in}
 use Rattle.degree.specs.declared.Degree.{Degree}
-use Rattle.degree.specs.Case.{Case, mostScale}
+use Rattle.degree.specs.Case.{Case}
+use Rattle.meaning.specs.Bounds.{mostSize, mostScale}
 use Rattle.degree.specs.Given.{Graded}
 use Rattle.degree.proofs.Fold.{scale-in-pos, degree-in-le}
 

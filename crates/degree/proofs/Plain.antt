@@ -10,7 +10,8 @@ use Rattle.meaning.specs.declared.Side.the-variants.{Requirement as requirement
 use Rattle.meaning.specs.declared.Refusal.{Refusal}
 use Rattle.meaning.specs.Refusal.{Answer, good, refused, at, refuseIf, _>>=_, _>>_}
 use Rattle.meaning.specs.Tree.{Concept, nodes}
-use Rattle.meaning.specs.Reduce.{reduce, size, mostSize}
+use Rattle.meaning.specs.Reduce.{reduce, size}
+use Rattle.meaning.specs.Bounds.{mostSize}
 use Rattle.meaning.specs.InPlace.{sizeIn}
 use Rattle.meaning.specs.Requirement.{Requirement, bare}
 use Rattle.meaning.specs.Message.{Part, readRequirement}

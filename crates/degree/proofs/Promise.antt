@@ -42,7 +42,8 @@ use Rattle.degree.specs.declared.call.Answered.{Answered}
 use Rattle.degree.specs.declared.call.Answered.the-variants.{Good as GoodDegree, Refused as RefusedDegree}
 use Rattle.degree.specs.declared.call.Margin.{Margin}
 use Rattle.degree.specs.declared.call.Margin.the-variants.{Good as GoodMargin, Refused as RefusedMargin}
-use Rattle.degree.specs.Answers.{Told, paper, told, paperMargin, mostMargin}
+use Rattle.degree.specs.Answers.{Told, paper, told, paperMargin}
+use Rattle.meaning.specs.Bounds.{mostMargin}
 use Rattle.degree.specs.Table.{Ready, Early, DegreeTakes, DegreeRow, earlier, noRoom, DegreePromise, MarginTakes, MarginRow, before, noThreshold, MarginPromise}
 use Rattle.degree.proofs.Table.{asked, early-stops, ready-goes, early-or-ready}
 use Rattle.degree.proofs.Calls.{degreeThen, marginThen, lawful-bounds}

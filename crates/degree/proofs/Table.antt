@@ -12,7 +12,8 @@ use Rattle.meaning.specs.declared.Refusal.{Refusal}
 use Rattle.meaning.specs.Refusal.{Answer, good, refused, at, onCall, refuseIf, _>>=_, _>>_}
 use Rattle.meaning.specs.Tree.{Concept}
 use Rattle.meaning.specs.Register.{Register, readRegister}
-use Rattle.meaning.specs.Reduce.{reduce, size, mostSize}
+use Rattle.meaning.specs.Reduce.{reduce, size}
+use Rattle.meaning.specs.Bounds.{mostSize}
 use Rattle.meaning.specs.Requirement.{Requirement, bare}
 use Rattle.meaning.specs.Message.{Part, readRequirement}
 use Rattle.meaning.specs.Calls.{firstPart, readPlain, inRange}

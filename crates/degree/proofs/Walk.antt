@@ -27,7 +27,8 @@ use Rattle.meaning.proofs.Written.{dropped-written}
 use Rattle.meaning.proofs.Stores.{sets-append}
 use Rattle.meaning.proofs.Kept.{shown-length}
 use Rattle.meaning.proofs.Rows.{opened, first, ran-out, holds-nodes}
-use Rattle.degree.specs.Case.{Case, mostScale}
+use Rattle.degree.specs.Case.{Case}
+use Rattle.meaning.specs.Bounds.{mostScale}
 use Rattle.degree.specs.declared.Choice.{Choice}
 use Rattle.degree.specs.Notes.{Note, Row, Noted, NotedF}
 use Rattle.degree.specs.Given.{placeOf, Inside, Goes, drawn, Chosen, Drawing}

@@ -39,7 +39,3 @@ marginRefused n = RefusedMargin (onCall n)
 -- a good answer: the margin of a degree against a threshold
 abbrev pub marginOf : Frac → Frac → Margin
 marginOf d t = GoodMargin (margin d t) (marginOver d t)
-
--- "never beyond 3,486,784,401,000 either way"
-abbrev pub mostMargin : ℕ
-mostMargin = 3486784401000

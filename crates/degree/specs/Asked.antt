@@ -8,7 +8,7 @@ use Rattle.meaning.specs.declared.Side.the-variants.{Requirement as requirement
 use Rattle.meaning.specs.Refusal.{Answer, good, refused, at, _>>=_}
 use Rattle.meaning.specs.Tree.{Concept, nodes}
 use Rattle.meaning.specs.Register.{Register, readRegister}
-use Rattle.meaning.specs.Reduce.{mostSize}
+use Rattle.meaning.specs.Bounds.{mostSize}
 use Rattle.meaning.specs.InPlace.{sizeIn}
 use Rattle.meaning.specs.Rows.{Holds, Marked}
 use Rattle.meaning.specs.Calls.{readPlain}

@@ -4,15 +4,12 @@ use mathlib.Core.Path.{_≡_}
 use mathlib.Core.List.{List}
 use Prim.Native.Nat.{ℕ, _≤_}
 use lib.ListN.{length, getD}
+use Rattle.meaning.specs.Bounds.{mostScale}
 use Rattle.meaning.specs.Refusal.{good}
 use Rattle.meaning.specs.Tree.{Concept}
 use Rattle.meaning.specs.Register.{Register, readBuffer}
 use Rattle.meaning.specs.InPlace.{scaleIn}
 use Rattle.meaning.specs.Rows.{Holds, Marked}
-
--- 3 ^ 20: the greatest scale of a tree of size at most 60
-abbrev pub mostScale : ℕ
-mostScale = 3486784401
 
 -- the register that the bytes begin with, of so many items and links, and the tree at a row of at most `left` levels
 pub record Case (s : List ℕ) (items links : ℕ) (names roles ends marks : List ℕ) (node left : ℕ) : Type 0 where

@@ -11,7 +11,8 @@ use Rattle.meaning.specs.declared.Refusal.{Refusal}
 use Rattle.meaning.specs.Refusal.{good, refused, at, onCall}
 use Rattle.meaning.specs.Tree.{nodes}
 use Rattle.meaning.specs.Register.{Register, readRegister}
-use Rattle.meaning.specs.Reduce.{reduce, size, mostSize}
+use Rattle.meaning.specs.Reduce.{reduce, size}
+use Rattle.meaning.specs.Bounds.{mostSize}
 use Rattle.meaning.specs.Requirement.{Requirement, bare}
 use Rattle.meaning.specs.Message.{Part, readRequirement, lawful}
 use Rattle.meaning.specs.Calls.{degreeCall, afterDegree, marginCall}

@@ -11,11 +11,10 @@ ghost use lib.ListN.{length};
 ghost use mir.Syntax.{w64};
 ghost use mir.Val.{SFits};
 ghost use Rattle.meaning.specs.Fraction.{_//_};
-ghost use Rattle.meaning.specs.Message.{mostQ};
 ghost use Rattle.meaning.specs.Calls.{degreeCall, afterDegree, marginCall};
-ghost use Rattle.degree.specs.Case.{mostScale};
 ghost use Rattle.degree.specs.Asked.{rows, plainRefused, PlainDone, BothDone};
-ghost use Rattle.degree.specs.Answers.{paper, told, degreeRefused, paperMargin, marginOf, marginRefused, mostMargin};
+ghost use Rattle.degree.specs.Answers.{paper, told, degreeRefused, paperMargin, marginOf, marginRefused};
+ghost use Rattle.meaning.specs.Bounds.{mostScale, mostQ, mostMargin};
 
 // A plain requirement in rows: how many nodes are written; or its refusal.
 pub enum Plain {
@@ -196,7 +195,7 @@ fn read_plain(
     match m {
         Message::Good { nodes, parts } => {
             if 0 < parts {
-                return plain_refused(11, wide(firsts[0]));
+                return plain_refused(11, fields::pair(firsts[0]));
             }
             reduction::reduce(names, roles, ends, marks);
             if 60 < reduction::size(names, ends, marks, 0, 17) {
@@ -226,12 +225,6 @@ fn difference(a: u64, b: u64) -> i64
     ensures { λ r. ⌜ SFits w64 r ⌝ }
 {
     a as i64 - b as i64
-}
-
-fn wide(x: u16) -> usize
-    ensures { λ r. ⌜ r ≡ x ⌝ }
-{
-    x as usize
 }
 
 fn plain_refused(number: usize, place: usize) -> Plain

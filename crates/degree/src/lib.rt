@@ -18,7 +18,8 @@ ghost use Rattle.meaning.specs.Degree.{orOne, best};
 ghost use Rattle.meaning.specs.Fraction.{_//_};
 ghost use Rattle.meaning.specs.Fraction.{lowest as lowestOf};
 ghost use Rattle.register.specs.Image.{Asked, Image, Begins};
-ghost use Rattle.degree.specs.Case.{Case, mostScale};
+ghost use Rattle.degree.specs.Case.{Case};
+ghost use Rattle.meaning.specs.Bounds.{mostScale};
 ghost use Rattle.degree.specs.Notes.{flag, Leads, Note, Row, Noted, Clear, Outside};
 ghost use Rattle.degree.specs.Heavy.{Written, Heavy, Headed};
 ghost use Rattle.degree.specs.Given.{placeOf, Goes, drawn, Scanned, Worked, Chosen, Ended, Graded, Drawing};
@@ -56,22 +57,6 @@ pub struct Degree {
 pub struct Fraction {
     pub num: u64,
     pub den: u64,
-}
-
-// A byte as a number.
-fn wide(x: u8) -> usize
-    ensures { λ r. ⌜ r ≡ x ⌝ }
-    ensures { λ r. ⌜ r < 256 ⌝ }
-{
-    x as usize
-}
-
-// A 32-bit number as a 64-bit one.
-fn broad(x: u32) -> u64
-    ensures { λ r. ⌜ r ≡ x ⌝ }
-    ensures { λ r. ⌜ r < 4294967296 ⌝ }
-{
-    x as u64
 }
 
 // An end of value v is taken: it is under the role, and the first or of greater value than the one before.
@@ -139,7 +124,7 @@ fn folded(sum: u32, scale: u64, value: u32, product: u64) -> u32
     requires { ⌜ sum * scale + value * product < 4294967296 ⌝ }
     ensures { λ r. ⌜ r ≡ sum * scale + value * product ⌝ }
 {
-    (broad(sum) * scale + broad(value) * product) as u32
+    (fields::quad(sum) * scale + fields::quad(value) * product) as u32
 }
 
 // Notes that a node goes along a link. A link that the table has no place for is not noted.
@@ -225,13 +210,13 @@ fn heaviest(ends: &[u8; 64], marks: &[u8; 64], node: usize) -> usize
     requires { ⌜ Written (now ends) node ⌝ }
     ensures { λ r. ⌜ ((k : Written (now (ends .entry)) node) → Heavy (now (ends .entry)) (now (marks .entry)) (k .tree) node r) ⌝ }
 {
-    let e = wide(ends[node]);
+    let e = fields::octet(ends[node]);
     let mut heavy = e;
     let mut most = 0;
     let mut c = node + 1;
     while c < e {
         let at = c;
-        c = wide(ends[at]);
+        c = fields::octet(ends[at]);
         if lighter(marks[at], c - at, most) {
             continue;
         }
@@ -257,7 +242,7 @@ fn alone(s: &[u8], names: u64, out: &mut [u32]) -> u64
     ensures { λ r. ⌜ r ≡ max 1 (many names) ⌝ }
     ensures { λ _. ⌜ Image (now (s .entry)) (λ g. (i : ℕ) → i < length (g .names) → getD (now (out .exit)) i 0 ≡ orOne (many names) (common names (getD (g .names) i 0))) ⌝ }
 {
-    let n = broad(u64::count_ones(names));
+    let n = fields::quad(u64::count_ones(names));
     if n == 0 {
         fill_ones(out);
         return 1;
@@ -293,7 +278,7 @@ fn work(
     ensures { λ _. ⌜ Outside (node + 1) (getD (now (ends .entry)) node 0) (now (table .entry)) (now (table .exit)) ⌝ }
 {
     let heavy = heaviest(ends, marks, node);
-    if heavy == wide(ends[node]) {
+    if heavy == fields::octet(ends[node]) {
         return alone(s, names[node], out);
     }
     let scale = work(
@@ -315,7 +300,7 @@ fn work(
         s,
         items,
         links,
-        wide(roles[heavy]),
+        fields::octet(roles[heavy]),
         heavy,
         spare,
         scale,
@@ -368,13 +353,13 @@ fn others(
     ensures { λ _. ⌜ Outside (node + 1) (getD (now (ends .entry)) node 0) (now (table .entry)) (now (table .exit)) ⌝ }
 {
     let mut room = [0u32; 512];
-    let e = wide(ends[node]);
-    let mut n = broad(u64::count_ones(names[node])) + 1;
+    let e = fields::octet(ends[node]);
+    let mut n = fields::quad(u64::count_ones(names[node])) + 1;
     let mut product = first;
     let mut c = node + 1;
     while c < e {
         let at = c;
-        c = wide(ends[at]);
+        c = fields::octet(ends[at]);
         if passed(marks[at], at, heavy) {
             continue;
         }
@@ -396,7 +381,7 @@ fn others(
             s,
             items,
             links,
-            wide(roles[at]),
+            fields::octet(roles[at]),
             at,
             spare,
             scale,
@@ -491,11 +476,11 @@ fn choose(
         links,
         item,
         first,
-        wide(roles[node]),
+        fields::octet(roles[node]),
         &sub[..items],
     );
     Choice {
-        value: broad(b.value),
+        value: fields::quad(b.value),
         item: b.item,
         scale,
     }
@@ -506,8 +491,8 @@ fn begun(names: u64, held: u64) -> Sum
     ensures { λ r. ⌜ (r .number ≡ common names held) × (r .count ≡ many names) × (r .scale ≡ 1) ⌝ }
 {
     Sum {
-        number: broad(u64::count_ones(names & held)),
-        count: broad(u64::count_ones(names)),
+        number: fields::quad(u64::count_ones(names & held)),
+        count: fields::quad(u64::count_ones(names)),
         scale: 1,
     }
 }
@@ -607,11 +592,11 @@ fn show(
         (o : Goes item) → now (map .exit) ≡ drawn (k .register) (k .tree) node (o .to) (now (map .entry))) ⌝ }
 {
     map[node] = item as u16;
-    let e = wide(ends[node]);
+    let e = fields::octet(ends[node]);
     let mut c = node + 1;
     while c < e {
         let at = c;
-        c = wide(ends[at]);
+        c = fields::octet(ends[at]);
         if marks[at] == 0 {
             fill_dropped(map, at, c);
             continue;
@@ -644,12 +629,12 @@ pub fn shown_at(
 {
     let mut table = [0u64; 4096];
     map[node] = item as u16;
-    let e = wide(ends[node]);
+    let e = fields::octet(ends[node]);
     let mut sum = begun(names[node], register::names_of(s, item));
     let mut c = node + 1;
     while c < e {
         let child = c;
-        c = wide(ends[child]);
+        c = fields::octet(ends[child]);
         if marks[child] == 0 {
             fill_dropped(map, child, c);
             continue;

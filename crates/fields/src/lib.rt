@@ -2,18 +2,33 @@
 pub mod bits; // bits.rt: sets of up to 64 things as numbers
 
 ghost use mathlib.Core.Path.{_≡_};
-ghost use Prim.Native.Nat.{_+_, _≤_, _<_};
+ghost use Prim.Native.Nat.{_+_, _%_, _≤_, _<_};
 ghost use lib.ListN.{length};
+ghost use lib.Seq.{sets};
 ghost use Rattle.meaning.specs.declared.Side.{Side};
-ghost use Rattle.meaning.specs.Bytes.{number, readHead};
+ghost use Rattle.meaning.specs.Bytes.{number, bytes, readHead};
 ghost use Rattle.fields.specs.Head.{paperHead, wrongIn, EndsWithin};
 
-// A byte as a number.
-fn wide(x: u8) -> usize
+// A number of 8, 16 or 32 bits as one of 64.
+pub fn octet(x: u8) -> usize
     ensures { λ r. ⌜ r ≡ x ⌝ }
     ensures { λ r. ⌜ r < 256 ⌝ }
 {
     x as usize
+}
+
+pub fn pair(x: u16) -> usize
+    ensures { λ r. ⌜ r ≡ x ⌝ }
+    ensures { λ r. ⌜ r < 65536 ⌝ }
+{
+    x as usize
+}
+
+pub fn quad(x: u32) -> u64
+    ensures { λ r. ⌜ r ≡ x ⌝ }
+    ensures { λ r. ⌜ r < 4294967296 ⌝ }
+{
+    x as u64
 }
 
 // The number in one byte.
@@ -22,7 +37,7 @@ pub fn one(s: &[u8], at: usize) -> usize
     ensures { λ r. ⌜ r ≡ number (now (s .entry)) at 1 ⌝ }
     ensures { λ r. ⌜ r < 256 ⌝ }
 {
-    wide(s[at])
+    octet(s[at])
 }
 
 // The number in two bytes.
@@ -31,7 +46,7 @@ pub fn two(s: &[u8], at: usize) -> usize
     ensures { λ r. ⌜ r ≡ number (now (s .entry)) at 2 ⌝ }
     ensures { λ r. ⌜ r < 65536 ⌝ }
 {
-    wide(s[at]) * 256 + wide(s[at + 1])
+    octet(s[at]) * 256 + octet(s[at + 1])
 }
 
 // The number in eight bytes.
@@ -44,6 +59,27 @@ pub fn eight(s: &[u8], at: usize) -> u64
     let c = two(s, at + 4) as u64;
     let d = two(s, at + 6) as u64;
     ((a * 65536 + b) * 65536 + c) * 65536 + d
+}
+
+// The lowest byte of a number.
+fn low(n: usize) -> u8
+    ensures { λ r. ⌜ r ≡ n % 256 ⌝ }
+{
+    (n % 256) as u8
+}
+
+// Writes a number into so many bytes.
+pub fn put(s: &mut [u8], at: usize, width: usize, n: usize)
+    requires { ⌜ at + width ≤ length (now s) ⌝ }
+    ensures { λ _. ⌜ now (s .exit) ≡ sets (now (s .entry)) at (bytes width n) ⌝ }
+{
+    let mut i = width;
+    let mut rest = n;
+    while 0 < i {
+        i -= 1;
+        s[at + i] = low(rest);
+        rest = rest / 256;
+    }
 }
 
 // A head: where what it heads ends, or the number and place of its fault.

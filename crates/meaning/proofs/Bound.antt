@@ -9,7 +9,8 @@ use lib.Dec.{lit≤}
 use lib.Pow.{pow-add}
 use Rattle.meaning.specs.Names.{names}
 use Rattle.meaning.specs.Tree.{node, Forest, none, more, Concept, count}
-use Rattle.meaning.specs.Reduce.{size, sizeF, scale, scaleF, mostSize}
+use Rattle.meaning.specs.Reduce.{size, sizeF, scale, scaleF}
+use Rattle.meaning.specs.Bounds.{mostSize, mostScale}
 
 abbrev cube : ℕ → ℕ
 cube n = n * n * n
@@ -44,9 +45,6 @@ mutual
   cube-scaleF : (f : Forest ℕ) → cube (scaleF f) ≤ 3 ^ sizeF f
   cube-scaleF none = lit≤ tt
   cube-scaleF (more r t f) = cube-mul (scale t) (scaleF f) (size t) (sizeF f) (cube-scale t) (cube-scaleF f)
-
-abbrev pub mostScale : ℕ
-mostScale = 3486784401
 
 pub scale-bound : (t : Concept) → size t ≤ mostSize → scale t ≤ mostScale
 scale-bound t h = go (decLe (scale t) mostScale)

@@ -16,7 +16,8 @@ use Rattle.meaning.specs.declared.Step.{Step}
 use Rattle.meaning.specs.Refusal.{Answer, good, _>>=_, _>>_}
 use Rattle.meaning.specs.Bytes.{Bytes}
 use Rattle.meaning.specs.Tree.{nodes}
-use Rattle.meaning.specs.Register.{Register, isFact, anyLink, mostLinks, wellFormed, encode, readRegister, readBuffer}
+use Rattle.meaning.specs.Register.{Register, isFact, anyLink, wellFormed, encode, readRegister, readBuffer}
+use Rattle.meaning.specs.Bounds.{mostLinks}
 use Rattle.meaning.specs.Message.{readRequirement, lawful}
 use Rattle.meaning.specs.Calls.{readPlain, degreeCall, marginCall, memberCall}
 use Rattle.meaning.specs.Session.{Facts, link, Edit, edited, insert, without, setFact, cleared, imageOf, room, outOfRange, roleAbove, noPlace, Changed, openCall, undoCall}

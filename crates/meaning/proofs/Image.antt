@@ -15,7 +15,8 @@ use Rattle.meaning.specs.declared.Side.the-variants.{Register as registe
 use Rattle.meaning.specs.Refusal.{good, _>>=_, _>>_}
 use Rattle.meaning.specs.Bytes.{number, bytes, Bytes, readHead, unequal, moreThan}
 use Rattle.meaning.specs.Names.{isSet}
-use Rattle.meaning.specs.Register.{Link, Register, above, allSets, linksOf, mostItems, mostLinks, wellFormed, linkBytes, itemsBytes, linksBytes, encode, linkAt, readItems, readLink, readLinks, readBody, readRegisterBy, readRegister, readBuffer}
+use Rattle.meaning.specs.Register.{Link, Register, above, allSets, linksOf, wellFormed, linkBytes, itemsBytes, linksBytes, encode, linkAt, readItems, readLink, readLinks, readBody, readRegisterBy, readRegister, readBuffer}
+use Rattle.meaning.specs.Bounds.{mostItems, mostLinks}
 use Rattle.meaning.proofs.Tests.{of-not, and-both, both-and, neither, neither-of}
 use Rattle.meaning.proofs.Head.{headed-length, body-stands, head-stands, head-read, read-head}
 use Rattle.meaning.proofs.Reading.{good-inj, pass, passed, took, taken, not-below, le-of-not-below, not-le, lt-of-not-le, not-not, not-unequal, eq-of-unequal, total, fitted, fields-fitted, Stands, stands-self, stands-left, stands-right, stands-both, stands-whole, bytes-length, number-of, bytes-of, number-below}

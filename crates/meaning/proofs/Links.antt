@@ -14,7 +14,8 @@ use lib.Dec.{T, eqb, ltb, leb, eqb→eq, eqb-refl, ltb→lt}
 use lib.ListN.{length}
 use Rattle.meaning.specs.declared.Fact.the-variants.{Name as nameOn, Link as linkOf}
 use Rattle.meaning.specs.Register.{Link, Register, sameLink, anyLink, isFact, targets, judged}
-use Rattle.meaning.specs.Register.{rises, above, allSets, linksOf, mostItems, mostLinks, wellFormed}
+use Rattle.meaning.specs.Register.{rises, above, allSets, linksOf, wellFormed}
+use Rattle.meaning.specs.Bounds.{mostItems, mostLinks}
 use Rattle.meaning.specs.Names.{has}
 use Rattle.meaning.specs.Whole.{any}
 use Rattle.meaning.proofs.Tests.{holds, and-both, both-and, or-cases, any-found, found-any}

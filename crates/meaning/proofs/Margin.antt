@@ -12,16 +12,16 @@ use lib.Signed.{ltZ, leZ}
 use Rattle.meaning.specs.Tree.{Concept}
 use Rattle.meaning.specs.Graph.{Graph}
 use Rattle.meaning.specs.Fraction.{Frac, _//_, Same, AtMost, margin, marginOver, Comparison, compares, less, atMost, greater, atLeast}
-use Rattle.meaning.specs.Reduce.{reduce, size, mostSize}
+use Rattle.meaning.specs.Reduce.{reduce, size}
 use Rattle.meaning.specs.Degree.{degreeOf, answered}
 use Rattle.meaning.specs.Requirement.{Threshold, passes}
-use Rattle.meaning.specs.Message.{mostQ}
 use Rattle.meaning.proofs.Tests.{holds, fails, bool-eq}
 use Rattle.meaning.proofs.Fraction.{at-most-trans}
 use Rattle.meaning.proofs.Lowest.{lowest-le}
 use Rattle.meaning.proofs.Scale.{scale-pos}
 use Rattle.meaning.proofs.Degree.{answered-lowest, answered-at-most-one}
-use Rattle.meaning.proofs.Bound.{mostScale, scale-bound}
+use Rattle.meaning.proofs.Bound.{scale-bound}
+use Rattle.meaning.specs.Bounds.{mostSize, mostScale, mostQ, mostMargin}
 
 -- a − b by its two cases
 sub-cases : (P : ℤ → Type 0) (a b : ℕ) → (a < b → P (negsuc (b - suc a))) → (b ≤ a → P (pos (a - b))) → P (subℕ a b)
@@ -92,9 +92,6 @@ compares-same c d e t dp ep s = go c
     go atLeast = leb-same _ _ _ _ above
 
 -- ---- the size
-
-abbrev pub mostMargin : ℕ
-mostMargin = 3486784401000
 
 sub-bound : (a b m : ℕ) → a ≤ m → b ≤ m → natAbs (subℕ a b) ≤ m
 sub-bound a b m h k = sub-cases (λ z. natAbs z ≤ m) a b (λ l. omega arith) (λ l. omega arith)

@@ -14,7 +14,8 @@ use Rattle.meaning.specs.Bytes.{Bytes}
 use Rattle.meaning.specs.Names.{isSet}
 use Rattle.meaning.specs.Tree.{node, Forest, none, more, nodes, levels, written, writtenF}
 use Rattle.meaning.specs.Requirement.{Threshold, Label, Requirement, every}
-use Rattle.meaning.specs.Message.{mostLevels, mostNodes, mostThresholds, lawful, bounded, soundInner, soundThreshold, soundLabel, joined}
+use Rattle.meaning.specs.Message.{lawful, bounded, soundInner, soundThreshold, soundLabel, joined}
+use Rattle.meaning.specs.Bounds.{mostLevels, mostNodes, mostThresholds}
 use Rattle.meaning.specs.Message.{thresholdsOf, sound, conceptBytes, thresholdsBytes, requirementBytes, encode, Part, Spot, entered}
 use Rattle.meaning.specs.Message.{withThresholds, readRequirement, partBytes, kth, partOf, innerPart}
 use Rattle.meaning.specs.Message.{passed as onward}

@@ -15,9 +15,10 @@ use Rattle.meaning.specs.Bytes.{number, bytes, Bytes}
 use Rattle.meaning.specs.Names.{isSet}
 use Rattle.meaning.specs.Tree.{Tree, node, Forest, none, more, Concept, nodes, levels, each, written}
 use Rattle.meaning.specs.Fraction.{_//_, gcd, Comparison, less, atMost, greater, atLeast}
-use Rattle.meaning.specs.Reduce.{reduce, size, mostSize}
+use Rattle.meaning.specs.Reduce.{reduce, size}
 use Rattle.meaning.specs.Requirement.{Threshold, Label, every}
-use Rattle.meaning.specs.Message.{mostLevels, mostNodes, mostThresholds, mostQ, lawful, code, comparison, bounded, soundInner, soundThreshold}
+use Rattle.meaning.specs.Message.{lawful, code, comparison, bounded, soundInner, soundThreshold}
+use Rattle.meaning.specs.Bounds.{mostSize, mostLevels, mostNodes, mostThresholds, mostQ}
 use Rattle.meaning.specs.Message.{soundLabel, conceptBytes, thresholdBytes, thresholdsBytes, Part, Spot, entered, noThresholds, readInner}
 use Rattle.meaning.specs.Message.{readThreshold, readThresholds, withThresholds}
 use Rattle.meaning.proofs.Tests.{and-both, both-and, is-true, of-not}

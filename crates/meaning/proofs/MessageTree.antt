@@ -14,7 +14,8 @@ use Rattle.meaning.specs.Refusal.{Answer, good}
 use Rattle.meaning.specs.Bytes.{number, bytes, Bytes}
 use Rattle.meaning.specs.Tree.{Tree, node, Forest, none, more, count, nodes, nodesF, levels, levelsF, each, eachF, written, writtenF}
 use Rattle.meaning.specs.Requirement.{every}
-use Rattle.meaning.specs.Message.{mostNodes, mostThresholds, nodeBytes, childrenBytes, Part, Spot, entered, readNode, readChildren}
+use Rattle.meaning.specs.Message.{nodeBytes, childrenBytes, Part, Spot, entered, readNode, readChildren}
+use Rattle.meaning.specs.Bounds.{mostNodes, mostThresholds}
 use Rattle.meaning.specs.Message.{passed as onward}
 use Rattle.meaning.proofs.Tests.{and-both, both-and, every-append}
 use Rattle.meaning.proofs.Reading.{not-good, good-inj, then-test, then-take, then-fit, of-test, of-take, of-fit, not-below, le-of-not-below}

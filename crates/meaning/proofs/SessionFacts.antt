@@ -13,7 +13,8 @@ use lib.Seq.{getD-set-same, getD-set-other, ext-getD}
 use Rattle.meaning.specs.declared.Fact.{Fact}
 use Rattle.meaning.specs.declared.Fact.the-variants.{Name as nameOn, Link as linkOf}
 use Rattle.meaning.specs.Names.{has, isSet}
-use Rattle.meaning.specs.Register.{Link, Register, isFact, allSets, linksOf, mostLinks, wellFormed, encode}
+use Rattle.meaning.specs.Register.{Link, Register, isFact, allSets, linksOf, wellFormed, encode}
+use Rattle.meaning.specs.Bounds.{mostLinks}
 use Rattle.meaning.specs.Session.{Facts, link, sameFact, edited, withName, withLink, setFact, outOfRange, roleAbove, noPlace}
 use Rattle.meaning.proofs.Tests.{holds, is-true, true-false, is-eqb, and-both, both-and, neither-of}
 use Rattle.meaning.proofs.Reading.{le-of-not-below, lt-of-not-le}

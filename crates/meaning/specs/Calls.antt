@@ -13,7 +13,8 @@ use Rattle.meaning.specs.Refusal.{Answer, good, refused, at, onCall, ref
 use Rattle.meaning.specs.Tree.{Concept, nodes}
 use Rattle.meaning.specs.Fraction.{Frac, _//_, margin, marginOver}
 use Rattle.meaning.specs.Register.{Register, judged, readRegister}
-use Rattle.meaning.specs.Reduce.{reduce, size, mostSize}
+use Rattle.meaning.specs.Reduce.{reduce, size}
+use Rattle.meaning.specs.Bounds.{mostSize}
 use Rattle.meaning.specs.Degree.{answered}
 use Rattle.meaning.specs.Requirement.{bare, member}
 use Rattle.meaning.specs.Message.{Part, readRequirement, lawful}

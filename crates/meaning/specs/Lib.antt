@@ -1,3 +1,4 @@
+pub mod Bounds
 pub mod Refusal
 pub mod Bytes
 pub mod Names

@@ -11,22 +11,11 @@ use Rattle.meaning.specs.Bytes.{number, bytes, fields, readHead, unequal
 use Rattle.meaning.specs.Names.{isSet}
 use Rattle.meaning.specs.Tree.{Tree, node, Forest, none, more, Concept, count, nodes, levels, each, written}
 use Rattle.meaning.specs.Fraction.{_//_, gcd, Comparison, less, atMost, greater, atLeast}
-use Rattle.meaning.specs.Reduce.{reduce, size, mostSize}
+use Rattle.meaning.specs.Reduce.{reduce, size}
+use Rattle.meaning.specs.Bounds.{mostRole, mostLevels, mostNodes, mostThresholds, mostQ, mostSize}
 use Rattle.meaning.specs.Requirement.{Threshold, Label, Requirement, every}
 
 -- ---- which requirements there are
-
-abbrev pub mostLevels : ℕ
-mostLevels = 17
-
-abbrev pub mostNodes : ℕ
-mostNodes = 64
-
-abbrev pub mostThresholds : ℕ
-mostThresholds = 16
-
-abbrev pub mostQ : ℕ
-mostQ = 1000
 
 -- "The threshold is p/q, q from 1 to 1,000, p at most q, no common factor above 1"
 abbrev pub lawful : ℕ → ℕ → Bool
@@ -127,7 +116,7 @@ module _ {L : Type 0} (label : Spot → Answer (L × Spot)) (s : List ℕ) (end 
   readChildren readChild zero w = good (none, w)
   readChildren readChild (suc k) w = do
     fields requirement end (1 ∷ []) (w .next)
-    refuseIf (ltb 31 (number s (w .next) 1)) (at requirement 7 (w .next))
+    refuseIf (ltb mostRole (number s (w .next) 1)) (at requirement 7 (w .next))
     (t, v) ← readChild (passed 1 w)
     (f, u) ← readChildren readChild k v
     good (more (number s (w .next) 1) t f, u)

@@ -70,6 +70,3 @@ unfoldable mutual
   pub scaleF : Forest ℕ → ℕ
   scaleF none = 1
   scaleF (more r t f) = scale t * scaleF f
-
-abbrev pub mostSize : ℕ
-mostSize = 60

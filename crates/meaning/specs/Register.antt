@@ -10,6 +10,7 @@ use lib.ListN.{length, getD}
 use Rattle.meaning.specs.declared.Side.the-variants.{Register as register}
 use Rattle.meaning.specs.declared.Fact.{Fact}
 use Rattle.meaning.specs.declared.Fact.the-variants.{Name as nameOn, Link as linkOf}
+use Rattle.meaning.specs.Bounds.{mostItems, mostLinks, mostRole}
 use Rattle.meaning.specs.Refusal.{Answer, good, at, refuseIf, _>>=_, _>>_}
 use Rattle.meaning.specs.Bytes.{number, bytes, fields, readHead, unequal, moreThan, headed}
 use Rattle.meaning.specs.Names.{has, isSet}
@@ -68,13 +69,7 @@ allSets (a ∷ as′) = isSet a && allSets as′
 -- links between n items that rise, the first above the one before
 unfoldable pub linksOf : ℕ → Option Link → List Link → Bool
 linksOf n before [] = true
-linksOf n before (l ∷ ls) = ltb (l .from) n && leb (l .role) 31 && ltb (l .to) n && above before l && linksOf n (some l) ls
-
-abbrev pub mostItems : ℕ
-mostItems = 512
-
-abbrev pub mostLinks : ℕ
-mostLinks = 4096
+linksOf n before (l ∷ ls) = ltb (l .from) n && leb (l .role) mostRole && ltb (l .to) n && above before l && linksOf n (some l) ls
 
 unfoldable pub wellFormed : Register → Bool
 wellFormed g =
@@ -115,7 +110,7 @@ unfoldable pub readLink : List ℕ → ℕ → ℕ → Option Link → ℕ → A
 readLink s end n before p = do
   fields register end (2 ∷ 1 ∷ 2 ∷ []) p
   refuseIf (leb n (linkAt s p .from)) (at register 5 p)
-  refuseIf (ltb 31 (linkAt s p .role)) (at register 7 (p + 2))
+  refuseIf (ltb mostRole (linkAt s p .role)) (at register 7 (p + 2))
   refuseIf (leb n (linkAt s p .to)) (at register 5 (p + 3))
   refuseIf (not (above before (linkAt s p))) (at register 6 p)
   good (linkAt s p)

@@ -12,7 +12,8 @@ use Rattle.meaning.specs.declared.Step.{Step}
 use Rattle.meaning.specs.Refusal.{Answer, good, refused, onCall, refuseIf, _>>=_, _>>_}
 use Rattle.meaning.specs.Bytes.{number}
 use Rattle.meaning.specs.Names.{has}
-use Rattle.meaning.specs.Register.{Link, Register, sameLink, isFact, rises, mostLinks, encode, readBuffer}
+use Rattle.meaning.specs.Register.{Link, Register, sameLink, isFact, rises, encode, readBuffer}
+use Rattle.meaning.specs.Bounds.{mostLinks, mostName, mostRole, mostSteps}
 
 -- ---- facts and edits
 
@@ -85,17 +86,17 @@ imageOf s = take (3 + number s 1 2) s
 
 -- "at most 64 in use": of a log of so many records
 abbrev pub room : ℕ → ℕ
-room log = min log 64
+room log = min log mostSteps
 
 -- 15: "asked item or name not in range"; "A link's ends in an edit count as items under 15."
 abbrev pub outOfRange : ℕ → Fact → Bool
-outOfRange items (nameOn i k) = leb items i || ltb 63 k
+outOfRange items (nameOn i k) = leb items i || ltb mostName k
 outOfRange items (linkOf a r b) = leb items a || leb items b
 
 -- 7: "role above 31"
 abbrev pub roleAbove : Fact → Bool
 roleAbove (nameOn i k) = false
-roleAbove (linkOf a r b) = ltb 31 r
+roleAbove (linkOf a r b) = ltb mostRole r
 
 -- 20: "link not there is to be added, and 4,096 stand or the buffer has under 5 bytes left"
 unfoldable pub noPlace : List ℕ → Register → Bool → Fact → Bool

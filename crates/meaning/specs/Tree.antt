@@ -7,6 +7,7 @@ use mathlib.Core.Option.{Option, some}
 use mathlib.Core.Option.{none as nowhere}
 use Prim.Native.Nat.{ℕ, zero, suc, _+_, max}
 use lib.Dec.{eqb, leb}
+use Rattle.meaning.specs.Bounds.{mostRole}
 
 mutual
   pub data Tree (L : Type 0) : Type 0 where
@@ -70,7 +71,7 @@ unfoldable mutual
 
   pub eachF : {L : Type 0} → (L → Bool) → Forest L → Bool
   eachF ok none = true
-  eachF ok (more r t f) = leb r 31 && each ok t && eachF ok f
+  eachF ok (more r t f) = leb r mostRole && each ok t && eachF ok f
 
 -- the same tree with other labels
 unfoldable mutual

@@ -10,9 +10,10 @@ use Rattle.meaning.specs.Tree.{node, none, nodes}
 use Rattle.meaning.specs.Graph.{Graph}
 use Rattle.meaning.specs.Register.{Register, readRegister, readBuffer}
 use Rattle.meaning.specs.Fraction.{_//_, less}
-use Rattle.meaning.specs.Reduce.{reduce, size, mostSize}
+use Rattle.meaning.specs.Reduce.{reduce, size}
 use Rattle.meaning.specs.Requirement.{Threshold, Requirement, bare, passes}
-use Rattle.meaning.specs.Message.{Part, Spot, comparison, mostQ, readInner, readRequirement}
+use Rattle.meaning.specs.Message.{Part, Spot, comparison, readInner, readRequirement}
+use Rattle.meaning.specs.Bounds.{mostSize, mostQ}
 use Rattle.meaning.specs.Rows.{Holds}
 use Rattle.meaning.specs.Calls.{Decision, met, unmet}
 use Rattle.requirement.specs.Reading.{PartsHeld, parted}

@@ -158,15 +158,17 @@ fn fill_table(
 {
     let mut k = 0;
     while k < parts {
-        fill_row(image, items, links, message, wide(firsts[k]), k, table);
+        fill_row(
+            image,
+            items,
+            links,
+            message,
+            fields::pair(firsts[k]),
+            k,
+            table,
+        );
         k += 1;
     }
-}
-
-fn wide(x: u16) -> usize
-    ensures { λ r. ⌜ r ≡ x ⌝ }
-{
-    x as usize
 }
 
 // The row of the k-th threshold, which stands at `first`.

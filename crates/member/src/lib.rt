@@ -26,13 +26,6 @@ pub struct Hit {
     pub next: usize,
 }
 
-fn wide(x: u8) -> usize
-    ensures { λ r. ⌜ r ≡ x ⌝ }
-    ensures { λ r. ⌜ r < 256 ⌝ }
-{
-    x as usize
-}
-
 fn both(a: bool, b: bool) -> bool
     ensures { λ r. ⌜ r ≡ (a && b) ⌝ }
 {
@@ -87,7 +80,7 @@ fn keep_all(
     while k < parts {
         let at = k;
         k += 1;
-        if wide(owners[at]) != node {
+        if fields::octet(owners[at]) != node {
             continue;
         }
         keep(items, table, at, node, met);
@@ -193,11 +186,11 @@ pub fn meet(
 {
     own(s, items, names[node], node, met);
     keep_all(items, owners, parts, table, node, met);
-    let e = wide(ends[node]);
+    let e = fields::octet(ends[node]);
     let mut c = node + 1;
     while c < e {
         let at = c;
-        c = wide(ends[at]);
+        c = fields::octet(ends[at]);
         meet(
             s,
             items,
@@ -212,7 +205,7 @@ pub fn meet(
             left - 1,
             met,
         );
-        fold(s, items, links, wide(roles[at]), at, node, met);
+        fold(s, items, links, fields::octet(roles[at]), at, node, met);
     }
 }
 
@@ -238,12 +231,21 @@ pub fn walk(
 {
     map[node] = item as u16;
     let first = register::first_link(s, items, links, item);
-    let e = wide(ends[node]);
+    let e = fields::octet(ends[node]);
     let mut c = node + 1;
     while c < e {
         let at = c;
-        c = wide(ends[at]);
-        let h = seek(s, items, links, item, first, wide(roles[at]), at, met);
+        c = fields::octet(ends[at]);
+        let h = seek(
+            s,
+            items,
+            links,
+            item,
+            first,
+            fields::octet(roles[at]),
+            at,
+            met,
+        );
         walk(
             s,
             items,
@@ -258,13 +260,6 @@ pub fn walk(
             map,
         );
     }
-}
-
-fn broad(x: u32) -> u64
-    ensures { λ r. ⌜ r ≡ x ⌝ }
-    ensures { λ r. ⌜ r < 4294967296 ⌝ }
-{
-    x as u64
 }
 
 // Whether number / scale satisfies a comparison with p / q, by cross-multiplication: 0 is <, 1 is ≤, 2 is >, 3 is ≥.
@@ -302,7 +297,11 @@ pub fn judge(
 {
     let mut i = 0;
     while i < items {
-        table[i] = bits::marked(table[i], k, satisfies(how, broad(values[i]), scale, p, q));
+        table[i] = bits::marked(
+            table[i],
+            k,
+            satisfies(how, fields::quad(values[i]), scale, p, q),
+        );
         i += 1;
     }
 }

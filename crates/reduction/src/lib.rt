@@ -10,14 +10,6 @@ ghost use Rattle.reduction.specs.Subsumed.{yields, Two, Tests, TestsLike
 ghost use Rattle.reduction.specs.Marks.{Put, MarkedBelow, MarkedChild, MarkedWhole};
 ghost use Rattle.reduction.specs.Sizes.{HeldBy, Sized, SizedKept};
 
-// A byte as a number.
-fn wide(x: u8) -> usize
-    ensures { λ r. ⌜ r ≡ x ⌝ }
-    ensures { λ r. ⌜ r < 256 ⌝ }
-{
-    x as usize
-}
-
 // Each name of a is one of b.
 fn within(a: u64, b: u64) -> bool
     ensures { λ r. ⌜ r ≡ within a b ⌝ }
@@ -48,14 +40,14 @@ fn subsumes(
     if !within(names[c], names[d]) {
         return false;
     }
-    let e = wide(ends[c]);
-    let m = wide(ends[d]);
+    let e = fields::octet(ends[c]);
+    let m = fields::octet(ends[d]);
     let mut k = c + 1;
     while k < e {
         if !subsumes_one(names, roles, ends, k, d + 1, m, left - 1) {
             return false;
         }
-        k = wide(ends[k]);
+        k = fields::octet(ends[k]);
     }
     true
 }
@@ -78,7 +70,7 @@ fn subsumes_one(
         if subsumes_like(names, roles, ends, c, d, left) {
             return true;
         }
-        d = wide(ends[d]);
+        d = fields::octet(ends[d]);
     }
     false
 }
@@ -120,7 +112,7 @@ fn yields_one(
         if yields(names, roles, ends, c, d, left, earlier) {
             return true;
         }
-        d = wide(ends[d]);
+        d = fields::octet(ends[d]);
     }
     false
 }
@@ -163,7 +155,7 @@ fn dropped(
     if yields_one(names, roles, ends, c, first, c, left, true) {
         return true;
     }
-    let next = wide(ends[c]);
+    let next = fields::octet(ends[c]);
     yields_one(names, roles, ends, c, next, end, left, false)
 }
 
@@ -187,11 +179,11 @@ fn mark(
     requires { ⌜ Held (now names) (now roles) (now ends) left node ⌝ }
     ensures { λ _. ⌜ MarkedBelow (now (names .entry)) (now (roles .entry)) (now (ends .entry)) left (now (marks .entry)) (now (marks .exit)) node ⌝ }
 {
-    let end = wide(ends[node]);
+    let end = fields::octet(ends[node]);
     let mut c = node + 1;
     while c < end {
         mark_child(names, roles, ends, marks, node + 1, c, end, left - 1);
-        c = wide(ends[c]);
+        c = fields::octet(ends[c]);
     }
 }
 
@@ -231,12 +223,12 @@ pub fn size(names: &[u64; 64], ends: &[u8; 64], marks: &[u8; 64], node: usize, l
     requires { ⌜ HeldBy (now names) (now ends) left node ⌝ }
     ensures { λ r. ⌜ Sized (now (names .entry)) (now (ends .entry)) left (now (marks .entry)) node r ⌝ }
 {
-    let end = wide(ends[node]);
+    let end = fields::octet(ends[node]);
     let mut n = named(names[node]);
     let mut c = node + 1;
     while c < end {
         n += child_size(names, ends, marks, c, left - 1);
-        c = wide(ends[c]);
+        c = fields::octet(ends[c]);
     }
     n
 }

@@ -13,7 +13,8 @@ use Rattle.meaning.specs.declared.Side.the-variants.{Register as register}
 use Rattle.meaning.specs.declared.Refusal.{Refusal}
 use Rattle.meaning.specs.Refusal.{Answer, good, refused, at, refuseIf, _>>=_, _>>_}
 use Rattle.meaning.specs.Bytes.{number, fields}
-use Rattle.meaning.specs.Register.{Link, mostItems, mostLinks, readItems, readLinks, readBody}
+use Rattle.meaning.specs.Register.{Link, readItems, readLinks, readBody}
+use Rattle.meaning.specs.Bounds.{mostItems, mostLinks}
 use Rattle.meaning.proofs.Tests.{neither}
 use Rattle.meaning.proofs.Reading.{pass, stop, stopped, halted, took, below, not-below, fitted}
 use Rattle.register.specs.Reading.{Counts, counted, linksAnswer}

@@ -11,7 +11,8 @@ use Rattle.meaning.specs.Refusal.{Answer, good, refused, at, refuseIf, _>>=_, _
 use Rattle.meaning.specs.Bytes.{number, fields}
 use Rattle.meaning.specs.Tree.{Tree, node, Forest, none, more, Concept, relabel, relabelF}
 use Rattle.meaning.specs.Requirement.{Label}
-use Rattle.meaning.specs.Message.{Spot, mostNodes, passed, readChildren, readNode, withThresholds}
+use Rattle.meaning.specs.Message.{Spot, passed, readChildren, readNode, withThresholds}
+use Rattle.meaning.specs.Bounds.{mostNodes}
 use Rattle.requirement.specs.Reading.{labelIn, nodeIn}
 
 -- ---- steps put together otherwise

@@ -16,7 +16,8 @@ use Rattle.meaning.specs.Refusal.{Answer, good, refused, at, refuseIf, _>>=_, _
 use Rattle.meaning.specs.Bytes.{number, fields}
 use Rattle.meaning.specs.Tree.{Concept}
 use Rattle.meaning.specs.Fraction.{_//_}
-use Rattle.meaning.specs.Reduce.{reduce, size, mostSize}
+use Rattle.meaning.specs.Reduce.{reduce, size}
+use Rattle.meaning.specs.Bounds.{mostSize}
 use Rattle.meaning.specs.Requirement.{Threshold}
 use Rattle.meaning.specs.Message.{Part, Spot, lawful, comparison, readInner, readThreshold, readThresholds}
 use Rattle.meaning.proofs.Reading.{pass, stop, stopped, halted, took, below, not-below, at-most, not-le, fitted}

@@ -106,7 +106,7 @@ pub fn find_inner(s: &[u8], k: usize) -> Place
             if parts <= k {
                 return Place { start: 0, len: 0 };
             }
-            let first = wide(firsts[k]);
+            let first = fields::pair(firsts[k]);
             let len = fields::two(s, first + 5);
             Place {
                 start: first + 7,
@@ -157,12 +157,6 @@ pub fn inner_part(s: &[u8], k: usize) -> &[u8]
     let start = p.start;
     let end = start + p.len;
     &s[start..end]
-}
-
-fn wide(x: u16) -> usize
-    ensures { λ r. ⌜ r ≡ x ⌝ }
-{
-    x as usize
 }
 
 fn refused(number: usize, place: usize) -> Message

@@ -14,7 +14,8 @@ use Rattle.meaning.specs.declared.Fact.the-variants.{Name as nameOn, Link as li
 use Rattle.meaning.specs.Refusal.{good}
 use Rattle.meaning.specs.Bytes.{Bytes}
 use Rattle.meaning.specs.Names.{has}
-use Rattle.meaning.specs.Register.{Link, Register, isFact, mostLinks, encode, readBuffer}
+use Rattle.meaning.specs.Register.{Link, Register, isFact, encode, readBuffer}
+use Rattle.meaning.specs.Bounds.{mostLinks}
 use Rattle.meaning.specs.Session.{link, zeros, withName, setFact, rewritten, noPlace}
 use Rattle.meaning.proofs.Tests.{holds, neither, and-both}
 use Rattle.meaning.proofs.Reading.{good-inj, at-most, not-le, below, not-below}

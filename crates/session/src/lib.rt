@@ -54,27 +54,6 @@ pub enum Setting {
 
 // ---- bytes
 
-// The lowest byte of a number.
-fn low(n: usize) -> u8
-    ensures { λ r. ⌜ r ≡ n % 256 ⌝ }
-{
-    (n % 256) as u8
-}
-
-// Writes a number into so many bytes.
-fn put(s: &mut [u8], at: usize, width: usize, n: usize)
-    requires { ⌜ at + width ≤ length (now s) ⌝ }
-    ensures { λ _. ⌜ now (s .exit) ≡ sets (now (s .entry)) at (bytes width n) ⌝ }
-{
-    let mut i = width;
-    let mut rest = n;
-    while 0 < i {
-        i -= 1;
-        s[at + i] = low(rest);
-        rest = rest / 256;
-    }
-}
-
 // Zeros all from a place on.
 fn clear(s: &mut [u8], from: usize)
     requires { ⌜ from ≤ length (now s) ⌝ }
@@ -123,7 +102,7 @@ fn set_name(s: &mut [u8], item: usize, name: usize, adds: bool) -> bool
 {
     let names = register::names_of(s, item);
     let there = bits::on(names, name);
-    put(
+    fields::put(
         s,
         5 + 8 * item,
         8,
@@ -191,9 +170,9 @@ fn insert(s: &mut [u8], items: usize, links: usize, k: usize, from: usize, role:
     let end = start + 5 * links;
     let at = start + 5 * k;
     move_up(s, at, end);
-    put(s, at, 5, number);
-    put(s, start - 2, 2, links + 1);
-    put(s, 1, 2, end + 2);
+    fields::put(s, at, 5, number);
+    fields::put(s, start - 2, 2, links + 1);
+    fields::put(s, 1, 2, end + 2);
 }
 
 // Takes the k-th link away.
@@ -206,9 +185,9 @@ fn remove(s: &mut [u8], items: usize, links: usize, k: usize)
     let end = start + 5 * links;
     let at = start + 5 * k;
     move_down(s, at, end);
-    put(s, end - 5, 5, 0);
-    put(s, start - 2, 2, links - 1);
-    put(s, 1, 2, end - 8);
+    fields::put(s, end - 5, 5, 0);
+    fields::put(s, start - 2, 2, links - 1);
+    fields::put(s, 1, 2, end - 8);
 }
 
 // Sets a link to there or not.

@@ -18,7 +18,8 @@ use Rattle.degree.specs.declared.call.Answered.{Answered}
 use Rattle.degree.specs.declared.call.Answered.the-variants.{Good as GoodDegree}
 use Rattle.degree.specs.declared.call.Margin.{Margin}
 use Rattle.degree.specs.declared.call.Margin.the-variants.{Good as GoodMargin}
-use Rattle.degree.specs.Answers.{Told, paper, paperMargin, mostMargin}
+use Rattle.degree.specs.Answers.{Told, paper, paperMargin}
+use Rattle.meaning.specs.Bounds.{mostMargin}
 use Rattle.svelgandur.specs.Numbers.{four, numbers, degreeNumbers, belowZero, marginNumbers}
 
 -- a small number fits

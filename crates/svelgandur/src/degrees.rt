@@ -7,7 +7,8 @@ ghost use Prim.Native.Nat.{_≤_};
 ghost use lib.IntN.{natAbs};
 ghost use lib.ListN.{length};
 ghost use Rattle.meaning.specs.Calls.{degreeCall, afterDegree, marginCall};
-ghost use Rattle.degree.specs.Answers.{told, mostMargin};
+ghost use Rattle.degree.specs.Answers.{told};
+ghost use Rattle.meaning.specs.Bounds.{mostMargin};
 ghost use Rattle.svelgandur.specs.Numbers.{numbers, degreeNumbers, marginNumbers, belowZero};
 
 // The degree of an item in a plain requirement, in lowest terms, and its map.

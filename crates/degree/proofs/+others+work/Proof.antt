@@ -9,11 +9,11 @@ use Rattle.degree.proofs.work.Kinds as work-kinds
 use Rattle.degree.proofs.+others+work.Lts-work as work-lts
 use Rattle.degree.proofs.add_best.Reads as add-best-reads
 use Rattle.degree.proofs.alone.Reads as alone-reads
-use Rattle.degree.proofs.broad.Reads as broad-reads
+use Rattle.fields.proofs.quad.Reads as quad-reads
 use Rattle.degree.proofs.heaviest.Reads as heaviest-reads
 use Rattle.degree.proofs.own.Reads as own-reads
 use Rattle.degree.proofs.passed.Reads as passed-reads
-use Rattle.degree.proofs.wide.Reads as wide-reads
+use Rattle.fields.proofs.octet.Reads as octet-reads
 use Rattle.degree.proofs.+others+work.{statement}
 use Rattle.degree.proofs.+others+work.Tie.{close}
 use mathlib.Core.Path.{_≡_, refl, sym, subst, _∙_}
@@ -57,11 +57,11 @@ abbrev others-μ-loop : others-lts.MeasureT-loop
 others-μ-loop s items links names roles ends marks node left heavy first table₀ out₀ spare₀ room₀ e n₀ product₀ c₀ table out spare room n product c =
     e - c
 
-others-element-copy-out-wide : (t : ℕ) → others-lts.Need-element-copy-out-wide (
-  wide-reads.Asked,
-  wide-reads.Learnt,
-  broad-reads.Asked,
-  broad-reads.Learnt,
+others-element-copy-out-octet : (t : ℕ) → others-lts.Need-element-copy-out-octet (
+  octet-reads.Asked,
+  octet-reads.Learnt,
+  quad-reads.Asked,
+  quad-reads.Learnt,
   passed-reads.Asked,
   passed-reads.Learnt,
   work-below t,
@@ -69,14 +69,14 @@ others-element-copy-out-wide : (t : ℕ) → others-lts.Need-element-copy-out-wi
   add-best-reads.Asked,
   add-best-reads.Learnt,
 ) (others-at t) others.Post others-Inv-loop others-μ-loop
-others-element-copy-out-wide t c =
+others-element-copy-out-octet t c =
     omega (arith, here (c .before .before .before .before .pre .1 .0) .1)
 
-others-wide-requires : (t : ℕ) → others-lts.Need-wide-requires (
-  wide-reads.Asked,
-  wide-reads.Learnt,
-  broad-reads.Asked,
-  broad-reads.Learnt,
+others-octet-requires : (t : ℕ) → others-lts.Need-octet-requires (
+  octet-reads.Asked,
+  octet-reads.Learnt,
+  quad-reads.Asked,
+  quad-reads.Learnt,
   passed-reads.Asked,
   passed-reads.Learnt,
   work-below t,
@@ -84,13 +84,13 @@ others-wide-requires : (t : ℕ) → others-lts.Need-wide-requires (
   add-best-reads.Asked,
   add-best-reads.Learnt,
 ) (others-at t) others.Post others-Inv-loop others-μ-loop
-others-wide-requires t c κs = search needs
+others-octet-requires t c κs = search needs
 
-others-mul-broad : (t : ℕ) → others-lts.Need-mul-broad (
-  wide-reads.Asked,
-  wide-reads.Learnt,
-  broad-reads.Asked,
-  broad-reads.Learnt,
+others-mul-quad : (t : ℕ) → others-lts.Need-mul-quad (
+  octet-reads.Asked,
+  octet-reads.Learnt,
+  quad-reads.Asked,
+  quad-reads.Learnt,
   passed-reads.Asked,
   passed-reads.Learnt,
   work-below t,
@@ -98,14 +98,14 @@ others-mul-broad : (t : ℕ) → others-lts.Need-mul-broad (
   add-best-reads.Asked,
   add-best-reads.Learnt,
 ) (others-at t) others.Post others-Inv-loop others-μ-loop
-others-mul-broad t c =
+others-mul-quad t c =
     omega (arith, here (c .before .before .before .before .before .before .pre .1 .0) .1)
 
-others-element-copy-out-broad : (t : ℕ) → others-lts.Need-element-copy-out-broad (
-  wide-reads.Asked,
-  wide-reads.Learnt,
-  broad-reads.Asked,
-  broad-reads.Learnt,
+others-element-copy-out-quad : (t : ℕ) → others-lts.Need-element-copy-out-quad (
+  octet-reads.Asked,
+  octet-reads.Learnt,
+  quad-reads.Asked,
+  quad-reads.Learnt,
   passed-reads.Asked,
   passed-reads.Learnt,
   work-below t,
@@ -113,14 +113,14 @@ others-element-copy-out-broad : (t : ℕ) → others-lts.Need-element-copy-out-b
   add-best-reads.Asked,
   add-best-reads.Learnt,
 ) (others-at t) others.Post others-Inv-loop others-μ-loop
-others-element-copy-out-broad t c =
+others-element-copy-out-quad t c =
     omega (arith, here (c .before .before .before .before .before .before .pre .1 .0) .1)
 
-others-broad-requires : (t : ℕ) → others-lts.Need-broad-requires (
-  wide-reads.Asked,
-  wide-reads.Learnt,
-  broad-reads.Asked,
-  broad-reads.Learnt,
+others-quad-requires : (t : ℕ) → others-lts.Need-quad-requires (
+  octet-reads.Asked,
+  octet-reads.Learnt,
+  quad-reads.Asked,
+  quad-reads.Learnt,
   passed-reads.Asked,
   passed-reads.Learnt,
   work-below t,
@@ -128,13 +128,13 @@ others-broad-requires : (t : ℕ) → others-lts.Need-broad-requires (
   add-best-reads.Asked,
   add-best-reads.Learnt,
 ) (others-at t) others.Post others-Inv-loop others-μ-loop
-others-broad-requires t c κs = search needs
+others-quad-requires t c κs = search needs
 
 others-add-n : (t : ℕ) → others-lts.Need-add-n (
-  wide-reads.Asked,
-  wide-reads.Learnt,
-  broad-reads.Asked,
-  broad-reads.Learnt,
+  octet-reads.Asked,
+  octet-reads.Learnt,
+  quad-reads.Asked,
+  quad-reads.Learnt,
   passed-reads.Asked,
   passed-reads.Learnt,
   work-below t,
@@ -143,13 +143,13 @@ others-add-n : (t : ℕ) → others-lts.Need-add-n (
   add-best-reads.Learnt,
 ) (others-at t) others.Post others-Inv-loop others-μ-loop
 others-add-n t c =
-    omega (arith, c .broad .ensures .1)
+    omega (arith, c .quad .ensures .1)
 
 others-add-c : (t : ℕ) → others-lts.Need-add-c (
-  wide-reads.Asked,
-  wide-reads.Learnt,
-  broad-reads.Asked,
-  broad-reads.Learnt,
+  octet-reads.Asked,
+  octet-reads.Learnt,
+  quad-reads.Asked,
+  quad-reads.Learnt,
   passed-reads.Asked,
   passed-reads.Learnt,
   work-below t,
@@ -161,10 +161,10 @@ others-add-c t c =
     omega (arith, here (c .before .before .before .before .before .before .before .before .pre .1 .0) .1)
 
 others-loop-holds : (t : ℕ) → others-lts.Need-loop-holds (
-  wide-reads.Asked,
-  wide-reads.Learnt,
-  broad-reads.Asked,
-  broad-reads.Learnt,
+  octet-reads.Asked,
+  octet-reads.Learnt,
+  quad-reads.Asked,
+  quad-reads.Learnt,
   passed-reads.Asked,
   passed-reads.Learnt,
   work-below t,
@@ -173,13 +173,13 @@ others-loop-holds : (t : ℕ) → others-lts.Need-loop-holds (
   add-best-reads.Learnt,
 ) (others-at t) others.Post others-Inv-loop others-μ-loop
 others-loop-holds t c =
-    (c .before .before .before .before .before .before .before .before .pre .1 .1 .0 .0, c .before .before .before .before .before .before .before .before .pre .1 .1 .0 .1, refl, length-replicate {A = ℕ} 512 0, omega arith, λ k h. going-start k (c .before .before .before .before .before .before .before .before .args .heavy) (c .before .before .before .before .before .before .before .before .args .first) (c .before .before .before .before .before .before .before .before .args .table .now) (c .before .before .before .before .before .before .before .before .args .out .now) h _ (c .broad .ensures .0))
+    (c .before .before .before .before .before .before .before .before .pre .1 .1 .0 .0, c .before .before .before .before .before .before .before .before .pre .1 .1 .0 .1, refl, length-replicate {A = ℕ} 512 0, omega arith, λ k h. going-start k (c .before .before .before .before .before .before .before .before .args .heavy) (c .before .before .before .before .before .before .before .before .args .first) (c .before .before .before .before .before .before .before .before .args .table .now) (c .before .before .before .before .before .before .before .before .args .out .now) h _ (c .quad .ensures .0))
 
-others-element-copy-out-wide-2 : (t : ℕ) → others-lts.Need-element-copy-out-wide-2 (
-  wide-reads.Asked,
-  wide-reads.Learnt,
-  broad-reads.Asked,
-  broad-reads.Learnt,
+others-element-copy-out-octet-2 : (t : ℕ) → others-lts.Need-element-copy-out-octet-2 (
+  octet-reads.Asked,
+  octet-reads.Learnt,
+  quad-reads.Asked,
+  quad-reads.Learnt,
   passed-reads.Asked,
   passed-reads.Learnt,
   work-below t,
@@ -187,14 +187,14 @@ others-element-copy-out-wide-2 : (t : ℕ) → others-lts.Need-element-copy-out-
   add-best-reads.Asked,
   add-best-reads.Learnt,
 ) (others-at t) others.Post others-Inv-loop others-μ-loop
-others-element-copy-out-wide-2 t c =
-    omega (arith, c .loop-test .taken, c .before .before .before .before .wide .ensures .0, (c .before .before .before .before .before .before .before .before .before .before .pre .1 .0) .few)
+others-element-copy-out-octet-2 t c =
+    omega (arith, c .loop-test .taken, c .before .before .before .before .octet .ensures .0, (c .before .before .before .before .before .before .before .before .before .before .pre .1 .0) .few)
 
-others-wide-requires-2 : (t : ℕ) → others-lts.Need-wide-requires-2 (
-  wide-reads.Asked,
-  wide-reads.Learnt,
-  broad-reads.Asked,
-  broad-reads.Learnt,
+others-octet-requires-2 : (t : ℕ) → others-lts.Need-octet-requires-2 (
+  octet-reads.Asked,
+  octet-reads.Learnt,
+  quad-reads.Asked,
+  quad-reads.Learnt,
   passed-reads.Asked,
   passed-reads.Learnt,
   work-below t,
@@ -202,13 +202,13 @@ others-wide-requires-2 : (t : ℕ) → others-lts.Need-wide-requires-2 (
   add-best-reads.Asked,
   add-best-reads.Learnt,
 ) (others-at t) others.Post others-Inv-loop others-μ-loop
-others-wide-requires-2 t c κs = search needs
+others-octet-requires-2 t c κs = search needs
 
 others-element-copy-out-passed : (t : ℕ) → others-lts.Need-element-copy-out-passed (
-  wide-reads.Asked,
-  wide-reads.Learnt,
-  broad-reads.Asked,
-  broad-reads.Learnt,
+  octet-reads.Asked,
+  octet-reads.Learnt,
+  quad-reads.Asked,
+  quad-reads.Learnt,
   passed-reads.Asked,
   passed-reads.Learnt,
   work-below t,
@@ -217,13 +217,13 @@ others-element-copy-out-passed : (t : ℕ) → others-lts.Need-element-copy-out-
   add-best-reads.Learnt,
 ) (others-at t) others.Post others-Inv-loop others-μ-loop
 others-element-copy-out-passed t c =
-    omega (arith, c .before .before .loop-test .taken, c .before .before .before .before .before .before .wide .ensures .0, (c .before .before .before .before .before .before .before .before .before .before .before .before .pre .1 .0) .few)
+    omega (arith, c .before .before .loop-test .taken, c .before .before .before .before .before .before .octet .ensures .0, (c .before .before .before .before .before .before .before .before .before .before .before .before .pre .1 .0) .few)
 
 others-passed-requires : (t : ℕ) → others-lts.Need-passed-requires (
-  wide-reads.Asked,
-  wide-reads.Learnt,
-  broad-reads.Asked,
-  broad-reads.Learnt,
+  octet-reads.Asked,
+  octet-reads.Learnt,
+  quad-reads.Asked,
+  quad-reads.Learnt,
   passed-reads.Asked,
   passed-reads.Learnt,
   work-below t,
@@ -234,10 +234,10 @@ others-passed-requires : (t : ℕ) → others-lts.Need-passed-requires (
 others-passed-requires t c κs = search needs
 
 others-loop-less : (t : ℕ) → others-lts.Need-loop-less (
-  wide-reads.Asked,
-  wide-reads.Learnt,
-  broad-reads.Asked,
-  broad-reads.Learnt,
+  octet-reads.Asked,
+  octet-reads.Learnt,
+  quad-reads.Asked,
+  quad-reads.Learnt,
   passed-reads.Asked,
   passed-reads.Learnt,
   work-below t,
@@ -246,13 +246,13 @@ others-loop-less : (t : ℕ) → others-lts.Need-loop-less (
   add-best-reads.Learnt,
 ) (others-at t) others.Post others-Inv-loop others-μ-loop
 others-loop-less t c =
-    omega (arith, c .before .before .before .before .before .loop-test .taken, c .before .before .before .before .before .before .before .before .before .wide .ensures .0, c .before .before .before .wide2 .ensures .0, going-inside (c .before .before .before .before .before .before .before .before .before .before .before .before .before .before .before .pre .1 .0) (c .before .before .before .before .before .before .before .before .before .before .before .before .before .before .before .args .heavy) (c .before .before .before .before .before .before .before .before .before .before .before .before .before .before .before .args .first) (c .before .before .before .before .before .before .before .before .before .before .before .before .before .before .before .args .table .now) (c .before .before .before .before .before .before .before .before .before .before .before .before .before .before .before .args .out .now) (c .before .before .before .before .before .before .before .before .before .before .before .before .before .before .before .pre .1 .1 .1 (c .before .before .before .before .before .before .before .before .before .before .before .before .before .before .before .pre .1 .0)) (c .before .before .before .before .before .before .loop .inv .5 (c .before .before .before .before .before .before .before .before .before .before .before .before .before .before .before .pre .1 .0) (c .before .before .before .before .before .before .before .before .before .before .before .before .before .before .before .pre .1 .1 .1 (c .before .before .before .before .before .before .before .before .before .before .before .before .before .before .before .pre .1 .0))) (omega (arith, c .before .before .before .before .before .loop-test .taken, c .before .before .before .before .before .before .before .before .before .wide .ensures .0)) .0)
+    omega (arith, c .before .before .before .before .before .loop-test .taken, c .before .before .before .before .before .before .before .before .before .octet .ensures .0, c .before .before .before .octet2 .ensures .0, going-inside (c .before .before .before .before .before .before .before .before .before .before .before .before .before .before .before .pre .1 .0) (c .before .before .before .before .before .before .before .before .before .before .before .before .before .before .before .args .heavy) (c .before .before .before .before .before .before .before .before .before .before .before .before .before .before .before .args .first) (c .before .before .before .before .before .before .before .before .before .before .before .before .before .before .before .args .table .now) (c .before .before .before .before .before .before .before .before .before .before .before .before .before .before .before .args .out .now) (c .before .before .before .before .before .before .before .before .before .before .before .before .before .before .before .pre .1 .1 .1 (c .before .before .before .before .before .before .before .before .before .before .before .before .before .before .before .pre .1 .0)) (c .before .before .before .before .before .before .loop .inv .5 (c .before .before .before .before .before .before .before .before .before .before .before .before .before .before .before .pre .1 .0) (c .before .before .before .before .before .before .before .before .before .before .before .before .before .before .before .pre .1 .1 .1 (c .before .before .before .before .before .before .before .before .before .before .before .before .before .before .before .pre .1 .0))) (omega (arith, c .before .before .before .before .before .loop-test .taken, c .before .before .before .before .before .before .before .before .before .octet .ensures .0)) .0)
 
 others-loop-again : (t : ℕ) → others-lts.Need-loop-again (
-  wide-reads.Asked,
-  wide-reads.Learnt,
-  broad-reads.Asked,
-  broad-reads.Learnt,
+  octet-reads.Asked,
+  octet-reads.Learnt,
+  quad-reads.Asked,
+  quad-reads.Learnt,
   passed-reads.Asked,
   passed-reads.Learnt,
   work-below t,
@@ -261,13 +261,13 @@ others-loop-again : (t : ℕ) → others-lts.Need-loop-again (
   add-best-reads.Learnt,
 ) (others-at t) others.Post others-Inv-loop others-μ-loop
 others-loop-again t c =
-    (c .before .before .before .before .before .before .loop .inv .0, c .before .before .before .before .before .before .loop .inv .1, c .before .before .before .before .before .before .loop .inv .2, c .before .before .before .before .before .before .loop .inv .3, c .before .before .before .before .before .before .loop .inv .4, λ k h. going-pass k (c .before .before .before .before .before .before .before .before .before .before .before .before .before .before .before .args .heavy) (c .before .before .before .before .before .before .before .before .before .before .before .before .before .before .before .args .first) (c .before .before .before .before .before .before .before .before .before .before .before .before .before .before .before .args .table .now) (c .before .before .before .before .before .before .before .before .before .before .before .before .before .before .before .args .out .now) h (c .before .before .before .before .before .before .loop .inv .5 k h) (omega (arith, c .before .before .before .before .before .loop-test .taken, c .before .before .before .before .before .before .before .before .before .wide .ensures .0)) _ (c .before .before .before .wide2 .ensures .0) _ (c .before .passed .ensures) (c .if1 .taken))
+    (c .before .before .before .before .before .before .loop .inv .0, c .before .before .before .before .before .before .loop .inv .1, c .before .before .before .before .before .before .loop .inv .2, c .before .before .before .before .before .before .loop .inv .3, c .before .before .before .before .before .before .loop .inv .4, λ k h. going-pass k (c .before .before .before .before .before .before .before .before .before .before .before .before .before .before .before .args .heavy) (c .before .before .before .before .before .before .before .before .before .before .before .before .before .before .before .args .first) (c .before .before .before .before .before .before .before .before .before .before .before .before .before .before .before .args .table .now) (c .before .before .before .before .before .before .before .before .before .before .before .before .before .before .before .args .out .now) h (c .before .before .before .before .before .before .loop .inv .5 k h) (omega (arith, c .before .before .before .before .before .loop-test .taken, c .before .before .before .before .before .before .before .before .before .octet .ensures .0)) _ (c .before .before .before .octet2 .ensures .0) _ (c .before .passed .ensures) (c .if1 .taken))
 
 others-sub-work : (t : ℕ) → others-lts.Need-sub-work (
-  wide-reads.Asked,
-  wide-reads.Learnt,
-  broad-reads.Asked,
-  broad-reads.Learnt,
+  octet-reads.Asked,
+  octet-reads.Learnt,
+  quad-reads.Asked,
+  quad-reads.Learnt,
   passed-reads.Asked,
   passed-reads.Learnt,
   work-below t,
@@ -279,10 +279,10 @@ others-sub-work t c =
     omega (arith, here (c .before .before .before .before .before .before .before .before .before .before .before .before .before .before .before .pre .1 .0) .0)
 
 others-array-borrow-prefix-room : (t : ℕ) → others-lts.Need-array-borrow-prefix-room (
-  wide-reads.Asked,
-  wide-reads.Learnt,
-  broad-reads.Asked,
-  broad-reads.Learnt,
+  octet-reads.Asked,
+  octet-reads.Learnt,
+  quad-reads.Asked,
+  quad-reads.Learnt,
   passed-reads.Asked,
   passed-reads.Learnt,
   work-below t,
@@ -294,10 +294,10 @@ others-array-borrow-prefix-room t c =
     omega (arith, c .before .before .before .before .before .before .before .before .loop .inv .3, (c .before .before .before .before .before .before .before .before .before .before .before .before .before .before .before .before .before .pre .1 .0) .most)
 
 others-slice-aggregate-work : (t : ℕ) → others-lts.Need-slice-aggregate-work (
-  wide-reads.Asked,
-  wide-reads.Learnt,
-  broad-reads.Asked,
-  broad-reads.Learnt,
+  octet-reads.Asked,
+  octet-reads.Learnt,
+  quad-reads.Asked,
+  quad-reads.Learnt,
   passed-reads.Asked,
   passed-reads.Learnt,
   work-below t,
@@ -309,10 +309,10 @@ others-slice-aggregate-work t c =
     sym (length-take-le (c .before .before .before .before .before .before .before .before .before .before .before .before .before .before .before .before .before .before .args .items) (c .before .before .before .before .before .before .before .before .before .loop .room) (omega (arith, c .before .before .before .before .before .before .before .before .before .loop .inv .3, (c .before .before .before .before .before .before .before .before .before .before .before .before .before .before .before .before .before .before .pre .1 .0) .most)))
 
 others-work-requires : (t : ℕ) → others-lts.Need-work-requires (
-  wide-reads.Asked,
-  wide-reads.Learnt,
-  broad-reads.Asked,
-  broad-reads.Learnt,
+  octet-reads.Asked,
+  octet-reads.Learnt,
+  quad-reads.Asked,
+  quad-reads.Learnt,
   passed-reads.Asked,
   passed-reads.Learnt,
   work-below t,
@@ -321,13 +321,13 @@ others-work-requires : (t : ℕ) → others-lts.Need-work-requires (
   add-best-reads.Learnt,
 ) (others-at t) others.Post others-Inv-loop others-μ-loop
 others-work-requires t c κs =
-    (omega (arith, here (c .before .before .before .before .before .before .before .before .before .before .before .before .before .before .before .before .before .before .pre .1 .0) .0, c .before .before .before .before .before .before .before .before .before .before .before .before .before .before .before .before .before .before .pre .0), ((going-case (c .before .before .before .before .before .before .before .before .before .before .before .before .before .before .before .before .before .before .pre .1 .0) (c .before .before .before .before .before .before .before .before .before .before .before .before .before .before .before .before .before .before .args .heavy) (c .before .before .before .before .before .before .before .before .before .before .before .before .before .before .before .before .before .before .args .first) (c .before .before .before .before .before .before .before .before .before .before .before .before .before .before .before .before .before .before .args .table .now) (c .before .before .before .before .before .before .before .before .before .before .before .before .before .before .before .before .before .before .args .out .now) (c .before .before .before .before .before .before .before .before .before .before .before .before .before .before .before .before .before .before .pre .1 .1 .1 (c .before .before .before .before .before .before .before .before .before .before .before .before .before .before .before .before .before .before .pre .1 .0)) (c .before .before .before .before .before .before .before .before .before .loop .inv .5 (c .before .before .before .before .before .before .before .before .before .before .before .before .before .before .before .before .before .before .pre .1 .0) (c .before .before .before .before .before .before .before .before .before .before .before .before .before .before .before .before .before .before .pre .1 .1 .1 (c .before .before .before .before .before .before .before .before .before .before .before .before .before .before .before .before .before .before .pre .1 .0))) (omega (arith, c .before .before .before .before .before .before .before .before .loop-test .taken, c .before .before .before .before .before .before .before .before .before .before .before .before .wide .ensures .0)) _ (c .before .before .before .before .passed .ensures) (c .before .before .before .if1 .left)), (c .before .before .before .before .before .before .before .before .before .loop .inv .1, length-take-le (c .before .before .before .before .before .before .before .before .before .before .before .before .before .before .before .before .before .before .args .items) (c .before .before .before .before .before .before .before .before .before .loop .room) (omega (arith, c .before .before .before .before .before .before .before .before .before .loop .inv .3, (c .before .before .before .before .before .before .before .before .before .before .before .before .before .before .before .before .before .before .pre .1 .0) .most)), omega (arith, c .before .before .before .before .before .before .before .before .before .loop .inv .2, c .before .before .before .before .before .before .before .before .before .before .before .before .before .before .before .before .before .before .pre .1 .1 .0 .2), going-clear (c .before .before .before .before .before .before .before .before .before .before .before .before .before .before .before .before .before .before .pre .1 .0) (c .before .before .before .before .before .before .before .before .before .before .before .before .before .before .before .before .before .before .args .heavy) (c .before .before .before .before .before .before .before .before .before .before .before .before .before .before .before .before .before .before .args .first) (c .before .before .before .before .before .before .before .before .before .before .before .before .before .before .before .before .before .before .args .table .now) (c .before .before .before .before .before .before .before .before .before .before .before .before .before .before .before .before .before .before .args .out .now) (c .before .before .before .before .before .before .before .before .before .before .before .before .before .before .before .before .before .before .pre .1 .1 .1 (c .before .before .before .before .before .before .before .before .before .before .before .before .before .before .before .before .before .before .pre .1 .0)) (c .before .before .before .before .before .before .before .before .before .loop .inv .5 (c .before .before .before .before .before .before .before .before .before .before .before .before .before .before .before .before .before .before .pre .1 .0) (c .before .before .before .before .before .before .before .before .before .before .before .before .before .before .before .before .before .before .pre .1 .1 .1 (c .before .before .before .before .before .before .before .before .before .before .before .before .before .before .before .before .before .before .pre .1 .0))) (omega (arith, c .before .before .before .before .before .before .before .before .loop-test .taken, c .before .before .before .before .before .before .before .before .before .before .before .before .wide .ensures .0)) _ (c .before .before .before .before .passed .ensures) (c .before .before .before .if1 .left))))
+    (omega (arith, here (c .before .before .before .before .before .before .before .before .before .before .before .before .before .before .before .before .before .before .pre .1 .0) .0, c .before .before .before .before .before .before .before .before .before .before .before .before .before .before .before .before .before .before .pre .0), ((going-case (c .before .before .before .before .before .before .before .before .before .before .before .before .before .before .before .before .before .before .pre .1 .0) (c .before .before .before .before .before .before .before .before .before .before .before .before .before .before .before .before .before .before .args .heavy) (c .before .before .before .before .before .before .before .before .before .before .before .before .before .before .before .before .before .before .args .first) (c .before .before .before .before .before .before .before .before .before .before .before .before .before .before .before .before .before .before .args .table .now) (c .before .before .before .before .before .before .before .before .before .before .before .before .before .before .before .before .before .before .args .out .now) (c .before .before .before .before .before .before .before .before .before .before .before .before .before .before .before .before .before .before .pre .1 .1 .1 (c .before .before .before .before .before .before .before .before .before .before .before .before .before .before .before .before .before .before .pre .1 .0)) (c .before .before .before .before .before .before .before .before .before .loop .inv .5 (c .before .before .before .before .before .before .before .before .before .before .before .before .before .before .before .before .before .before .pre .1 .0) (c .before .before .before .before .before .before .before .before .before .before .before .before .before .before .before .before .before .before .pre .1 .1 .1 (c .before .before .before .before .before .before .before .before .before .before .before .before .before .before .before .before .before .before .pre .1 .0))) (omega (arith, c .before .before .before .before .before .before .before .before .loop-test .taken, c .before .before .before .before .before .before .before .before .before .before .before .before .octet .ensures .0)) _ (c .before .before .before .before .passed .ensures) (c .before .before .before .if1 .left)), (c .before .before .before .before .before .before .before .before .before .loop .inv .1, length-take-le (c .before .before .before .before .before .before .before .before .before .before .before .before .before .before .before .before .before .before .args .items) (c .before .before .before .before .before .before .before .before .before .loop .room) (omega (arith, c .before .before .before .before .before .before .before .before .before .loop .inv .3, (c .before .before .before .before .before .before .before .before .before .before .before .before .before .before .before .before .before .before .pre .1 .0) .most)), omega (arith, c .before .before .before .before .before .before .before .before .before .loop .inv .2, c .before .before .before .before .before .before .before .before .before .before .before .before .before .before .before .before .before .before .pre .1 .1 .0 .2), going-clear (c .before .before .before .before .before .before .before .before .before .before .before .before .before .before .before .before .before .before .pre .1 .0) (c .before .before .before .before .before .before .before .before .before .before .before .before .before .before .before .before .before .before .args .heavy) (c .before .before .before .before .before .before .before .before .before .before .before .before .before .before .before .before .before .before .args .first) (c .before .before .before .before .before .before .before .before .before .before .before .before .before .before .before .before .before .before .args .table .now) (c .before .before .before .before .before .before .before .before .before .before .before .before .before .before .before .before .before .before .args .out .now) (c .before .before .before .before .before .before .before .before .before .before .before .before .before .before .before .before .before .before .pre .1 .1 .1 (c .before .before .before .before .before .before .before .before .before .before .before .before .before .before .before .before .before .before .pre .1 .0)) (c .before .before .before .before .before .before .before .before .before .loop .inv .5 (c .before .before .before .before .before .before .before .before .before .before .before .before .before .before .before .before .before .before .pre .1 .0) (c .before .before .before .before .before .before .before .before .before .before .before .before .before .before .before .before .before .before .pre .1 .1 .1 (c .before .before .before .before .before .before .before .before .before .before .before .before .before .before .before .before .before .before .pre .1 .0))) (omega (arith, c .before .before .before .before .before .before .before .before .loop-test .taken, c .before .before .before .before .before .before .before .before .before .before .before .before .octet .ensures .0)) _ (c .before .before .before .before .passed .ensures) (c .before .before .before .if1 .left))))
 
-others-element-copy-out-wide-3 : (t : ℕ) → others-lts.Need-element-copy-out-wide-3 (
-  wide-reads.Asked,
-  wide-reads.Learnt,
-  broad-reads.Asked,
-  broad-reads.Learnt,
+others-element-copy-out-octet-3 : (t : ℕ) → others-lts.Need-element-copy-out-octet-3 (
+  octet-reads.Asked,
+  octet-reads.Learnt,
+  quad-reads.Asked,
+  quad-reads.Learnt,
   passed-reads.Asked,
   passed-reads.Learnt,
   work-below t,
@@ -335,14 +335,14 @@ others-element-copy-out-wide-3 : (t : ℕ) → others-lts.Need-element-copy-out-
   add-best-reads.Asked,
   add-best-reads.Learnt,
 ) (others-at t) others.Post others-Inv-loop others-μ-loop
-others-element-copy-out-wide-3 t c =
-    omega (arith, c .before .before .before .before .before .before .before .before .before .before .before .before .before .before .loop-test .taken, c .before .before .before .before .before .before .before .before .before .before .before .before .before .before .before .before .before .before .wide .ensures .0, (c .before .before .before .before .before .before .before .before .before .before .before .before .before .before .before .before .before .before .before .before .before .before .before .before .pre .1 .0) .few)
+others-element-copy-out-octet-3 t c =
+    omega (arith, c .before .before .before .before .before .before .before .before .before .before .before .before .before .before .loop-test .taken, c .before .before .before .before .before .before .before .before .before .before .before .before .before .before .before .before .before .before .octet .ensures .0, (c .before .before .before .before .before .before .before .before .before .before .before .before .before .before .before .before .before .before .before .before .before .before .before .before .pre .1 .0) .few)
 
-others-wide-requires-3 : (t : ℕ) → others-lts.Need-wide-requires-3 (
-  wide-reads.Asked,
-  wide-reads.Learnt,
-  broad-reads.Asked,
-  broad-reads.Learnt,
+others-octet-requires-3 : (t : ℕ) → others-lts.Need-octet-requires-3 (
+  octet-reads.Asked,
+  octet-reads.Learnt,
+  quad-reads.Asked,
+  quad-reads.Learnt,
   passed-reads.Asked,
   passed-reads.Learnt,
   work-below t,
@@ -350,13 +350,13 @@ others-wide-requires-3 : (t : ℕ) → others-lts.Need-wide-requires-3 (
   add-best-reads.Asked,
   add-best-reads.Learnt,
 ) (others-at t) others.Post others-Inv-loop others-μ-loop
-others-wide-requires-3 t c κs = search needs
+others-octet-requires-3 t c κs = search needs
 
 others-add-best-requires : (t : ℕ) → others-lts.Need-add-best-requires (
-  wide-reads.Asked,
-  wide-reads.Learnt,
-  broad-reads.Asked,
-  broad-reads.Learnt,
+  octet-reads.Asked,
+  octet-reads.Learnt,
+  quad-reads.Asked,
+  quad-reads.Learnt,
   passed-reads.Asked,
   passed-reads.Learnt,
   work-below t,
@@ -365,13 +365,13 @@ others-add-best-requires : (t : ℕ) → others-lts.Need-add-best-requires (
   add-best-reads.Learnt,
 ) (others-at t) others.Post others-Inv-loop others-μ-loop
 others-add-best-requires t c κs =
-    (record { register = (c .before .before .before .before .before .before .before .before .before .before .before .before .before .before .before .before .before .before .before .before .before .before .before .before .before .before .before .before .before .pre .1 .0) .register; read = (c .before .before .before .before .before .before .before .before .before .before .before .before .before .before .before .before .before .before .before .before .before .before .before .before .before .before .before .before .before .pre .1 .0) .read; holds = ((c .before .before .before .before .before .before .before .before .before .before .before .before .before .before .before .before .before .before .before .before .before .before .before .before .before .before .before .before .before .pre .1 .0) .items-are, (c .before .before .before .before .before .before .before .before .before .before .before .before .before .before .before .before .before .before .before .before .before .before .before .before .before .before .before .before .before .pre .1 .0) .links-are, going-fits (c .before .before .before .before .before .before .before .before .before .before .before .before .before .before .before .before .before .before .before .before .before .before .before .before .before .before .before .before .before .pre .1 .0) (c .before .before .before .before .before .before .before .before .before .before .before .before .before .before .before .before .before .before .before .before .before .before .before .before .before .before .before .before .before .args .heavy) (c .before .before .before .before .before .before .before .before .before .before .before .before .before .before .before .before .before .before .before .before .before .before .before .before .before .before .before .before .before .args .first) (c .before .before .before .before .before .before .before .before .before .before .before .before .before .before .before .before .before .before .before .before .before .before .before .before .before .before .before .before .before .args .table .now) (c .before .before .before .before .before .before .before .before .before .before .before .before .before .before .before .before .before .before .before .before .before .before .before .before .before .before .before .before .before .args .out .now) (c .before .before .before .before .before .before .before .before .before .before .before .before .before .before .before .before .before .before .before .before .before .before .before .before .before .before .before .before .before .pre .1 .1 .1 (c .before .before .before .before .before .before .before .before .before .before .before .before .before .before .before .before .before .before .before .before .before .before .before .before .before .before .before .before .before .pre .1 .0)) (c .before .before .before .before .before .before .before .before .before .before .before .before .before .before .before .before .before .before .before .before .loop .inv .5 (c .before .before .before .before .before .before .before .before .before .before .before .before .before .before .before .before .before .before .before .before .before .before .before .before .before .before .before .before .before .pre .1 .0) (c .before .before .before .before .before .before .before .before .before .before .before .before .before .before .before .before .before .before .before .before .before .before .before .before .before .before .before .before .before .pre .1 .1 .1 (c .before .before .before .before .before .before .before .before .before .before .before .before .before .before .before .before .before .before .before .before .before .before .before .before .before .before .before .before .before .pre .1 .0))) (omega (arith, c .before .before .before .before .before .before .before .before .before .before .before .before .before .before .before .before .before .before .before .loop-test .taken, c .before .before .before .before .before .before .before .before .before .before .before .before .before .before .before .before .before .before .before .before .before .before .before .wide .ensures .0)) _ (c .before .before .before .before .before .before .before .before .before .before .before .before .before .before .before .passed .ensures) (c .before .before .before .before .before .before .before .before .before .before .before .before .before .before .if1 .left) (bytes-known (c .before .before .before .before .before .before .before .before .before .before .before .before .before .before .before .before .before .before .before .before .before .before .before .before .before .before .before .before .before .args .s .now) (c .before .before .before .before .before .before .before .before .before .before .before .before .before .before .before .before .before .before .before .before .before .before .before .before .before .before .before .before .shared-slice-known .given)) _ _ (c .before .before .before .before .before .before .before .before .before .before .work .last .1 .1 .1 .1 .1 .1 .1 .1 .1 .1 .0) (c .before .before .before .before .before .before .before .before .before .before .work .last .1 .1 .1 .1 .1 .1 .1 .1 .1 .0) (c .before .before .before .before .before .before .before .before .before .before .work .ensures .0 (going-case (c .before .before .before .before .before .before .before .before .before .before .before .before .before .before .before .before .before .before .before .before .before .before .before .before .before .before .before .before .before .pre .1 .0) (c .before .before .before .before .before .before .before .before .before .before .before .before .before .before .before .before .before .before .before .before .before .before .before .before .before .before .before .before .before .args .heavy) (c .before .before .before .before .before .before .before .before .before .before .before .before .before .before .before .before .before .before .before .before .before .before .before .before .before .before .before .before .before .args .first) (c .before .before .before .before .before .before .before .before .before .before .before .before .before .before .before .before .before .before .before .before .before .before .before .before .before .before .before .before .before .args .table .now) (c .before .before .before .before .before .before .before .before .before .before .before .before .before .before .before .before .before .before .before .before .before .before .before .before .before .before .before .before .before .args .out .now) (c .before .before .before .before .before .before .before .before .before .before .before .before .before .before .before .before .before .before .before .before .before .before .before .before .before .before .before .before .before .pre .1 .1 .1 (c .before .before .before .before .before .before .before .before .before .before .before .before .before .before .before .before .before .before .before .before .before .before .before .before .before .before .before .before .before .pre .1 .0)) (c .before .before .before .before .before .before .before .before .before .before .before .before .before .before .before .before .before .before .before .before .loop .inv .5 (c .before .before .before .before .before .before .before .before .before .before .before .before .before .before .before .before .before .before .before .before .before .before .before .before .before .before .before .before .before .pre .1 .0) (c .before .before .before .before .before .before .before .before .before .before .before .before .before .before .before .before .before .before .before .before .before .before .before .before .before .before .before .before .before .pre .1 .1 .1 (c .before .before .before .before .before .before .before .before .before .before .before .before .before .before .before .before .before .before .before .before .before .before .before .before .before .before .before .before .before .pre .1 .0))) (omega (arith, c .before .before .before .before .before .before .before .before .before .before .before .before .before .before .before .before .before .before .before .loop-test .taken, c .before .before .before .before .before .before .before .before .before .before .before .before .before .before .before .before .before .before .before .before .before .before .before .wide .ensures .0)) _ (c .before .before .before .before .before .before .before .before .before .before .before .before .before .before .before .passed .ensures) (c .before .before .before .before .before .before .before .before .before .before .before .before .before .before .if1 .left))) (c .before .before .before .wide3 .ensures .0) (c .before .before .before .before .before .before .before .before .before .before .work .ensures .1 .1)) }, (((c .before .before .before .before .before .before .before .before .before .before .before .before .before .before .before .before .before .before .before .before .before .before .before .before .before .before .before .before .before .pre .1 .0) .most, c .before .before .before .before .before .before .before .before .before .before .work .kept .1 .1 .1 .1 .1 .1 .1 .1 .1 .1 .0 ∙ c .before .before .before .before .before .before .before .before .before .before .before .before .before .before .before .before .before .before .before .before .loop .inv .1, c .before .before .before .before .before .before .before .before .before .before .before .before .before .before .before .before .before .before .before .before .loop .inv .0), (omega (arith, c .before .before .before .before .before .before .before .before .before .before .before .before .before .before .before .before .before .before .before .loop-test .taken, c .before .before .before .before .before .before .before .before .before .before .before .before .before .before .before .before .before .before .before .before .before .before .before .wide .ensures .0, (c .before .before .before .before .before .before .before .before .before .before .before .before .before .before .before .before .before .before .before .before .before .before .before .before .before .before .before .before .before .pre .1 .0) .few), omega (arith, c .before .before .before .before .before .before .before .before .before .before .work .kept .1 .1 .1 .1 .1 .1 .1 .1 .1 .0, c .before .before .before .before .before .before .before .before .before .before .before .before .before .before .before .before .before .before .before .before .loop .inv .2, c .before .before .before .before .before .before .before .before .before .before .before .before .before .before .before .before .before .before .before .before .before .before .before .before .before .before .before .before .before .pre .1 .1 .0 .2), going-empty (c .before .before .before .before .before .before .before .before .before .before .before .before .before .before .before .before .before .before .before .before .before .before .before .before .before .before .before .before .before .pre .1 .0) (c .before .before .before .before .before .before .before .before .before .before .before .before .before .before .before .before .before .before .before .before .before .before .before .before .before .before .before .before .before .args .heavy) (c .before .before .before .before .before .before .before .before .before .before .before .before .before .before .before .before .before .before .before .before .before .before .before .before .before .before .before .before .before .args .first) (c .before .before .before .before .before .before .before .before .before .before .before .before .before .before .before .before .before .before .before .before .before .before .before .before .before .before .before .before .before .args .table .now) (c .before .before .before .before .before .before .before .before .before .before .before .before .before .before .before .before .before .before .before .before .before .before .before .before .before .before .before .before .before .args .out .now) (c .before .before .before .before .before .before .before .before .before .before .before .before .before .before .before .before .before .before .before .before .before .before .before .before .before .before .before .before .before .pre .1 .1 .1 (c .before .before .before .before .before .before .before .before .before .before .before .before .before .before .before .before .before .before .before .before .before .before .before .before .before .before .before .before .before .pre .1 .0)) (c .before .before .before .before .before .before .before .before .before .before .before .before .before .before .before .before .before .before .before .before .loop .inv .5 (c .before .before .before .before .before .before .before .before .before .before .before .before .before .before .before .before .before .before .before .before .before .before .before .before .before .before .before .before .before .pre .1 .0) (c .before .before .before .before .before .before .before .before .before .before .before .before .before .before .before .before .before .before .before .before .before .before .before .before .before .before .before .before .before .pre .1 .1 .1 (c .before .before .before .before .before .before .before .before .before .before .before .before .before .before .before .before .before .before .before .before .before .before .before .before .before .before .before .before .before .pre .1 .0))) (omega (arith, c .before .before .before .before .before .before .before .before .before .before .before .before .before .before .before .before .before .before .before .loop-test .taken, c .before .before .before .before .before .before .before .before .before .before .before .before .before .before .before .before .before .before .before .before .before .before .before .wide .ensures .0)) _ (c .before .before .before .before .before .before .before .before .before .before .before .before .before .before .before .passed .ensures) (c .before .before .before .before .before .before .before .before .before .before .before .before .before .before .if1 .left) (bytes-known (c .before .before .before .before .before .before .before .before .before .before .before .before .before .before .before .before .before .before .before .before .before .before .before .before .before .before .before .before .before .args .s .now) (c .before .before .before .before .before .before .before .before .before .before .before .before .before .before .before .before .before .before .before .before .before .before .before .before .before .before .before .before .shared-slice-known .given)) _ _ (c .before .before .before .before .before .before .before .before .before .before .work .last .1 .1 .1 .1 .1 .1 .1 .1 .1 .1 .0) (c .before .before .before .before .before .before .before .before .before .before .work .last .1 .1 .1 .1 .1 .1 .1 .1 .1 .0) (c .before .before .before .before .before .before .before .before .before .before .work .ensures .0 (going-case (c .before .before .before .before .before .before .before .before .before .before .before .before .before .before .before .before .before .before .before .before .before .before .before .before .before .before .before .before .before .pre .1 .0) (c .before .before .before .before .before .before .before .before .before .before .before .before .before .before .before .before .before .before .before .before .before .before .before .before .before .before .before .before .before .args .heavy) (c .before .before .before .before .before .before .before .before .before .before .before .before .before .before .before .before .before .before .before .before .before .before .before .before .before .before .before .before .before .args .first) (c .before .before .before .before .before .before .before .before .before .before .before .before .before .before .before .before .before .before .before .before .before .before .before .before .before .before .before .before .before .args .table .now) (c .before .before .before .before .before .before .before .before .before .before .before .before .before .before .before .before .before .before .before .before .before .before .before .before .before .before .before .before .before .args .out .now) (c .before .before .before .before .before .before .before .before .before .before .before .before .before .before .before .before .before .before .before .before .before .before .before .before .before .before .before .before .before .pre .1 .1 .1 (c .before .before .before .before .before .before .before .before .before .before .before .before .before .before .before .before .before .before .before .before .before .before .before .before .before .before .before .before .before .pre .1 .0)) (c .before .before .before .before .before .before .before .before .before .before .before .before .before .before .before .before .before .before .before .before .loop .inv .5 (c .before .before .before .before .before .before .before .before .before .before .before .before .before .before .before .before .before .before .before .before .before .before .before .before .before .before .before .before .before .pre .1 .0) (c .before .before .before .before .before .before .before .before .before .before .before .before .before .before .before .before .before .before .before .before .before .before .before .before .before .before .before .before .before .pre .1 .1 .1 (c .before .before .before .before .before .before .before .before .before .before .before .before .before .before .before .before .before .before .before .before .before .before .before .before .before .before .before .before .before .pre .1 .0))) (omega (arith, c .before .before .before .before .before .before .before .before .before .before .before .before .before .before .before .before .before .before .before .loop-test .taken, c .before .before .before .before .before .before .before .before .before .before .before .before .before .before .before .before .before .before .before .before .before .before .before .wide .ensures .0)) _ (c .before .before .before .before .before .before .before .before .before .before .before .before .before .before .before .passed .ensures) (c .before .before .before .before .before .before .before .before .before .before .before .before .before .before .if1 .left))) (c .before .before .before .wide3 .ensures .0) (c .before .before .before .before .before .before .before .before .before .before .work .ensures .1 .1))))
+    (record { register = (c .before .before .before .before .before .before .before .before .before .before .before .before .before .before .before .before .before .before .before .before .before .before .before .before .before .before .before .before .before .pre .1 .0) .register; read = (c .before .before .before .before .before .before .before .before .before .before .before .before .before .before .before .before .before .before .before .before .before .before .before .before .before .before .before .before .before .pre .1 .0) .read; holds = ((c .before .before .before .before .before .before .before .before .before .before .before .before .before .before .before .before .before .before .before .before .before .before .before .before .before .before .before .before .before .pre .1 .0) .items-are, (c .before .before .before .before .before .before .before .before .before .before .before .before .before .before .before .before .before .before .before .before .before .before .before .before .before .before .before .before .before .pre .1 .0) .links-are, going-fits (c .before .before .before .before .before .before .before .before .before .before .before .before .before .before .before .before .before .before .before .before .before .before .before .before .before .before .before .before .before .pre .1 .0) (c .before .before .before .before .before .before .before .before .before .before .before .before .before .before .before .before .before .before .before .before .before .before .before .before .before .before .before .before .before .args .heavy) (c .before .before .before .before .before .before .before .before .before .before .before .before .before .before .before .before .before .before .before .before .before .before .before .before .before .before .before .before .before .args .first) (c .before .before .before .before .before .before .before .before .before .before .before .before .before .before .before .before .before .before .before .before .before .before .before .before .before .before .before .before .before .args .table .now) (c .before .before .before .before .before .before .before .before .before .before .before .before .before .before .before .before .before .before .before .before .before .before .before .before .before .before .before .before .before .args .out .now) (c .before .before .before .before .before .before .before .before .before .before .before .before .before .before .before .before .before .before .before .before .before .before .before .before .before .before .before .before .before .pre .1 .1 .1 (c .before .before .before .before .before .before .before .before .before .before .before .before .before .before .before .before .before .before .before .before .before .before .before .before .before .before .before .before .before .pre .1 .0)) (c .before .before .before .before .before .before .before .before .before .before .before .before .before .before .before .before .before .before .before .before .loop .inv .5 (c .before .before .before .before .before .before .before .before .before .before .before .before .before .before .before .before .before .before .before .before .before .before .before .before .before .before .before .before .before .pre .1 .0) (c .before .before .before .before .before .before .before .before .before .before .before .before .before .before .before .before .before .before .before .before .before .before .before .before .before .before .before .before .before .pre .1 .1 .1 (c .before .before .before .before .before .before .before .before .before .before .before .before .before .before .before .before .before .before .before .before .before .before .before .before .before .before .before .before .before .pre .1 .0))) (omega (arith, c .before .before .before .before .before .before .before .before .before .before .before .before .before .before .before .before .before .before .before .loop-test .taken, c .before .before .before .before .before .before .before .before .before .before .before .before .before .before .before .before .before .before .before .before .before .before .before .octet .ensures .0)) _ (c .before .before .before .before .before .before .before .before .before .before .before .before .before .before .before .passed .ensures) (c .before .before .before .before .before .before .before .before .before .before .before .before .before .before .if1 .left) (bytes-known (c .before .before .before .before .before .before .before .before .before .before .before .before .before .before .before .before .before .before .before .before .before .before .before .before .before .before .before .before .before .args .s .now) (c .before .before .before .before .before .before .before .before .before .before .before .before .before .before .before .before .before .before .before .before .before .before .before .before .before .before .before .before .shared-slice-known .given)) _ _ (c .before .before .before .before .before .before .before .before .before .before .work .last .1 .1 .1 .1 .1 .1 .1 .1 .1 .1 .0) (c .before .before .before .before .before .before .before .before .before .before .work .last .1 .1 .1 .1 .1 .1 .1 .1 .1 .0) (c .before .before .before .before .before .before .before .before .before .before .work .ensures .0 (going-case (c .before .before .before .before .before .before .before .before .before .before .before .before .before .before .before .before .before .before .before .before .before .before .before .before .before .before .before .before .before .pre .1 .0) (c .before .before .before .before .before .before .before .before .before .before .before .before .before .before .before .before .before .before .before .before .before .before .before .before .before .before .before .before .before .args .heavy) (c .before .before .before .before .before .before .before .before .before .before .before .before .before .before .before .before .before .before .before .before .before .before .before .before .before .before .before .before .before .args .first) (c .before .before .before .before .before .before .before .before .before .before .before .before .before .before .before .before .before .before .before .before .before .before .before .before .before .before .before .before .before .args .table .now) (c .before .before .before .before .before .before .before .before .before .before .before .before .before .before .before .before .before .before .before .before .before .before .before .before .before .before .before .before .before .args .out .now) (c .before .before .before .before .before .before .before .before .before .before .before .before .before .before .before .before .before .before .before .before .before .before .before .before .before .before .before .before .before .pre .1 .1 .1 (c .before .before .before .before .before .before .before .before .before .before .before .before .before .before .before .before .before .before .before .before .before .before .before .before .before .before .before .before .before .pre .1 .0)) (c .before .before .before .before .before .before .before .before .before .before .before .before .before .before .before .before .before .before .before .before .loop .inv .5 (c .before .before .before .before .before .before .before .before .before .before .before .before .before .before .before .before .before .before .before .before .before .before .before .before .before .before .before .before .before .pre .1 .0) (c .before .before .before .before .before .before .before .before .before .before .before .before .before .before .before .before .before .before .before .before .before .before .before .before .before .before .before .before .before .pre .1 .1 .1 (c .before .before .before .before .before .before .before .before .before .before .before .before .before .before .before .before .before .before .before .before .before .before .before .before .before .before .before .before .before .pre .1 .0))) (omega (arith, c .before .before .before .before .before .before .before .before .before .before .before .before .before .before .before .before .before .before .before .loop-test .taken, c .before .before .before .before .before .before .before .before .before .before .before .before .before .before .before .before .before .before .before .before .before .before .before .octet .ensures .0)) _ (c .before .before .before .before .before .before .before .before .before .before .before .before .before .before .before .passed .ensures) (c .before .before .before .before .before .before .before .before .before .before .before .before .before .before .if1 .left))) (c .before .before .before .octet3 .ensures .0) (c .before .before .before .before .before .before .before .before .before .before .work .ensures .1 .1)) }, (((c .before .before .before .before .before .before .before .before .before .before .before .before .before .before .before .before .before .before .before .before .before .before .before .before .before .before .before .before .before .pre .1 .0) .most, c .before .before .before .before .before .before .before .before .before .before .work .kept .1 .1 .1 .1 .1 .1 .1 .1 .1 .1 .0 ∙ c .before .before .before .before .before .before .before .before .before .before .before .before .before .before .before .before .before .before .before .before .loop .inv .1, c .before .before .before .before .before .before .before .before .before .before .before .before .before .before .before .before .before .before .before .before .loop .inv .0), (omega (arith, c .before .before .before .before .before .before .before .before .before .before .before .before .before .before .before .before .before .before .before .loop-test .taken, c .before .before .before .before .before .before .before .before .before .before .before .before .before .before .before .before .before .before .before .before .before .before .before .octet .ensures .0, (c .before .before .before .before .before .before .before .before .before .before .before .before .before .before .before .before .before .before .before .before .before .before .before .before .before .before .before .before .before .pre .1 .0) .few), omega (arith, c .before .before .before .before .before .before .before .before .before .before .work .kept .1 .1 .1 .1 .1 .1 .1 .1 .1 .0, c .before .before .before .before .before .before .before .before .before .before .before .before .before .before .before .before .before .before .before .before .loop .inv .2, c .before .before .before .before .before .before .before .before .before .before .before .before .before .before .before .before .before .before .before .before .before .before .before .before .before .before .before .before .before .pre .1 .1 .0 .2), going-empty (c .before .before .before .before .before .before .before .before .before .before .before .before .before .before .before .before .before .before .before .before .before .before .before .before .before .before .before .before .before .pre .1 .0) (c .before .before .before .before .before .before .before .before .before .before .before .before .before .before .before .before .before .before .before .before .before .before .before .before .before .before .before .before .before .args .heavy) (c .before .before .before .before .before .before .before .before .before .before .before .before .before .before .before .before .before .before .before .before .before .before .before .before .before .before .before .before .before .args .first) (c .before .before .before .before .before .before .before .before .before .before .before .before .before .before .before .before .before .before .before .before .before .before .before .before .before .before .before .before .before .args .table .now) (c .before .before .before .before .before .before .before .before .before .before .before .before .before .before .before .before .before .before .before .before .before .before .before .before .before .before .before .before .before .args .out .now) (c .before .before .before .before .before .before .before .before .before .before .before .before .before .before .before .before .before .before .before .before .before .before .before .before .before .before .before .before .before .pre .1 .1 .1 (c .before .before .before .before .before .before .before .before .before .before .before .before .before .before .before .before .before .before .before .before .before .before .before .before .before .before .before .before .before .pre .1 .0)) (c .before .before .before .before .before .before .before .before .before .before .before .before .before .before .before .before .before .before .before .before .loop .inv .5 (c .before .before .before .before .before .before .before .before .before .before .before .before .before .before .before .before .before .before .before .before .before .before .before .before .before .before .before .before .before .pre .1 .0) (c .before .before .before .before .before .before .before .before .before .before .before .before .before .before .before .before .before .before .before .before .before .before .before .before .before .before .before .before .before .pre .1 .1 .1 (c .before .before .before .before .before .before .before .before .before .before .before .before .before .before .before .before .before .before .before .before .before .before .before .before .before .before .before .before .before .pre .1 .0))) (omega (arith, c .before .before .before .before .before .before .before .before .before .before .before .before .before .before .before .before .before .before .before .loop-test .taken, c .before .before .before .before .before .before .before .before .before .before .before .before .before .before .before .before .before .before .before .before .before .before .before .octet .ensures .0)) _ (c .before .before .before .before .before .before .before .before .before .before .before .before .before .before .before .passed .ensures) (c .before .before .before .before .before .before .before .before .before .before .before .before .before .before .if1 .left) (bytes-known (c .before .before .before .before .before .before .before .before .before .before .before .before .before .before .before .before .before .before .before .before .before .before .before .before .before .before .before .before .before .args .s .now) (c .before .before .before .before .before .before .before .before .before .before .before .before .before .before .before .before .before .before .before .before .before .before .before .before .before .before .before .before .shared-slice-known .given)) _ _ (c .before .before .before .before .before .before .before .before .before .before .work .last .1 .1 .1 .1 .1 .1 .1 .1 .1 .1 .0) (c .before .before .before .before .before .before .before .before .before .before .work .last .1 .1 .1 .1 .1 .1 .1 .1 .1 .0) (c .before .before .before .before .before .before .before .before .before .before .work .ensures .0 (going-case (c .before .before .before .before .before .before .before .before .before .before .before .before .before .before .before .before .before .before .before .before .before .before .before .before .before .before .before .before .before .pre .1 .0) (c .before .before .before .before .before .before .before .before .before .before .before .before .before .before .before .before .before .before .before .before .before .before .before .before .before .before .before .before .before .args .heavy) (c .before .before .before .before .before .before .before .before .before .before .before .before .before .before .before .before .before .before .before .before .before .before .before .before .before .before .before .before .before .args .first) (c .before .before .before .before .before .before .before .before .before .before .before .before .before .before .before .before .before .before .before .before .before .before .before .before .before .before .before .before .before .args .table .now) (c .before .before .before .before .before .before .before .before .before .before .before .before .before .before .before .before .before .before .before .before .before .before .before .before .before .before .before .before .before .args .out .now) (c .before .before .before .before .before .before .before .before .before .before .before .before .before .before .before .before .before .before .before .before .before .before .before .before .before .before .before .before .before .pre .1 .1 .1 (c .before .before .before .before .before .before .before .before .before .before .before .before .before .before .before .before .before .before .before .before .before .before .before .before .before .before .before .before .before .pre .1 .0)) (c .before .before .before .before .before .before .before .before .before .before .before .before .before .before .before .before .before .before .before .before .loop .inv .5 (c .before .before .before .before .before .before .before .before .before .before .before .before .before .before .before .before .before .before .before .before .before .before .before .before .before .before .before .before .before .pre .1 .0) (c .before .before .before .before .before .before .before .before .before .before .before .before .before .before .before .before .before .before .before .before .before .before .before .before .before .before .before .before .before .pre .1 .1 .1 (c .before .before .before .before .before .before .before .before .before .before .before .before .before .before .before .before .before .before .before .before .before .before .before .before .before .before .before .before .before .pre .1 .0))) (omega (arith, c .before .before .before .before .before .before .before .before .before .before .before .before .before .before .before .before .before .before .before .loop-test .taken, c .before .before .before .before .before .before .before .before .before .before .before .before .before .before .before .before .before .before .before .before .before .before .before .octet .ensures .0)) _ (c .before .before .before .before .before .before .before .before .before .before .before .before .before .before .before .passed .ensures) (c .before .before .before .before .before .before .before .before .before .before .before .before .before .before .if1 .left))) (c .before .before .before .octet3 .ensures .0) (c .before .before .before .before .before .before .before .before .before .before .work .ensures .1 .1))))
 
 others-mul-product : (t : ℕ) → others-lts.Need-mul-product (
-  wide-reads.Asked,
-  wide-reads.Learnt,
-  broad-reads.Asked,
-  broad-reads.Learnt,
+  octet-reads.Asked,
+  octet-reads.Learnt,
+  quad-reads.Asked,
+  quad-reads.Learnt,
   passed-reads.Asked,
   passed-reads.Learnt,
   work-below t,
@@ -380,13 +380,13 @@ others-mul-product : (t : ℕ) → others-lts.Need-mul-product (
   add-best-reads.Learnt,
 ) (others-at t) others.Post others-Inv-loop others-μ-loop
 others-mul-product t c =
-    omega (arith, going-product (c .before .before .before .before .before .before .before .before .before .before .before .before .before .before .before .before .before .before .before .before .before .before .before .before .before .before .before .before .before .before .before .before .before .before .pre .1 .0) (c .before .before .before .before .before .before .before .before .before .before .before .before .before .before .before .before .before .before .before .before .before .before .before .before .before .before .before .before .before .before .before .before .before .before .args .heavy) (c .before .before .before .before .before .before .before .before .before .before .before .before .before .before .before .before .before .before .before .before .before .before .before .before .before .before .before .before .before .before .before .before .before .before .args .first) (c .before .before .before .before .before .before .before .before .before .before .before .before .before .before .before .before .before .before .before .before .before .before .before .before .before .before .before .before .before .before .before .before .before .before .args .table .now) (c .before .before .before .before .before .before .before .before .before .before .before .before .before .before .before .before .before .before .before .before .before .before .before .before .before .before .before .before .before .before .before .before .before .before .args .out .now) (c .before .before .before .before .before .before .before .before .before .before .before .before .before .before .before .before .before .before .before .before .before .before .before .before .before .before .before .before .before .before .before .before .before .before .pre .1 .1 .1 (c .before .before .before .before .before .before .before .before .before .before .before .before .before .before .before .before .before .before .before .before .before .before .before .before .before .before .before .before .before .before .before .before .before .before .pre .1 .0)) (c .before .before .before .before .before .before .before .before .before .before .before .before .before .before .before .before .before .before .before .before .before .before .before .before .before .loop .inv .5 (c .before .before .before .before .before .before .before .before .before .before .before .before .before .before .before .before .before .before .before .before .before .before .before .before .before .before .before .before .before .before .before .before .before .before .pre .1 .0) (c .before .before .before .before .before .before .before .before .before .before .before .before .before .before .before .before .before .before .before .before .before .before .before .before .before .before .before .before .before .before .before .before .before .before .pre .1 .1 .1 (c .before .before .before .before .before .before .before .before .before .before .before .before .before .before .before .before .before .before .before .before .before .before .before .before .before .before .before .before .before .before .before .before .before .before .pre .1 .0))) (omega (arith, c .before .before .before .before .before .before .before .before .before .before .before .before .before .before .before .before .before .before .before .before .before .before .before .before .loop-test .taken, c .before .before .before .before .before .before .before .before .before .before .before .before .before .before .before .before .before .before .before .before .before .before .before .before .before .before .before .before .wide .ensures .0)) _ (c .before .before .before .before .before .before .before .before .before .before .before .before .before .before .before .before .before .before .before .before .passed .ensures) (c .before .before .before .before .before .before .before .before .before .before .before .before .before .before .before .before .before .before .before .if1 .left) (bytes-known (c .before .before .before .before .before .before .before .before .before .before .before .before .before .before .before .before .before .before .before .before .before .before .before .before .before .before .before .before .before .before .before .before .before .before .args .s .now) (c .before .before .before .before .before .before .before .before .before .before .before .before .before .before .before .before .before .before .before .before .before .before .before .before .before .before .before .before .before .before .before .before .before .shared-slice-known .given)) _ _ (c .before .before .before .before .before .before .before .before .before .before .before .before .before .before .before .work .last .1 .1 .1 .1 .1 .1 .1 .1 .1 .1 .0) (c .before .before .before .before .before .before .before .before .before .before .before .before .before .before .before .work .last .1 .1 .1 .1 .1 .1 .1 .1 .1 .0) (c .before .before .before .before .before .before .before .before .before .before .before .before .before .before .before .work .ensures .0 (going-case (c .before .before .before .before .before .before .before .before .before .before .before .before .before .before .before .before .before .before .before .before .before .before .before .before .before .before .before .before .before .before .before .before .before .before .pre .1 .0) (c .before .before .before .before .before .before .before .before .before .before .before .before .before .before .before .before .before .before .before .before .before .before .before .before .before .before .before .before .before .before .before .before .before .before .args .heavy) (c .before .before .before .before .before .before .before .before .before .before .before .before .before .before .before .before .before .before .before .before .before .before .before .before .before .before .before .before .before .before .before .before .before .before .args .first) (c .before .before .before .before .before .before .before .before .before .before .before .before .before .before .before .before .before .before .before .before .before .before .before .before .before .before .before .before .before .before .before .before .before .before .args .table .now) (c .before .before .before .before .before .before .before .before .before .before .before .before .before .before .before .before .before .before .before .before .before .before .before .before .before .before .before .before .before .before .before .before .before .before .args .out .now) (c .before .before .before .before .before .before .before .before .before .before .before .before .before .before .before .before .before .before .before .before .before .before .before .before .before .before .before .before .before .before .before .before .before .before .pre .1 .1 .1 (c .before .before .before .before .before .before .before .before .before .before .before .before .before .before .before .before .before .before .before .before .before .before .before .before .before .before .before .before .before .before .before .before .before .before .pre .1 .0)) (c .before .before .before .before .before .before .before .before .before .before .before .before .before .before .before .before .before .before .before .before .before .before .before .before .before .loop .inv .5 (c .before .before .before .before .before .before .before .before .before .before .before .before .before .before .before .before .before .before .before .before .before .before .before .before .before .before .before .before .before .before .before .before .before .before .pre .1 .0) (c .before .before .before .before .before .before .before .before .before .before .before .before .before .before .before .before .before .before .before .before .before .before .before .before .before .before .before .before .before .before .before .before .before .before .pre .1 .1 .1 (c .before .before .before .before .before .before .before .before .before .before .before .before .before .before .before .before .before .before .before .before .before .before .before .before .before .before .before .before .before .before .before .before .before .before .pre .1 .0))) (omega (arith, c .before .before .before .before .before .before .before .before .before .before .before .before .before .before .before .before .before .before .before .before .before .before .before .before .loop-test .taken, c .before .before .before .before .before .before .before .before .before .before .before .before .before .before .before .before .before .before .before .before .before .before .before .before .before .before .before .before .wide .ensures .0)) _ (c .before .before .before .before .before .before .before .before .before .before .before .before .before .before .before .before .before .before .before .before .passed .ensures) (c .before .before .before .before .before .before .before .before .before .before .before .before .before .before .before .before .before .before .before .if1 .left))) (c .before .before .before .before .before .before .before .before .wide3 .ensures .0) (c .before .before .before .before .before .before .before .before .before .before .before .before .before .before .before .work .ensures .1 .1))
+    omega (arith, going-product (c .before .before .before .before .before .before .before .before .before .before .before .before .before .before .before .before .before .before .before .before .before .before .before .before .before .before .before .before .before .before .before .before .before .before .pre .1 .0) (c .before .before .before .before .before .before .before .before .before .before .before .before .before .before .before .before .before .before .before .before .before .before .before .before .before .before .before .before .before .before .before .before .before .before .args .heavy) (c .before .before .before .before .before .before .before .before .before .before .before .before .before .before .before .before .before .before .before .before .before .before .before .before .before .before .before .before .before .before .before .before .before .before .args .first) (c .before .before .before .before .before .before .before .before .before .before .before .before .before .before .before .before .before .before .before .before .before .before .before .before .before .before .before .before .before .before .before .before .before .before .args .table .now) (c .before .before .before .before .before .before .before .before .before .before .before .before .before .before .before .before .before .before .before .before .before .before .before .before .before .before .before .before .before .before .before .before .before .before .args .out .now) (c .before .before .before .before .before .before .before .before .before .before .before .before .before .before .before .before .before .before .before .before .before .before .before .before .before .before .before .before .before .before .before .before .before .before .pre .1 .1 .1 (c .before .before .before .before .before .before .before .before .before .before .before .before .before .before .before .before .before .before .before .before .before .before .before .before .before .before .before .before .before .before .before .before .before .before .pre .1 .0)) (c .before .before .before .before .before .before .before .before .before .before .before .before .before .before .before .before .before .before .before .before .before .before .before .before .before .loop .inv .5 (c .before .before .before .before .before .before .before .before .before .before .before .before .before .before .before .before .before .before .before .before .before .before .before .before .before .before .before .before .before .before .before .before .before .before .pre .1 .0) (c .before .before .before .before .before .before .before .before .before .before .before .before .before .before .before .before .before .before .before .before .before .before .before .before .before .before .before .before .before .before .before .before .before .before .pre .1 .1 .1 (c .before .before .before .before .before .before .before .before .before .before .before .before .before .before .before .before .before .before .before .before .before .before .before .before .before .before .before .before .before .before .before .before .before .before .pre .1 .0))) (omega (arith, c .before .before .before .before .before .before .before .before .before .before .before .before .before .before .before .before .before .before .before .before .before .before .before .before .loop-test .taken, c .before .before .before .before .before .before .before .before .before .before .before .before .before .before .before .before .before .before .before .before .before .before .before .before .before .before .before .before .octet .ensures .0)) _ (c .before .before .before .before .before .before .before .before .before .before .before .before .before .before .before .before .before .before .before .before .passed .ensures) (c .before .before .before .before .before .before .before .before .before .before .before .before .before .before .before .before .before .before .before .if1 .left) (bytes-known (c .before .before .before .before .before .before .before .before .before .before .before .before .before .before .before .before .before .before .before .before .before .before .before .before .before .before .before .before .before .before .before .before .before .before .args .s .now) (c .before .before .before .before .before .before .before .before .before .before .before .before .before .before .before .before .before .before .before .before .before .before .before .before .before .before .before .before .before .before .before .before .before .shared-slice-known .given)) _ _ (c .before .before .before .before .before .before .before .before .before .before .before .before .before .before .before .work .last .1 .1 .1 .1 .1 .1 .1 .1 .1 .1 .0) (c .before .before .before .before .before .before .before .before .before .before .before .before .before .before .before .work .last .1 .1 .1 .1 .1 .1 .1 .1 .1 .0) (c .before .before .before .before .before .before .before .before .before .before .before .before .before .before .before .work .ensures .0 (going-case (c .before .before .before .before .before .before .before .before .before .before .before .before .before .before .before .before .before .before .before .before .before .before .before .before .before .before .before .before .before .before .before .before .before .before .pre .1 .0) (c .before .before .before .before .before .before .before .before .before .before .before .before .before .before .before .before .before .before .before .before .before .before .before .before .before .before .before .before .before .before .before .before .before .before .args .heavy) (c .before .before .before .before .before .before .before .before .before .before .before .before .before .before .before .before .before .before .before .before .before .before .before .before .before .before .before .before .before .before .before .before .before .before .args .first) (c .before .before .before .before .before .before .before .before .before .before .before .before .before .before .before .before .before .before .before .before .before .before .before .before .before .before .before .before .before .before .before .before .before .before .args .table .now) (c .before .before .before .before .before .before .before .before .before .before .before .before .before .before .before .before .before .before .before .before .before .before .before .before .before .before .before .before .before .before .before .before .before .before .args .out .now) (c .before .before .before .before .before .before .before .before .before .before .before .before .before .before .before .before .before .before .before .before .before .before .before .before .before .before .before .before .before .before .before .before .before .before .pre .1 .1 .1 (c .before .before .before .before .before .before .before .before .before .before .before .before .before .before .before .before .before .before .before .before .before .before .before .before .before .before .before .before .before .before .before .before .before .before .pre .1 .0)) (c .before .before .before .before .before .before .before .before .before .before .before .before .before .before .before .before .before .before .before .before .before .before .before .before .before .loop .inv .5 (c .before .before .before .before .before .before .before .before .before .before .before .before .before .before .before .before .before .before .before .before .before .before .before .before .before .before .before .before .before .before .before .before .before .before .pre .1 .0) (c .before .before .before .before .before .before .before .before .before .before .before .before .before .before .before .before .before .before .before .before .before .before .before .before .before .before .before .before .before .before .before .before .before .before .pre .1 .1 .1 (c .before .before .before .before .before .before .before .before .before .before .before .before .before .before .before .before .before .before .before .before .before .before .before .before .before .before .before .before .before .before .before .before .before .before .pre .1 .0))) (omega (arith, c .before .before .before .before .before .before .before .before .before .before .before .before .before .before .before .before .before .before .before .before .before .before .before .before .loop-test .taken, c .before .before .before .before .before .before .before .before .before .before .before .before .before .before .before .before .before .before .before .before .before .before .before .before .before .before .before .before .octet .ensures .0)) _ (c .before .before .before .before .before .before .before .before .before .before .before .before .before .before .before .before .before .before .before .before .passed .ensures) (c .before .before .before .before .before .before .before .before .before .before .before .before .before .before .before .before .before .before .before .if1 .left))) (c .before .before .before .before .before .before .before .before .octet3 .ensures .0) (c .before .before .before .before .before .before .before .before .before .before .before .before .before .before .before .work .ensures .1 .1))
 
 others-add-n-2 : (t : ℕ) → others-lts.Need-add-n-2 (
-  wide-reads.Asked,
-  wide-reads.Learnt,
-  broad-reads.Asked,
-  broad-reads.Learnt,
+  octet-reads.Asked,
+  octet-reads.Learnt,
+  quad-reads.Asked,
+  quad-reads.Learnt,
   passed-reads.Asked,
   passed-reads.Learnt,
   work-below t,
@@ -395,13 +395,13 @@ others-add-n-2 : (t : ℕ) → others-lts.Need-add-n-2 (
   add-best-reads.Learnt,
 ) (others-at t) others.Post others-Inv-loop others-μ-loop
 others-add-n-2 t c =
-    omega (arith, going-count (c .before .before .before .before .before .before .before .before .before .before .before .before .before .before .before .before .before .before .before .before .before .before .before .before .before .before .before .before .before .before .before .before .before .before .pre .1 .0) (c .before .before .before .before .before .before .before .before .before .before .before .before .before .before .before .before .before .before .before .before .before .before .before .before .before .before .before .before .before .before .before .before .before .before .args .heavy) (c .before .before .before .before .before .before .before .before .before .before .before .before .before .before .before .before .before .before .before .before .before .before .before .before .before .before .before .before .before .before .before .before .before .before .args .first) (c .before .before .before .before .before .before .before .before .before .before .before .before .before .before .before .before .before .before .before .before .before .before .before .before .before .before .before .before .before .before .before .before .before .before .args .table .now) (c .before .before .before .before .before .before .before .before .before .before .before .before .before .before .before .before .before .before .before .before .before .before .before .before .before .before .before .before .before .before .before .before .before .before .args .out .now) (c .before .before .before .before .before .before .before .before .before .before .before .before .before .before .before .before .before .before .before .before .before .before .before .before .before .before .before .before .before .before .before .before .before .before .pre .1 .1 .1 (c .before .before .before .before .before .before .before .before .before .before .before .before .before .before .before .before .before .before .before .before .before .before .before .before .before .before .before .before .before .before .before .before .before .before .pre .1 .0)) (c .before .before .before .before .before .before .before .before .before .before .before .before .before .before .before .before .before .before .before .before .before .before .before .before .before .loop .inv .5 (c .before .before .before .before .before .before .before .before .before .before .before .before .before .before .before .before .before .before .before .before .before .before .before .before .before .before .before .before .before .before .before .before .before .before .pre .1 .0) (c .before .before .before .before .before .before .before .before .before .before .before .before .before .before .before .before .before .before .before .before .before .before .before .before .before .before .before .before .before .before .before .before .before .before .pre .1 .1 .1 (c .before .before .before .before .before .before .before .before .before .before .before .before .before .before .before .before .before .before .before .before .before .before .before .before .before .before .before .before .before .before .before .before .before .before .pre .1 .0))) (omega (arith, c .before .before .before .before .before .before .before .before .before .before .before .before .before .before .before .before .before .before .before .before .before .before .before .before .loop-test .taken, c .before .before .before .before .before .before .before .before .before .before .before .before .before .before .before .before .before .before .before .before .before .before .before .before .before .before .before .before .wide .ensures .0)) _ (c .before .before .before .before .before .before .before .before .before .before .before .before .before .before .before .before .before .before .before .before .passed .ensures) (c .before .before .before .before .before .before .before .before .before .before .before .before .before .before .before .before .before .before .before .if1 .left))
+    omega (arith, going-count (c .before .before .before .before .before .before .before .before .before .before .before .before .before .before .before .before .before .before .before .before .before .before .before .before .before .before .before .before .before .before .before .before .before .before .pre .1 .0) (c .before .before .before .before .before .before .before .before .before .before .before .before .before .before .before .before .before .before .before .before .before .before .before .before .before .before .before .before .before .before .before .before .before .before .args .heavy) (c .before .before .before .before .before .before .before .before .before .before .before .before .before .before .before .before .before .before .before .before .before .before .before .before .before .before .before .before .before .before .before .before .before .before .args .first) (c .before .before .before .before .before .before .before .before .before .before .before .before .before .before .before .before .before .before .before .before .before .before .before .before .before .before .before .before .before .before .before .before .before .before .args .table .now) (c .before .before .before .before .before .before .before .before .before .before .before .before .before .before .before .before .before .before .before .before .before .before .before .before .before .before .before .before .before .before .before .before .before .before .args .out .now) (c .before .before .before .before .before .before .before .before .before .before .before .before .before .before .before .before .before .before .before .before .before .before .before .before .before .before .before .before .before .before .before .before .before .before .pre .1 .1 .1 (c .before .before .before .before .before .before .before .before .before .before .before .before .before .before .before .before .before .before .before .before .before .before .before .before .before .before .before .before .before .before .before .before .before .before .pre .1 .0)) (c .before .before .before .before .before .before .before .before .before .before .before .before .before .before .before .before .before .before .before .before .before .before .before .before .before .loop .inv .5 (c .before .before .before .before .before .before .before .before .before .before .before .before .before .before .before .before .before .before .before .before .before .before .before .before .before .before .before .before .before .before .before .before .before .before .pre .1 .0) (c .before .before .before .before .before .before .before .before .before .before .before .before .before .before .before .before .before .before .before .before .before .before .before .before .before .before .before .before .before .before .before .before .before .before .pre .1 .1 .1 (c .before .before .before .before .before .before .before .before .before .before .before .before .before .before .before .before .before .before .before .before .before .before .before .before .before .before .before .before .before .before .before .before .before .before .pre .1 .0))) (omega (arith, c .before .before .before .before .before .before .before .before .before .before .before .before .before .before .before .before .before .before .before .before .before .before .before .before .loop-test .taken, c .before .before .before .before .before .before .before .before .before .before .before .before .before .before .before .before .before .before .before .before .before .before .before .before .before .before .before .before .octet .ensures .0)) _ (c .before .before .before .before .before .before .before .before .before .before .before .before .before .before .before .before .before .before .before .before .passed .ensures) (c .before .before .before .before .before .before .before .before .before .before .before .before .before .before .before .before .before .before .before .if1 .left))
 
 others-loop-less-2 : (t : ℕ) → others-lts.Need-loop-less-2 (
-  wide-reads.Asked,
-  wide-reads.Learnt,
-  broad-reads.Asked,
-  broad-reads.Learnt,
+  octet-reads.Asked,
+  octet-reads.Learnt,
+  quad-reads.Asked,
+  quad-reads.Learnt,
   passed-reads.Asked,
   passed-reads.Learnt,
   work-below t,
@@ -410,13 +410,13 @@ others-loop-less-2 : (t : ℕ) → others-lts.Need-loop-less-2 (
   add-best-reads.Learnt,
 ) (others-at t) others.Post others-Inv-loop others-μ-loop
 others-loop-less-2 t c =
-    omega (arith, c .before .before .before .before .before .before .before .before .before .before .before .before .before .before .before .before .before .before .before .before .before .before .before .before .loop-test .taken, c .before .before .before .before .before .before .before .before .before .before .before .before .before .before .before .before .before .before .before .before .before .before .before .before .before .before .before .before .wide .ensures .0, c .before .before .before .before .before .before .before .before .before .before .before .before .before .before .before .before .before .before .before .before .before .before .wide2 .ensures .0, going-inside (c .before .before .before .before .before .before .before .before .before .before .before .before .before .before .before .before .before .before .before .before .before .before .before .before .before .before .before .before .before .before .before .before .before .before .pre .1 .0) (c .before .before .before .before .before .before .before .before .before .before .before .before .before .before .before .before .before .before .before .before .before .before .before .before .before .before .before .before .before .before .before .before .before .before .args .heavy) (c .before .before .before .before .before .before .before .before .before .before .before .before .before .before .before .before .before .before .before .before .before .before .before .before .before .before .before .before .before .before .before .before .before .before .args .first) (c .before .before .before .before .before .before .before .before .before .before .before .before .before .before .before .before .before .before .before .before .before .before .before .before .before .before .before .before .before .before .before .before .before .before .args .table .now) (c .before .before .before .before .before .before .before .before .before .before .before .before .before .before .before .before .before .before .before .before .before .before .before .before .before .before .before .before .before .before .before .before .before .before .args .out .now) (c .before .before .before .before .before .before .before .before .before .before .before .before .before .before .before .before .before .before .before .before .before .before .before .before .before .before .before .before .before .before .before .before .before .before .pre .1 .1 .1 (c .before .before .before .before .before .before .before .before .before .before .before .before .before .before .before .before .before .before .before .before .before .before .before .before .before .before .before .before .before .before .before .before .before .before .pre .1 .0)) (c .before .before .before .before .before .before .before .before .before .before .before .before .before .before .before .before .before .before .before .before .before .before .before .before .before .loop .inv .5 (c .before .before .before .before .before .before .before .before .before .before .before .before .before .before .before .before .before .before .before .before .before .before .before .before .before .before .before .before .before .before .before .before .before .before .pre .1 .0) (c .before .before .before .before .before .before .before .before .before .before .before .before .before .before .before .before .before .before .before .before .before .before .before .before .before .before .before .before .before .before .before .before .before .before .pre .1 .1 .1 (c .before .before .before .before .before .before .before .before .before .before .before .before .before .before .before .before .before .before .before .before .before .before .before .before .before .before .before .before .before .before .before .before .before .before .pre .1 .0))) (omega (arith, c .before .before .before .before .before .before .before .before .before .before .before .before .before .before .before .before .before .before .before .before .before .before .before .before .loop-test .taken, c .before .before .before .before .before .before .before .before .before .before .before .before .before .before .before .before .before .before .before .before .before .before .before .before .before .before .before .before .wide .ensures .0)) .0)
+    omega (arith, c .before .before .before .before .before .before .before .before .before .before .before .before .before .before .before .before .before .before .before .before .before .before .before .before .loop-test .taken, c .before .before .before .before .before .before .before .before .before .before .before .before .before .before .before .before .before .before .before .before .before .before .before .before .before .before .before .before .octet .ensures .0, c .before .before .before .before .before .before .before .before .before .before .before .before .before .before .before .before .before .before .before .before .before .before .octet2 .ensures .0, going-inside (c .before .before .before .before .before .before .before .before .before .before .before .before .before .before .before .before .before .before .before .before .before .before .before .before .before .before .before .before .before .before .before .before .before .before .pre .1 .0) (c .before .before .before .before .before .before .before .before .before .before .before .before .before .before .before .before .before .before .before .before .before .before .before .before .before .before .before .before .before .before .before .before .before .before .args .heavy) (c .before .before .before .before .before .before .before .before .before .before .before .before .before .before .before .before .before .before .before .before .before .before .before .before .before .before .before .before .before .before .before .before .before .before .args .first) (c .before .before .before .before .before .before .before .before .before .before .before .before .before .before .before .before .before .before .before .before .before .before .before .before .before .before .before .before .before .before .before .before .before .before .args .table .now) (c .before .before .before .before .before .before .before .before .before .before .before .before .before .before .before .before .before .before .before .before .before .before .before .before .before .before .before .before .before .before .before .before .before .before .args .out .now) (c .before .before .before .before .before .before .before .before .before .before .before .before .before .before .before .before .before .before .before .before .before .before .before .before .before .before .before .before .before .before .before .before .before .before .pre .1 .1 .1 (c .before .before .before .before .before .before .before .before .before .before .before .before .before .before .before .before .before .before .before .before .before .before .before .before .before .before .before .before .before .before .before .before .before .before .pre .1 .0)) (c .before .before .before .before .before .before .before .before .before .before .before .before .before .before .before .before .before .before .before .before .before .before .before .before .before .loop .inv .5 (c .before .before .before .before .before .before .before .before .before .before .before .before .before .before .before .before .before .before .before .before .before .before .before .before .before .before .before .before .before .before .before .before .before .before .pre .1 .0) (c .before .before .before .before .before .before .before .before .before .before .before .before .before .before .before .before .before .before .before .before .before .before .before .before .before .before .before .before .before .before .before .before .before .before .pre .1 .1 .1 (c .before .before .before .before .before .before .before .before .before .before .before .before .before .before .before .before .before .before .before .before .before .before .before .before .before .before .before .before .before .before .before .before .before .before .pre .1 .0))) (omega (arith, c .before .before .before .before .before .before .before .before .before .before .before .before .before .before .before .before .before .before .before .before .before .before .before .before .loop-test .taken, c .before .before .before .before .before .before .before .before .before .before .before .before .before .before .before .before .before .before .before .before .before .before .before .before .before .before .before .before .octet .ensures .0)) .0)
 
 others-loop-again-2 : (t : ℕ) → others-lts.Need-loop-again-2 (
-  wide-reads.Asked,
-  wide-reads.Learnt,
-  broad-reads.Asked,
-  broad-reads.Learnt,
+  octet-reads.Asked,
+  octet-reads.Learnt,
+  quad-reads.Asked,
+  quad-reads.Learnt,
   passed-reads.Asked,
   passed-reads.Learnt,
   work-below t,
@@ -425,13 +425,13 @@ others-loop-again-2 : (t : ℕ) → others-lts.Need-loop-again-2 (
   add-best-reads.Learnt,
 ) (others-at t) others.Post others-Inv-loop others-μ-loop
 others-loop-again-2 t c =
-    (c .before .before .before .before .add-best .kept .1 .1 .1 .1 .1 .1 .1 .1 .1 .0 ∙ c .before .before .before .before .before .before .before .before .before .before .before .before .before .before .before .before .before .before .before .before .before .before .before .before .before .loop .inv .0, c .before .before .before .before .before .before .before .before .before .before .before .before .before .before .before .work .kept .1 .1 .1 .1 .1 .1 .1 .1 .1 .1 .0 ∙ c .before .before .before .before .before .before .before .before .before .before .before .before .before .before .before .before .before .before .before .before .before .before .before .before .before .loop .inv .1, c .before .before .before .before .add-best .kept .1 .1 .1 .1 .1 .1 .1 .1 .0 ∙ c .before .before .before .before .before .before .before .before .before .before .before .before .before .before .before .work .kept .1 .1 .1 .1 .1 .1 .1 .1 .1 .0 ∙ c .before .before .before .before .before .before .before .before .before .before .before .before .before .before .before .before .before .before .before .before .before .before .before .before .before .loop .inv .2, length-front (c .before .before .before .before .before .before .before .before .before .before .before .before .before .before .before .before .before .before .before .before .before .before .before .before .before .loop .room) (c .before .before .before .before .before .before .before .before .before .before .before .before .before .before .before .work .last .1 .1 .1 .1 .1 .1 .1 .1 .1 .1 .1 .0) (c .before .before .before .before .before .before .before .before .before .before .before .before .before .before .before .before .before .before .before .before .before .before .before .before .before .before .before .before .before .before .before .before .before .before .args .items) (c .before .before .before .before .before .before .before .before .before .before .before .before .before .before .before .work .kept .1 .1 .1 .1 .1 .1 .1 .1 .1 .1 .1 .0) ∙ c .before .before .before .before .before .before .before .before .before .before .before .before .before .before .before .before .before .before .before .before .before .before .before .before .before .loop .inv .3, omega arith, λ k h. going-next k (c .before .before .before .before .before .before .before .before .before .before .before .before .before .before .before .before .before .before .before .before .before .before .before .before .before .before .before .before .before .before .before .before .before .before .args .heavy) (c .before .before .before .before .before .before .before .before .before .before .before .before .before .before .before .before .before .before .before .before .before .before .before .before .before .before .before .before .before .before .before .before .before .before .args .first) (c .before .before .before .before .before .before .before .before .before .before .before .before .before .before .before .before .before .before .before .before .before .before .before .before .before .before .before .before .before .before .before .before .before .before .args .table .now) (c .before .before .before .before .before .before .before .before .before .before .before .before .before .before .before .before .before .before .before .before .before .before .before .before .before .before .before .before .before .before .before .before .before .before .args .out .now) h (c .before .before .before .before .before .before .before .before .before .before .before .before .before .before .before .before .before .before .before .before .before .before .before .before .before .loop .inv .5 k h) (omega (arith, c .before .before .before .before .before .before .before .before .before .before .before .before .before .before .before .before .before .before .before .before .before .before .before .before .loop-test .taken, c .before .before .before .before .before .before .before .before .before .before .before .before .before .before .before .before .before .before .before .before .before .before .before .before .before .before .before .before .wide .ensures .0)) _ (c .before .before .before .before .before .before .before .before .before .before .before .before .before .before .before .before .before .before .before .before .passed .ensures) (c .before .before .before .before .before .before .before .before .before .before .before .before .before .before .before .before .before .before .before .if1 .left) (bytes-known (c .before .before .before .before .before .before .before .before .before .before .before .before .before .before .before .before .before .before .before .before .before .before .before .before .before .before .before .before .before .before .before .before .before .before .args .s .now) (c .before .before .before .before .before .before .before .before .before .before .before .before .before .before .before .before .before .before .before .before .before .before .before .before .before .before .before .before .before .before .before .before .before .shared-slice-known .given)) _ _ (c .before .before .before .before .before .before .before .before .before .before .before .before .before .before .before .work .last .1 .1 .1 .1 .1 .1 .1 .1 .1 .1 .0) (c .before .before .before .before .before .before .before .before .before .before .before .before .before .before .before .work .last .1 .1 .1 .1 .1 .1 .1 .1 .1 .0) (c .before .before .before .before .before .before .before .before .before .before .before .before .before .before .before .work .ensures .0 (going-case k (c .before .before .before .before .before .before .before .before .before .before .before .before .before .before .before .before .before .before .before .before .before .before .before .before .before .before .before .before .before .before .before .before .before .before .args .heavy) (c .before .before .before .before .before .before .before .before .before .before .before .before .before .before .before .before .before .before .before .before .before .before .before .before .before .before .before .before .before .before .before .before .before .before .args .first) (c .before .before .before .before .before .before .before .before .before .before .before .before .before .before .before .before .before .before .before .before .before .before .before .before .before .before .before .before .before .before .before .before .before .before .args .table .now) (c .before .before .before .before .before .before .before .before .before .before .before .before .before .before .before .before .before .before .before .before .before .before .before .before .before .before .before .before .before .before .before .before .before .before .args .out .now) h (c .before .before .before .before .before .before .before .before .before .before .before .before .before .before .before .before .before .before .before .before .before .before .before .before .before .loop .inv .5 k h) (omega (arith, c .before .before .before .before .before .before .before .before .before .before .before .before .before .before .before .before .before .before .before .before .before .before .before .before .loop-test .taken, c .before .before .before .before .before .before .before .before .before .before .before .before .before .before .before .before .before .before .before .before .before .before .before .before .before .before .before .before .wide .ensures .0)) _ (c .before .before .before .before .before .before .before .before .before .before .before .before .before .before .before .before .before .before .before .before .passed .ensures) (c .before .before .before .before .before .before .before .before .before .before .before .before .before .before .before .before .before .before .before .if1 .left))) (c .before .before .before .before .before .before .before .before .wide3 .ensures .0) (c .before .before .before .before .before .before .before .before .before .before .before .before .before .before .before .work .ensures .1 .1) _ (c .before .before .before .before .before .before .before .before .before .before .before .before .before .before .before .before .before .before .before .before .before .before .wide2 .ensures .0) (c .before .before .before .before .add-best .last .1 .1 .1 .1 .1 .1 .1 .1 .0) (c .before .before .before .before .add-best .last .1 .1 .1 .1 .1 .1 .1 .1 .1 .0) (c .before .before .before .before .before .before .before .before .before .before .before .before .before .before .before .work .kept .1 .1 .1 .1 .1 .1 .1 .1 .1 .0) (c .before .before .before .before .add-best .kept .1 .1 .1 .1 .1 .1 .1 .1 .0) (c .before .before .before .before .add-best .ensures .1 .1) (c .before .before .before .before .before .before .before .before .before .before .before .before .before .before .before .work .ensures .1 .0 (going-case k (c .before .before .before .before .before .before .before .before .before .before .before .before .before .before .before .before .before .before .before .before .before .before .before .before .before .before .before .before .before .before .before .before .before .before .args .heavy) (c .before .before .before .before .before .before .before .before .before .before .before .before .before .before .before .before .before .before .before .before .before .before .before .before .before .before .before .before .before .before .before .before .before .before .args .first) (c .before .before .before .before .before .before .before .before .before .before .before .before .before .before .before .before .before .before .before .before .before .before .before .before .before .before .before .before .before .before .before .before .before .before .args .table .now) (c .before .before .before .before .before .before .before .before .before .before .before .before .before .before .before .before .before .before .before .before .before .before .before .before .before .before .before .before .before .before .before .before .before .before .args .out .now) h (c .before .before .before .before .before .before .before .before .before .before .before .before .before .before .before .before .before .before .before .before .before .before .before .before .before .loop .inv .5 k h) (omega (arith, c .before .before .before .before .before .before .before .before .before .before .before .before .before .before .before .before .before .before .before .before .before .before .before .before .loop-test .taken, c .before .before .before .before .before .before .before .before .before .before .before .before .before .before .before .before .before .before .before .before .before .before .before .before .before .before .before .before .wide .ensures .0)) _ (c .before .before .before .before .before .before .before .before .before .before .before .before .before .before .before .before .before .before .before .before .passed .ensures) (c .before .before .before .before .before .before .before .before .before .before .before .before .before .before .before .before .before .before .before .if1 .left))) (c .before .before .before .before .add-best .ensures .1 .0 (k .register) (k .read)) (c .before .before .before .before .add-best .ensures .0 (k .register) (k .read)))
+    (c .before .before .before .before .add-best .kept .1 .1 .1 .1 .1 .1 .1 .1 .1 .0 ∙ c .before .before .before .before .before .before .before .before .before .before .before .before .before .before .before .before .before .before .before .before .before .before .before .before .before .loop .inv .0, c .before .before .before .before .before .before .before .before .before .before .before .before .before .before .before .work .kept .1 .1 .1 .1 .1 .1 .1 .1 .1 .1 .0 ∙ c .before .before .before .before .before .before .before .before .before .before .before .before .before .before .before .before .before .before .before .before .before .before .before .before .before .loop .inv .1, c .before .before .before .before .add-best .kept .1 .1 .1 .1 .1 .1 .1 .1 .0 ∙ c .before .before .before .before .before .before .before .before .before .before .before .before .before .before .before .work .kept .1 .1 .1 .1 .1 .1 .1 .1 .1 .0 ∙ c .before .before .before .before .before .before .before .before .before .before .before .before .before .before .before .before .before .before .before .before .before .before .before .before .before .loop .inv .2, length-front (c .before .before .before .before .before .before .before .before .before .before .before .before .before .before .before .before .before .before .before .before .before .before .before .before .before .loop .room) (c .before .before .before .before .before .before .before .before .before .before .before .before .before .before .before .work .last .1 .1 .1 .1 .1 .1 .1 .1 .1 .1 .1 .0) (c .before .before .before .before .before .before .before .before .before .before .before .before .before .before .before .before .before .before .before .before .before .before .before .before .before .before .before .before .before .before .before .before .before .before .args .items) (c .before .before .before .before .before .before .before .before .before .before .before .before .before .before .before .work .kept .1 .1 .1 .1 .1 .1 .1 .1 .1 .1 .1 .0) ∙ c .before .before .before .before .before .before .before .before .before .before .before .before .before .before .before .before .before .before .before .before .before .before .before .before .before .loop .inv .3, omega arith, λ k h. going-next k (c .before .before .before .before .before .before .before .before .before .before .before .before .before .before .before .before .before .before .before .before .before .before .before .before .before .before .before .before .before .before .before .before .before .before .args .heavy) (c .before .before .before .before .before .before .before .before .before .before .before .before .before .before .before .before .before .before .before .before .before .before .before .before .before .before .before .before .before .before .before .before .before .before .args .first) (c .before .before .before .before .before .before .before .before .before .before .before .before .before .before .before .before .before .before .before .before .before .before .before .before .before .before .before .before .before .before .before .before .before .before .args .table .now) (c .before .before .before .before .before .before .before .before .before .before .before .before .before .before .before .before .before .before .before .before .before .before .before .before .before .before .before .before .before .before .before .before .before .before .args .out .now) h (c .before .before .before .before .before .before .before .before .before .before .before .before .before .before .before .before .before .before .before .before .before .before .before .before .before .loop .inv .5 k h) (omega (arith, c .before .before .before .before .before .before .before .before .before .before .before .before .before .before .before .before .before .before .before .before .before .before .before .before .loop-test .taken, c .before .before .before .before .before .before .before .before .before .before .before .before .before .before .before .before .before .before .before .before .before .before .before .before .before .before .before .before .octet .ensures .0)) _ (c .before .before .before .before .before .before .before .before .before .before .before .before .before .before .before .before .before .before .before .before .passed .ensures) (c .before .before .before .before .before .before .before .before .before .before .before .before .before .before .before .before .before .before .before .if1 .left) (bytes-known (c .before .before .before .before .before .before .before .before .before .before .before .before .before .before .before .before .before .before .before .before .before .before .before .before .before .before .before .before .before .before .before .before .before .before .args .s .now) (c .before .before .before .before .before .before .before .before .before .before .before .before .before .before .before .before .before .before .before .before .before .before .before .before .before .before .before .before .before .before .before .before .before .shared-slice-known .given)) _ _ (c .before .before .before .before .before .before .before .before .before .before .before .before .before .before .before .work .last .1 .1 .1 .1 .1 .1 .1 .1 .1 .1 .0) (c .before .before .before .before .before .before .before .before .before .before .before .before .before .before .before .work .last .1 .1 .1 .1 .1 .1 .1 .1 .1 .0) (c .before .before .before .before .before .before .before .before .before .before .before .before .before .before .before .work .ensures .0 (going-case k (c .before .before .before .before .before .before .before .before .before .before .before .before .before .before .before .before .before .before .before .before .before .before .before .before .before .before .before .before .before .before .before .before .before .before .args .heavy) (c .before .before .before .before .before .before .before .before .before .before .before .before .before .before .before .before .before .before .before .before .before .before .before .before .before .before .before .before .before .before .before .before .before .before .args .first) (c .before .before .before .before .before .before .before .before .before .before .before .before .before .before .before .before .before .before .before .before .before .before .before .before .before .before .before .before .before .before .before .before .before .before .args .table .now) (c .before .before .before .before .before .before .before .before .before .before .before .before .before .before .before .before .before .before .before .before .before .before .before .before .before .before .before .before .before .before .before .before .before .before .args .out .now) h (c .before .before .before .before .before .before .before .before .before .before .before .before .before .before .before .before .before .before .before .before .before .before .before .before .before .loop .inv .5 k h) (omega (arith, c .before .before .before .before .before .before .before .before .before .before .before .before .before .before .before .before .before .before .before .before .before .before .before .before .loop-test .taken, c .before .before .before .before .before .before .before .before .before .before .before .before .before .before .before .before .before .before .before .before .before .before .before .before .before .before .before .before .octet .ensures .0)) _ (c .before .before .before .before .before .before .before .before .before .before .before .before .before .before .before .before .before .before .before .before .passed .ensures) (c .before .before .before .before .before .before .before .before .before .before .before .before .before .before .before .before .before .before .before .if1 .left))) (c .before .before .before .before .before .before .before .before .octet3 .ensures .0) (c .before .before .before .before .before .before .before .before .before .before .before .before .before .before .before .work .ensures .1 .1) _ (c .before .before .before .before .before .before .before .before .before .before .before .before .before .before .before .before .before .before .before .before .before .before .octet2 .ensures .0) (c .before .before .before .before .add-best .last .1 .1 .1 .1 .1 .1 .1 .1 .0) (c .before .before .before .before .add-best .last .1 .1 .1 .1 .1 .1 .1 .1 .1 .0) (c .before .before .before .before .before .before .before .before .before .before .before .before .before .before .before .work .kept .1 .1 .1 .1 .1 .1 .1 .1 .1 .0) (c .before .before .before .before .add-best .kept .1 .1 .1 .1 .1 .1 .1 .1 .0) (c .before .before .before .before .add-best .ensures .1 .1) (c .before .before .before .before .before .before .before .before .before .before .before .before .before .before .before .work .ensures .1 .0 (going-case k (c .before .before .before .before .before .before .before .before .before .before .before .before .before .before .before .before .before .before .before .before .before .before .before .before .before .before .before .before .before .before .before .before .before .before .args .heavy) (c .before .before .before .before .before .before .before .before .before .before .before .before .before .before .before .before .before .before .before .before .before .before .before .before .before .before .before .before .before .before .before .before .before .before .args .first) (c .before .before .before .before .before .before .before .before .before .before .before .before .before .before .before .before .before .before .before .before .before .before .before .before .before .before .before .before .before .before .before .before .before .before .args .table .now) (c .before .before .before .before .before .before .before .before .before .before .before .before .before .before .before .before .before .before .before .before .before .before .before .before .before .before .before .before .before .before .before .before .before .before .args .out .now) h (c .before .before .before .before .before .before .before .before .before .before .before .before .before .before .before .before .before .before .before .before .before .before .before .before .before .loop .inv .5 k h) (omega (arith, c .before .before .before .before .before .before .before .before .before .before .before .before .before .before .before .before .before .before .before .before .before .before .before .before .loop-test .taken, c .before .before .before .before .before .before .before .before .before .before .before .before .before .before .before .before .before .before .before .before .before .before .before .before .before .before .before .before .octet .ensures .0)) _ (c .before .before .before .before .before .before .before .before .before .before .before .before .before .before .before .before .before .before .before .before .passed .ensures) (c .before .before .before .before .before .before .before .before .before .before .before .before .before .before .before .before .before .before .before .if1 .left))) (c .before .before .before .before .add-best .ensures .1 .0 (k .register) (k .read)) (c .before .before .before .before .add-best .ensures .0 (k .register) (k .read)))
 
 others-mul-result : (t : ℕ) → others-lts.Need-mul-result (
-  wide-reads.Asked,
-  wide-reads.Learnt,
-  broad-reads.Asked,
-  broad-reads.Learnt,
+  octet-reads.Asked,
+  octet-reads.Learnt,
+  quad-reads.Asked,
+  quad-reads.Learnt,
   passed-reads.Asked,
   passed-reads.Learnt,
   work-below t,
@@ -440,13 +440,13 @@ others-mul-result : (t : ℕ) → others-lts.Need-mul-result (
   add-best-reads.Learnt,
 ) (others-at t) others.Post others-Inv-loop others-μ-loop
 others-mul-result t c =
-    omega (arith, going-fits-all (c .before .before .before .before .before .before .before .before .before .before .pre .1 .0) (c .before .before .before .before .before .before .before .before .before .before .args .heavy) (c .before .before .before .before .before .before .before .before .before .before .args .first) (c .before .before .before .before .before .before .before .before .before .before .args .table .now) (c .before .before .before .before .before .before .before .before .before .before .args .out .now) (c .before .before .before .before .before .before .before .before .before .before .pre .1 .1 .1 (c .before .before .before .before .before .before .before .before .before .before .pre .1 .0)) (c .before .loop .inv .5 (c .before .before .before .before .before .before .before .before .before .before .pre .1 .0) (c .before .before .before .before .before .before .before .before .before .before .pre .1 .1 .1 (c .before .before .before .before .before .before .before .before .before .before .pre .1 .0))) (omega (arith, c .loop-test .left, c .before .before .before .before .wide .ensures .0)))
+    omega (arith, going-fits-all (c .before .before .before .before .before .before .before .before .before .before .pre .1 .0) (c .before .before .before .before .before .before .before .before .before .before .args .heavy) (c .before .before .before .before .before .before .before .before .before .before .args .first) (c .before .before .before .before .before .before .before .before .before .before .args .table .now) (c .before .before .before .before .before .before .before .before .before .before .args .out .now) (c .before .before .before .before .before .before .before .before .before .before .pre .1 .1 .1 (c .before .before .before .before .before .before .before .before .before .before .pre .1 .0)) (c .before .loop .inv .5 (c .before .before .before .before .before .before .before .before .before .before .pre .1 .0) (c .before .before .before .before .before .before .before .before .before .before .pre .1 .1 .1 (c .before .before .before .before .before .before .before .before .before .before .pre .1 .0))) (omega (arith, c .loop-test .left, c .before .before .before .before .octet .ensures .0)))
 
 others-same-length : (t : ℕ) → others-lts.Need-same-length (
-  wide-reads.Asked,
-  wide-reads.Learnt,
-  broad-reads.Asked,
-  broad-reads.Learnt,
+  octet-reads.Asked,
+  octet-reads.Learnt,
+  quad-reads.Asked,
+  quad-reads.Learnt,
   passed-reads.Asked,
   passed-reads.Learnt,
   work-below t,
@@ -457,10 +457,10 @@ others-same-length : (t : ℕ) → others-lts.Need-same-length (
 others-same-length t c = search needs
 
 others-same-length-2 : (t : ℕ) → others-lts.Need-same-length-2 (
-  wide-reads.Asked,
-  wide-reads.Learnt,
-  broad-reads.Asked,
-  broad-reads.Learnt,
+  octet-reads.Asked,
+  octet-reads.Learnt,
+  quad-reads.Asked,
+  quad-reads.Learnt,
   passed-reads.Asked,
   passed-reads.Learnt,
   work-below t,
@@ -471,10 +471,10 @@ others-same-length-2 : (t : ℕ) → others-lts.Need-same-length-2 (
 others-same-length-2 t c = search needs
 
 others-same-length-3 : (t : ℕ) → others-lts.Need-same-length-3 (
-  wide-reads.Asked,
-  wide-reads.Learnt,
-  broad-reads.Asked,
-  broad-reads.Learnt,
+  octet-reads.Asked,
+  octet-reads.Learnt,
+  quad-reads.Asked,
+  quad-reads.Learnt,
   passed-reads.Asked,
   passed-reads.Learnt,
   work-below t,
@@ -485,10 +485,10 @@ others-same-length-3 : (t : ℕ) → others-lts.Need-same-length-3 (
 others-same-length-3 t c = search needs
 
 others-returns : (t : ℕ) → others-lts.Need-returns (
-  wide-reads.Asked,
-  wide-reads.Learnt,
-  broad-reads.Asked,
-  broad-reads.Learnt,
+  octet-reads.Asked,
+  octet-reads.Learnt,
+  quad-reads.Asked,
+  quad-reads.Learnt,
   passed-reads.Asked,
   passed-reads.Learnt,
   work-below t,
@@ -497,13 +497,13 @@ others-returns : (t : ℕ) → others-lts.Need-returns (
   add-best-reads.Learnt,
 ) (others-at t) others.Post others-Inv-loop others-μ-loop
 others-returns t c =
-    (λ k. going-worked k (c .before .before .before .before .before .before .before .before .before .before .args .heavy) (c .before .before .before .before .before .before .before .before .before .before .args .first) (c .before .before .before .before .before .before .before .before .before .before .args .table .now) (c .before .before .before .before .before .before .before .before .before .before .args .out .now) (c .before .before .before .before .before .before .before .before .before .before .pre .1 .1 .1 k) (c .before .loop .inv .5 k (c .before .before .before .before .before .before .before .before .before .before .pre .1 .1 .1 k)) (omega (arith, c .loop-test .left, c .before .before .before .before .wide .ensures .0)) (λ z. let y : _ ≡ 0 = z in omega (arith, c .before .loop .inv .4)), (λ k. going-noted k (c .before .before .before .before .before .before .before .before .before .before .args .heavy) (c .before .before .before .before .before .before .before .before .before .before .args .first) (c .before .before .before .before .before .before .before .before .before .before .args .table .now) (c .before .before .before .before .before .before .before .before .before .before .args .out .now) (c .before .before .before .before .before .before .before .before .before .before .pre .1 .1 .1 k) (c .before .loop .inv .5 k (c .before .before .before .before .before .before .before .before .before .before .pre .1 .1 .1 k)) (omega (arith, c .loop-test .left, c .before .before .before .before .wide .ensures .0)), (c .before .loop .inv .5 (c .before .before .before .before .before .before .before .before .before .before .pre .1 .0) (c .before .before .before .before .before .before .before .before .before .before .pre .1 .1 .1 (c .before .before .before .before .before .before .before .before .before .before .pre .1 .0))) .notes .outside))
+    (λ k. going-worked k (c .before .before .before .before .before .before .before .before .before .before .args .heavy) (c .before .before .before .before .before .before .before .before .before .before .args .first) (c .before .before .before .before .before .before .before .before .before .before .args .table .now) (c .before .before .before .before .before .before .before .before .before .before .args .out .now) (c .before .before .before .before .before .before .before .before .before .before .pre .1 .1 .1 k) (c .before .loop .inv .5 k (c .before .before .before .before .before .before .before .before .before .before .pre .1 .1 .1 k)) (omega (arith, c .loop-test .left, c .before .before .before .before .octet .ensures .0)) (λ z. let y : _ ≡ 0 = z in omega (arith, c .before .loop .inv .4)), (λ k. going-noted k (c .before .before .before .before .before .before .before .before .before .before .args .heavy) (c .before .before .before .before .before .before .before .before .before .before .args .first) (c .before .before .before .before .before .before .before .before .before .before .args .table .now) (c .before .before .before .before .before .before .before .before .before .before .args .out .now) (c .before .before .before .before .before .before .before .before .before .before .pre .1 .1 .1 k) (c .before .loop .inv .5 k (c .before .before .before .before .before .before .before .before .before .before .pre .1 .1 .1 k)) (omega (arith, c .loop-test .left, c .before .before .before .before .octet .ensures .0)), (c .before .loop .inv .5 (c .before .before .before .before .before .before .before .before .before .before .pre .1 .0) (c .before .before .before .before .before .before .before .before .before .before .pre .1 .1 .1 (c .before .before .before .before .before .before .before .before .before .before .pre .1 .0))) .notes .outside))
 
 work-heaviest-requires : (t : ℕ) → work-lts.Need-heaviest-requires (
   heaviest-reads.Asked,
   heaviest-reads.Learnt,
-  wide-reads.Asked,
-  wide-reads.Learnt,
+  octet-reads.Asked,
+  octet-reads.Learnt,
   alone-reads.Asked,
   alone-reads.Learnt,
   work-below t,
@@ -518,11 +518,11 @@ work-heaviest-requires : (t : ℕ) → work-lts.Need-heaviest-requires (
 work-heaviest-requires t c κs =
     written (c .before .before .before .before .pre .1 .0)
 
-work-element-copy-out-wide : (t : ℕ) → work-lts.Need-element-copy-out-wide (
+work-element-copy-out-octet : (t : ℕ) → work-lts.Need-element-copy-out-octet (
   heaviest-reads.Asked,
   heaviest-reads.Learnt,
-  wide-reads.Asked,
-  wide-reads.Learnt,
+  octet-reads.Asked,
+  octet-reads.Learnt,
   alone-reads.Asked,
   alone-reads.Learnt,
   work-below t,
@@ -534,14 +534,14 @@ work-element-copy-out-wide : (t : ℕ) → work-lts.Need-element-copy-out-wide (
   others-below t,
   others.Post,
 ) (work-at t) work.Post
-work-element-copy-out-wide t c =
+work-element-copy-out-octet t c =
     omega (arith, here (c .before .before .before .before .before .pre .1 .0) .1)
 
-work-wide-requires : (t : ℕ) → work-lts.Need-wide-requires (
+work-octet-requires : (t : ℕ) → work-lts.Need-octet-requires (
   heaviest-reads.Asked,
   heaviest-reads.Learnt,
-  wide-reads.Asked,
-  wide-reads.Learnt,
+  octet-reads.Asked,
+  octet-reads.Learnt,
   alone-reads.Asked,
   alone-reads.Learnt,
   work-below t,
@@ -553,13 +553,13 @@ work-wide-requires : (t : ℕ) → work-lts.Need-wide-requires (
   others-below t,
   others.Post,
 ) (work-at t) work.Post
-work-wide-requires t c κs = search needs
+work-octet-requires t c κs = search needs
 
 work-mul-alone : (t : ℕ) → work-lts.Need-mul-alone (
   heaviest-reads.Asked,
   heaviest-reads.Learnt,
-  wide-reads.Asked,
-  wide-reads.Learnt,
+  octet-reads.Asked,
+  octet-reads.Learnt,
   alone-reads.Asked,
   alone-reads.Learnt,
   work-below t,
@@ -577,8 +577,8 @@ work-mul-alone t c =
 work-element-copy-out-alone : (t : ℕ) → work-lts.Need-element-copy-out-alone (
   heaviest-reads.Asked,
   heaviest-reads.Learnt,
-  wide-reads.Asked,
-  wide-reads.Learnt,
+  octet-reads.Asked,
+  octet-reads.Learnt,
   alone-reads.Asked,
   alone-reads.Learnt,
   work-below t,
@@ -596,8 +596,8 @@ work-element-copy-out-alone t c =
 work-alone-requires : (t : ℕ) → work-lts.Need-alone-requires (
   heaviest-reads.Asked,
   heaviest-reads.Learnt,
-  wide-reads.Asked,
-  wide-reads.Learnt,
+  octet-reads.Asked,
+  octet-reads.Learnt,
   alone-reads.Asked,
   alone-reads.Learnt,
   work-below t,
@@ -615,8 +615,8 @@ work-alone-requires t c κs =
 work-same-length : (t : ℕ) → work-lts.Need-same-length (
   heaviest-reads.Asked,
   heaviest-reads.Learnt,
-  wide-reads.Asked,
-  wide-reads.Learnt,
+  octet-reads.Asked,
+  octet-reads.Learnt,
   alone-reads.Asked,
   alone-reads.Learnt,
   work-below t,
@@ -633,8 +633,8 @@ work-same-length t c = search needs
 work-returns : (t : ℕ) → work-lts.Need-returns (
   heaviest-reads.Asked,
   heaviest-reads.Learnt,
-  wide-reads.Asked,
-  wide-reads.Learnt,
+  octet-reads.Asked,
+  octet-reads.Learnt,
   alone-reads.Asked,
   alone-reads.Learnt,
   work-below t,
@@ -647,13 +647,13 @@ work-returns : (t : ℕ) → work-lts.Need-returns (
   others.Post,
 ) (work-at t) work.Post
 work-returns t c =
-    (λ k. alone-worked k (subst (λ (z : ℕ). Heavy (c .before .before .before .before .before .before .before .before .before .before .before .before .before .args .ends .now) (c .before .before .before .before .before .before .before .before .before .before .before .before .before .args .marks .now) (k .tree) (c .before .before .before .before .before .before .before .before .before .before .before .before .before .args .node) z) (c .before .before .before .before .before .if1 .taken ∙ c .before .before .before .before .before .before .wide .ensures .0) (c .before .before .before .before .before .before .before .before .heaviest .ensures (written k))) _ _ (c .before .before .alone .ensures .0) (c .before .before .alone .ensures .1 (k .register) (k .read)), (λ k. alone-noted k (subst (λ (z : ℕ). Heavy (c .before .before .before .before .before .before .before .before .before .before .before .before .before .args .ends .now) (c .before .before .before .before .before .before .before .before .before .before .before .before .before .args .marks .now) (k .tree) (c .before .before .before .before .before .before .before .before .before .before .before .before .before .args .node) z) (c .before .before .before .before .before .if1 .taken ∙ c .before .before .before .before .before .before .wide .ensures .0) (c .before .before .before .before .before .before .before .before .heaviest .ensures (written k))) _, λ j l w. refl))
+    (λ k. alone-worked k (subst (λ (z : ℕ). Heavy (c .before .before .before .before .before .before .before .before .before .before .before .before .before .args .ends .now) (c .before .before .before .before .before .before .before .before .before .before .before .before .before .args .marks .now) (k .tree) (c .before .before .before .before .before .before .before .before .before .before .before .before .before .args .node) z) (c .before .before .before .before .before .if1 .taken ∙ c .before .before .before .before .before .before .octet .ensures .0) (c .before .before .before .before .before .before .before .before .heaviest .ensures (written k))) _ _ (c .before .before .alone .ensures .0) (c .before .before .alone .ensures .1 (k .register) (k .read)), (λ k. alone-noted k (subst (λ (z : ℕ). Heavy (c .before .before .before .before .before .before .before .before .before .before .before .before .before .args .ends .now) (c .before .before .before .before .before .before .before .before .before .before .before .before .before .args .marks .now) (k .tree) (c .before .before .before .before .before .before .before .before .before .before .before .before .before .args .node) z) (c .before .before .before .before .before .if1 .taken ∙ c .before .before .before .before .before .before .octet .ensures .0) (c .before .before .before .before .before .before .before .before .heaviest .ensures (written k))) _, λ j l w. refl))
 
 work-sub-work : (t : ℕ) → work-lts.Need-sub-work (
   heaviest-reads.Asked,
   heaviest-reads.Learnt,
-  wide-reads.Asked,
-  wide-reads.Learnt,
+  octet-reads.Asked,
+  octet-reads.Learnt,
   alone-reads.Asked,
   alone-reads.Learnt,
   work-below t,
@@ -671,8 +671,8 @@ work-sub-work t c =
 work-work-requires : (t : ℕ) → work-lts.Need-work-requires (
   heaviest-reads.Asked,
   heaviest-reads.Learnt,
-  wide-reads.Asked,
-  wide-reads.Learnt,
+  octet-reads.Asked,
+  octet-reads.Learnt,
   alone-reads.Asked,
   alone-reads.Learnt,
   work-below t,
@@ -685,13 +685,13 @@ work-work-requires : (t : ℕ) → work-lts.Need-work-requires (
   others.Post,
 ) (work-at t) work.Post
 work-work-requires t c κs =
-    (omega (arith, here (c .before .before .before .before .before .before .before .before .before .before .before .pre .1 .0) .0, c .before .before .before .before .before .before .before .before .before .before .before .pre .0), (heavy-case (c .before .before .before .before .before .before .before .before .before .before .before .pre .1 .0) (c .before .before .before .before .before .before .heaviest .result) (c .before .before .before .before .before .before .heaviest .ensures (written (c .before .before .before .before .before .before .before .before .before .before .before .pre .1 .0))) (λ z. c .before .before .before .if1 .left (z ∙ sym (c .before .before .before .before .wide .ensures .0))), (c .before .before .before .before .before .before .before .before .before .before .before .pre .1 .1 .1, c .before .before .before .before .before .before .before .before .before .before .before .pre .1 .1 .0, c .before .before .before .before .before .before .before .before .before .before .before .pre .1 .1 .2, heavy-clear (c .before .before .before .before .before .before .before .before .before .before .before .pre .1 .0) (c .before .before .before .before .before .before .heaviest .result) (c .before .before .before .before .before .before .heaviest .ensures (written (c .before .before .before .before .before .before .before .before .before .before .before .pre .1 .0))) (λ z. c .before .before .before .if1 .left (z ∙ sym (c .before .before .before .before .wide .ensures .0))) (c .before .before .before .before .before .before .before .before .before .before .before .args .table .now) (c .before .before .before .before .before .before .before .before .before .before .before .pre .1 .1 .3))))
+    (omega (arith, here (c .before .before .before .before .before .before .before .before .before .before .before .pre .1 .0) .0, c .before .before .before .before .before .before .before .before .before .before .before .pre .0), (heavy-case (c .before .before .before .before .before .before .before .before .before .before .before .pre .1 .0) (c .before .before .before .before .before .before .heaviest .result) (c .before .before .before .before .before .before .heaviest .ensures (written (c .before .before .before .before .before .before .before .before .before .before .before .pre .1 .0))) (λ z. c .before .before .before .if1 .left (z ∙ sym (c .before .before .before .before .octet .ensures .0))), (c .before .before .before .before .before .before .before .before .before .before .before .pre .1 .1 .1, c .before .before .before .before .before .before .before .before .before .before .before .pre .1 .1 .0, c .before .before .before .before .before .before .before .before .before .before .before .pre .1 .1 .2, heavy-clear (c .before .before .before .before .before .before .before .before .before .before .before .pre .1 .0) (c .before .before .before .before .before .before .heaviest .result) (c .before .before .before .before .before .before .heaviest .ensures (written (c .before .before .before .before .before .before .before .before .before .before .before .pre .1 .0))) (λ z. c .before .before .before .if1 .left (z ∙ sym (c .before .before .before .before .octet .ensures .0))) (c .before .before .before .before .before .before .before .before .before .before .before .args .table .now) (c .before .before .before .before .before .before .before .before .before .before .before .pre .1 .1 .3))))
 
 work-mul-own : (t : ℕ) → work-lts.Need-mul-own (
   heaviest-reads.Asked,
   heaviest-reads.Learnt,
-  wide-reads.Asked,
-  wide-reads.Learnt,
+  octet-reads.Asked,
+  octet-reads.Learnt,
   alone-reads.Asked,
   alone-reads.Learnt,
   work-below t,
@@ -709,8 +709,8 @@ work-mul-own t c =
 work-element-copy-out-own : (t : ℕ) → work-lts.Need-element-copy-out-own (
   heaviest-reads.Asked,
   heaviest-reads.Learnt,
-  wide-reads.Asked,
-  wide-reads.Learnt,
+  octet-reads.Asked,
+  octet-reads.Learnt,
   alone-reads.Asked,
   alone-reads.Learnt,
   work-below t,
@@ -728,8 +728,8 @@ work-element-copy-out-own t c =
 work-own-requires : (t : ℕ) → work-lts.Need-own-requires (
   heaviest-reads.Asked,
   heaviest-reads.Learnt,
-  wide-reads.Asked,
-  wide-reads.Learnt,
+  octet-reads.Asked,
+  octet-reads.Learnt,
   alone-reads.Asked,
   alone-reads.Learnt,
   work-below t,
@@ -744,11 +744,11 @@ work-own-requires : (t : ℕ) → work-lts.Need-own-requires (
 work-own-requires t c κs =
     record { register = (c .before .before .before .before .before .before .before .before .before .before .before .before .before .before .before .before .before .before .before .before .pre .1 .0) .register; read = (c .before .before .before .before .before .before .before .before .before .before .before .before .before .before .before .before .before .before .before .before .pre .1 .0) .read; holds = c .before .before .before .before .before .before .before .before .work .kept .1 .1 .1 .1 .1 .1 .1 .1 .1 .1 .1 .0 ∙ c .before .before .before .before .before .before .before .before .before .before .before .before .before .before .before .before .before .before .before .before .pre .1 .1 .0 ∙ (c .before .before .before .before .before .before .before .before .before .before .before .before .before .before .before .before .before .before .before .before .pre .1 .0) .items-are }
 
-work-element-copy-out-wide-2 : (t : ℕ) → work-lts.Need-element-copy-out-wide-2 (
+work-element-copy-out-octet-2 : (t : ℕ) → work-lts.Need-element-copy-out-octet-2 (
   heaviest-reads.Asked,
   heaviest-reads.Learnt,
-  wide-reads.Asked,
-  wide-reads.Learnt,
+  octet-reads.Asked,
+  octet-reads.Learnt,
   alone-reads.Asked,
   alone-reads.Learnt,
   work-below t,
@@ -760,14 +760,14 @@ work-element-copy-out-wide-2 : (t : ℕ) → work-lts.Need-element-copy-out-wide
   others-below t,
   others.Post,
 ) (work-at t) work.Post
-work-element-copy-out-wide-2 t c =
-    omega (arith, heavy-inside (c .before .before .before .before .before .before .before .before .before .before .before .before .before .before .before .before .before .before .before .before .before .before .before .pre .1 .0) (c .before .before .before .before .before .before .before .before .before .before .before .before .before .before .before .before .before .before .heaviest .result) (c .before .before .before .before .before .before .before .before .before .before .before .before .before .before .before .before .before .before .heaviest .ensures (written (c .before .before .before .before .before .before .before .before .before .before .before .before .before .before .before .before .before .before .before .before .before .before .before .pre .1 .0))) (λ z. c .before .before .before .before .before .before .before .before .before .before .before .before .before .before .before .if1 .left (z ∙ sym (c .before .before .before .before .before .before .before .before .before .before .before .before .before .before .before .before .wide .ensures .0))) .1, heavy-inside (c .before .before .before .before .before .before .before .before .before .before .before .before .before .before .before .before .before .before .before .before .before .before .before .pre .1 .0) (c .before .before .before .before .before .before .before .before .before .before .before .before .before .before .before .before .before .before .heaviest .result) (c .before .before .before .before .before .before .before .before .before .before .before .before .before .before .before .before .before .before .heaviest .ensures (written (c .before .before .before .before .before .before .before .before .before .before .before .before .before .before .before .before .before .before .before .before .before .before .before .pre .1 .0))) (λ z. c .before .before .before .before .before .before .before .before .before .before .before .before .before .before .before .if1 .left (z ∙ sym (c .before .before .before .before .before .before .before .before .before .before .before .before .before .before .before .before .wide .ensures .0))) .2, (c .before .before .before .before .before .before .before .before .before .before .before .before .before .before .before .before .before .before .before .before .before .before .before .pre .1 .0) .few)
+work-element-copy-out-octet-2 t c =
+    omega (arith, heavy-inside (c .before .before .before .before .before .before .before .before .before .before .before .before .before .before .before .before .before .before .before .before .before .before .before .pre .1 .0) (c .before .before .before .before .before .before .before .before .before .before .before .before .before .before .before .before .before .before .heaviest .result) (c .before .before .before .before .before .before .before .before .before .before .before .before .before .before .before .before .before .before .heaviest .ensures (written (c .before .before .before .before .before .before .before .before .before .before .before .before .before .before .before .before .before .before .before .before .before .before .before .pre .1 .0))) (λ z. c .before .before .before .before .before .before .before .before .before .before .before .before .before .before .before .if1 .left (z ∙ sym (c .before .before .before .before .before .before .before .before .before .before .before .before .before .before .before .before .octet .ensures .0))) .1, heavy-inside (c .before .before .before .before .before .before .before .before .before .before .before .before .before .before .before .before .before .before .before .before .before .before .before .pre .1 .0) (c .before .before .before .before .before .before .before .before .before .before .before .before .before .before .before .before .before .before .heaviest .result) (c .before .before .before .before .before .before .before .before .before .before .before .before .before .before .before .before .before .before .heaviest .ensures (written (c .before .before .before .before .before .before .before .before .before .before .before .before .before .before .before .before .before .before .before .before .before .before .before .pre .1 .0))) (λ z. c .before .before .before .before .before .before .before .before .before .before .before .before .before .before .before .if1 .left (z ∙ sym (c .before .before .before .before .before .before .before .before .before .before .before .before .before .before .before .before .octet .ensures .0))) .2, (c .before .before .before .before .before .before .before .before .before .before .before .before .before .before .before .before .before .before .before .before .before .before .before .pre .1 .0) .few)
 
-work-wide-requires-2 : (t : ℕ) → work-lts.Need-wide-requires-2 (
+work-octet-requires-2 : (t : ℕ) → work-lts.Need-octet-requires-2 (
   heaviest-reads.Asked,
   heaviest-reads.Learnt,
-  wide-reads.Asked,
-  wide-reads.Learnt,
+  octet-reads.Asked,
+  octet-reads.Learnt,
   alone-reads.Asked,
   alone-reads.Learnt,
   work-below t,
@@ -779,13 +779,13 @@ work-wide-requires-2 : (t : ℕ) → work-lts.Need-wide-requires-2 (
   others-below t,
   others.Post,
 ) (work-at t) work.Post
-work-wide-requires-2 t c κs = search needs
+work-octet-requires-2 t c κs = search needs
 
 work-add-best-requires : (t : ℕ) → work-lts.Need-add-best-requires (
   heaviest-reads.Asked,
   heaviest-reads.Learnt,
-  wide-reads.Asked,
-  wide-reads.Learnt,
+  octet-reads.Asked,
+  octet-reads.Learnt,
   alone-reads.Asked,
   alone-reads.Learnt,
   work-below t,
@@ -798,13 +798,13 @@ work-add-best-requires : (t : ℕ) → work-lts.Need-add-best-requires (
   others.Post,
 ) (work-at t) work.Post
 work-add-best-requires t c κs =
-    (record { register = (c .before .before .before .before .before .before .before .before .before .before .before .before .before .before .before .before .before .before .before .before .before .before .before .before .before .before .before .before .pre .1 .0) .register; read = (c .before .before .before .before .before .before .before .before .before .before .before .before .before .before .before .before .before .before .before .before .before .before .before .before .before .before .before .before .pre .1 .0) .read; holds = ((c .before .before .before .before .before .before .before .before .before .before .before .before .before .before .before .before .before .before .before .before .before .before .before .before .before .before .before .before .pre .1 .0) .items-are, (c .before .before .before .before .before .before .before .before .before .before .before .before .before .before .before .before .before .before .before .before .before .before .before .before .before .before .before .before .pre .1 .0) .links-are, heavy-fits (c .before .before .before .before .before .before .before .before .before .before .before .before .before .before .before .before .before .before .before .before .before .before .before .before .before .before .before .before .pre .1 .0) (c .before .before .before .before .before .before .before .before .before .before .before .before .before .before .before .before .before .before .before .before .before .before .before .heaviest .result) (c .before .before .before .before .before .before .before .before .before .before .before .before .before .before .before .before .before .before .before .before .before .before .before .heaviest .ensures (written (c .before .before .before .before .before .before .before .before .before .before .before .before .before .before .before .before .before .before .before .before .before .before .before .before .before .before .before .before .pre .1 .0))) (λ z. c .before .before .before .before .before .before .before .before .before .before .before .before .before .before .before .before .before .before .before .before .if1 .left (z ∙ sym (c .before .before .before .before .before .before .before .before .before .before .before .before .before .before .before .before .before .before .before .before .before .wide .ensures .0))) (bytes-known (c .before .before .before .before .before .before .before .before .before .before .before .before .before .before .before .before .before .before .before .before .before .before .before .before .before .before .before .before .args .s .now) (c .before .before .before .before .before .before .before .before .before .before .before .before .before .before .before .before .before .before .before .before .before .before .before .before .before .before .before .shared-slice-known .given)) _ _ (c .before .before .before .before .before .before .before .before .before .before .before .before .before .before .before .before .work .last .1 .1 .1 .1 .1 .1 .1 .1 .1 .1 .0) (c .before .before .before .before .before .before .before .before .before .before .before .before .before .before .before .before .work .ensures .0 (heavy-case (c .before .before .before .before .before .before .before .before .before .before .before .before .before .before .before .before .before .before .before .before .before .before .before .before .before .before .before .before .pre .1 .0) (c .before .before .before .before .before .before .before .before .before .before .before .before .before .before .before .before .before .before .before .before .before .before .before .heaviest .result) (c .before .before .before .before .before .before .before .before .before .before .before .before .before .before .before .before .before .before .before .before .before .before .before .heaviest .ensures (written (c .before .before .before .before .before .before .before .before .before .before .before .before .before .before .before .before .before .before .before .before .before .before .before .before .before .before .before .before .pre .1 .0))) (λ z. c .before .before .before .before .before .before .before .before .before .before .before .before .before .before .before .before .before .before .before .before .if1 .left (z ∙ sym (c .before .before .before .before .before .before .before .before .before .before .before .before .before .before .before .before .before .before .before .before .before .wide .ensures .0))))) (c .before .before .before .wide2 .ensures .0) (c .before .before .before .before .before .before .before .own .last .1 .1 .0) (c .before .before .before .before .before .before .before .own .ensures ((c .before .before .before .before .before .before .before .before .before .before .before .before .before .before .before .before .before .before .before .before .before .before .before .before .before .before .before .before .pre .1 .0) .register) ((c .before .before .before .before .before .before .before .before .before .before .before .before .before .before .before .before .before .before .before .before .before .before .before .before .before .before .before .before .pre .1 .0) .read))) }, (((c .before .before .before .before .before .before .before .before .before .before .before .before .before .before .before .before .before .before .before .before .before .before .before .before .before .before .before .before .pre .1 .0) .most, c .before .before .before .before .before .before .before .before .before .before .before .before .before .before .before .before .work .kept .1 .1 .1 .1 .1 .1 .1 .1 .1 .1 .0 ∙ c .before .before .before .before .before .before .before .before .before .before .before .before .before .before .before .before .before .before .before .before .before .before .before .before .before .before .before .before .pre .1 .1 .1, c .before .before .before .before .before .before .before .own .kept .1 .1 .0 ∙ c .before .before .before .before .before .before .before .before .before .before .before .before .before .before .before .before .work .kept .1 .1 .1 .1 .1 .1 .1 .1 .1 .1 .1 .0 ∙ c .before .before .before .before .before .before .before .before .before .before .before .before .before .before .before .before .before .before .before .before .before .before .before .before .before .before .before .before .pre .1 .1 .0), (omega (arith, heavy-inside (c .before .before .before .before .before .before .before .before .before .before .before .before .before .before .before .before .before .before .before .before .before .before .before .before .before .before .before .before .pre .1 .0) (c .before .before .before .before .before .before .before .before .before .before .before .before .before .before .before .before .before .before .before .before .before .before .before .heaviest .result) (c .before .before .before .before .before .before .before .before .before .before .before .before .before .before .before .before .before .before .before .before .before .before .before .heaviest .ensures (written (c .before .before .before .before .before .before .before .before .before .before .before .before .before .before .before .before .before .before .before .before .before .before .before .before .before .before .before .before .pre .1 .0))) (λ z. c .before .before .before .before .before .before .before .before .before .before .before .before .before .before .before .before .before .before .before .before .if1 .left (z ∙ sym (c .before .before .before .before .before .before .before .before .before .before .before .before .before .before .before .before .before .before .before .before .before .wide .ensures .0))) .1, heavy-inside (c .before .before .before .before .before .before .before .before .before .before .before .before .before .before .before .before .before .before .before .before .before .before .before .before .before .before .before .before .pre .1 .0) (c .before .before .before .before .before .before .before .before .before .before .before .before .before .before .before .before .before .before .before .before .before .before .before .heaviest .result) (c .before .before .before .before .before .before .before .before .before .before .before .before .before .before .before .before .before .before .before .before .before .before .before .heaviest .ensures (written (c .before .before .before .before .before .before .before .before .before .before .before .before .before .before .before .before .before .before .before .before .before .before .before .before .before .before .before .before .pre .1 .0))) (λ z. c .before .before .before .before .before .before .before .before .before .before .before .before .before .before .before .before .before .before .before .before .if1 .left (z ∙ sym (c .before .before .before .before .before .before .before .before .before .before .before .before .before .before .before .before .before .before .before .before .before .wide .ensures .0))) .2, (c .before .before .before .before .before .before .before .before .before .before .before .before .before .before .before .before .before .before .before .before .before .before .before .before .before .before .before .before .pre .1 .0) .few), omega (arith, c .before .before .before .before .before .before .before .before .before .before .before .before .before .before .before .before .work .kept .1 .1 .1 .1 .1 .1 .1 .1 .1 .0, c .before .before .before .before .before .before .before .before .before .before .before .before .before .before .before .before .before .before .before .before .before .before .before .before .before .before .before .before .pre .1 .1 .2), heavy-empty (c .before .before .before .before .before .before .before .before .before .before .before .before .before .before .before .before .before .before .before .before .before .before .before .before .before .before .before .before .pre .1 .0) (c .before .before .before .before .before .before .before .before .before .before .before .before .before .before .before .before .before .before .before .before .before .before .before .heaviest .result) (c .before .before .before .before .before .before .before .before .before .before .before .before .before .before .before .before .before .before .before .before .before .before .before .heaviest .ensures (written (c .before .before .before .before .before .before .before .before .before .before .before .before .before .before .before .before .before .before .before .before .before .before .before .before .before .before .before .before .pre .1 .0))) (λ z. c .before .before .before .before .before .before .before .before .before .before .before .before .before .before .before .before .before .before .before .before .if1 .left (z ∙ sym (c .before .before .before .before .before .before .before .before .before .before .before .before .before .before .before .before .before .before .before .before .before .wide .ensures .0))) (bytes-known (c .before .before .before .before .before .before .before .before .before .before .before .before .before .before .before .before .before .before .before .before .before .before .before .before .before .before .before .before .args .s .now) (c .before .before .before .before .before .before .before .before .before .before .before .before .before .before .before .before .before .before .before .before .before .before .before .before .before .before .before .shared-slice-known .given)) _ _ (c .before .before .before .before .before .before .before .before .before .before .before .before .before .before .before .before .work .last .1 .1 .1 .1 .1 .1 .1 .1 .1 .1 .0) (c .before .before .before .before .before .before .before .before .before .before .before .before .before .before .before .before .work .ensures .0 (heavy-case (c .before .before .before .before .before .before .before .before .before .before .before .before .before .before .before .before .before .before .before .before .before .before .before .before .before .before .before .before .pre .1 .0) (c .before .before .before .before .before .before .before .before .before .before .before .before .before .before .before .before .before .before .before .before .before .before .before .heaviest .result) (c .before .before .before .before .before .before .before .before .before .before .before .before .before .before .before .before .before .before .before .before .before .before .before .heaviest .ensures (written (c .before .before .before .before .before .before .before .before .before .before .before .before .before .before .before .before .before .before .before .before .before .before .before .before .before .before .before .before .pre .1 .0))) (λ z. c .before .before .before .before .before .before .before .before .before .before .before .before .before .before .before .before .before .before .before .before .if1 .left (z ∙ sym (c .before .before .before .before .before .before .before .before .before .before .before .before .before .before .before .before .before .before .before .before .before .wide .ensures .0))))) (c .before .before .before .wide2 .ensures .0) (c .before .before .before .before .before .before .before .before .before .before .before .before .before .before .before .before .before .before .before .before .before .before .before .before .before .before .before .before .args .table .now) (c .before .before .before .before .before .before .before .before .before .before .before .before .before .before .before .before .work .last .1 .1 .1 .1 .1 .1 .1 .1 .1 .0) (c .before .before .before .before .before .before .before .before .before .before .before .before .before .before .before .before .work .last .1 .1 .1 .1 .1 .1 .1 .1 .1 .0) (c .before .before .before .before .before .before .before .before .before .before .before .before .before .before .before .before .before .before .before .before .before .before .before .before .before .before .before .before .pre .1 .1 .3) (c .before .before .before .before .before .before .before .before .before .before .before .before .before .before .before .before .work .ensures .1 .1))))
+    (record { register = (c .before .before .before .before .before .before .before .before .before .before .before .before .before .before .before .before .before .before .before .before .before .before .before .before .before .before .before .before .pre .1 .0) .register; read = (c .before .before .before .before .before .before .before .before .before .before .before .before .before .before .before .before .before .before .before .before .before .before .before .before .before .before .before .before .pre .1 .0) .read; holds = ((c .before .before .before .before .before .before .before .before .before .before .before .before .before .before .before .before .before .before .before .before .before .before .before .before .before .before .before .before .pre .1 .0) .items-are, (c .before .before .before .before .before .before .before .before .before .before .before .before .before .before .before .before .before .before .before .before .before .before .before .before .before .before .before .before .pre .1 .0) .links-are, heavy-fits (c .before .before .before .before .before .before .before .before .before .before .before .before .before .before .before .before .before .before .before .before .before .before .before .before .before .before .before .before .pre .1 .0) (c .before .before .before .before .before .before .before .before .before .before .before .before .before .before .before .before .before .before .before .before .before .before .before .heaviest .result) (c .before .before .before .before .before .before .before .before .before .before .before .before .before .before .before .before .before .before .before .before .before .before .before .heaviest .ensures (written (c .before .before .before .before .before .before .before .before .before .before .before .before .before .before .before .before .before .before .before .before .before .before .before .before .before .before .before .before .pre .1 .0))) (λ z. c .before .before .before .before .before .before .before .before .before .before .before .before .before .before .before .before .before .before .before .before .if1 .left (z ∙ sym (c .before .before .before .before .before .before .before .before .before .before .before .before .before .before .before .before .before .before .before .before .before .octet .ensures .0))) (bytes-known (c .before .before .before .before .before .before .before .before .before .before .before .before .before .before .before .before .before .before .before .before .before .before .before .before .before .before .before .before .args .s .now) (c .before .before .before .before .before .before .before .before .before .before .before .before .before .before .before .before .before .before .before .before .before .before .before .before .before .before .before .shared-slice-known .given)) _ _ (c .before .before .before .before .before .before .before .before .before .before .before .before .before .before .before .before .work .last .1 .1 .1 .1 .1 .1 .1 .1 .1 .1 .0) (c .before .before .before .before .before .before .before .before .before .before .before .before .before .before .before .before .work .ensures .0 (heavy-case (c .before .before .before .before .before .before .before .before .before .before .before .before .before .before .before .before .before .before .before .before .before .before .before .before .before .before .before .before .pre .1 .0) (c .before .before .before .before .before .before .before .before .before .before .before .before .before .before .before .before .before .before .before .before .before .before .before .heaviest .result) (c .before .before .before .before .before .before .before .before .before .before .before .before .before .before .before .before .before .before .before .before .before .before .before .heaviest .ensures (written (c .before .before .before .before .before .before .before .before .before .before .before .before .before .before .before .before .before .before .before .before .before .before .before .before .before .before .before .before .pre .1 .0))) (λ z. c .before .before .before .before .before .before .before .before .before .before .before .before .before .before .before .before .before .before .before .before .if1 .left (z ∙ sym (c .before .before .before .before .before .before .before .before .before .before .before .before .before .before .before .before .before .before .before .before .before .octet .ensures .0))))) (c .before .before .before .octet2 .ensures .0) (c .before .before .before .before .before .before .before .own .last .1 .1 .0) (c .before .before .before .before .before .before .before .own .ensures ((c .before .before .before .before .before .before .before .before .before .before .before .before .before .before .before .before .before .before .before .before .before .before .before .before .before .before .before .before .pre .1 .0) .register) ((c .before .before .before .before .before .before .before .before .before .before .before .before .before .before .before .before .before .before .before .before .before .before .before .before .before .before .before .before .pre .1 .0) .read))) }, (((c .before .before .before .before .before .before .before .before .before .before .before .before .before .before .before .before .before .before .before .before .before .before .before .before .before .before .before .before .pre .1 .0) .most, c .before .before .before .before .before .before .before .before .before .before .before .before .before .before .before .before .work .kept .1 .1 .1 .1 .1 .1 .1 .1 .1 .1 .0 ∙ c .before .before .before .before .before .before .before .before .before .before .before .before .before .before .before .before .before .before .before .before .before .before .before .before .before .before .before .before .pre .1 .1 .1, c .before .before .before .before .before .before .before .own .kept .1 .1 .0 ∙ c .before .before .before .before .before .before .before .before .before .before .before .before .before .before .before .before .work .kept .1 .1 .1 .1 .1 .1 .1 .1 .1 .1 .1 .0 ∙ c .before .before .before .before .before .before .before .before .before .before .before .before .before .before .before .before .before .before .before .before .before .before .before .before .before .before .before .before .pre .1 .1 .0), (omega (arith, heavy-inside (c .before .before .before .before .before .before .before .before .before .before .before .before .before .before .before .before .before .before .before .before .before .before .before .before .before .before .before .before .pre .1 .0) (c .before .before .before .before .before .before .before .before .before .before .before .before .before .before .before .before .before .before .before .before .before .before .before .heaviest .result) (c .before .before .before .before .before .before .before .before .before .before .before .before .before .before .before .before .before .before .before .before .before .before .before .heaviest .ensures (written (c .before .before .before .before .before .before .before .before .before .before .before .before .before .before .before .before .before .before .before .before .before .before .before .before .before .before .before .before .pre .1 .0))) (λ z. c .before .before .before .before .before .before .before .before .before .before .before .before .before .before .before .before .before .before .before .before .if1 .left (z ∙ sym (c .before .before .before .before .before .before .before .before .before .before .before .before .before .before .before .before .before .before .before .before .before .octet .ensures .0))) .1, heavy-inside (c .before .before .before .before .before .before .before .before .before .before .before .before .before .before .before .before .before .before .before .before .before .before .before .before .before .before .before .before .pre .1 .0) (c .before .before .before .before .before .before .before .before .before .before .before .before .before .before .before .before .before .before .before .before .before .before .before .heaviest .result) (c .before .before .before .before .before .before .before .before .before .before .before .before .before .before .before .before .before .before .before .before .before .before .before .heaviest .ensures (written (c .before .before .before .before .before .before .before .before .before .before .before .before .before .before .before .before .before .before .before .before .before .before .before .before .before .before .before .before .pre .1 .0))) (λ z. c .before .before .before .before .before .before .before .before .before .before .before .before .before .before .before .before .before .before .before .before .if1 .left (z ∙ sym (c .before .before .before .before .before .before .before .before .before .before .before .before .before .before .before .before .before .before .before .before .before .octet .ensures .0))) .2, (c .before .before .before .before .before .before .before .before .before .before .before .before .before .before .before .before .before .before .before .before .before .before .before .before .before .before .before .before .pre .1 .0) .few), omega (arith, c .before .before .before .before .before .before .before .before .before .before .before .before .before .before .before .before .work .kept .1 .1 .1 .1 .1 .1 .1 .1 .1 .0, c .before .before .before .before .before .before .before .before .before .before .before .before .before .before .before .before .before .before .before .before .before .before .before .before .before .before .before .before .pre .1 .1 .2), heavy-empty (c .before .before .before .before .before .before .before .before .before .before .before .before .before .before .before .before .before .before .before .before .before .before .before .before .before .before .before .before .pre .1 .0) (c .before .before .before .before .before .before .before .before .before .before .before .before .before .before .before .before .before .before .before .before .before .before .before .heaviest .result) (c .before .before .before .before .before .before .before .before .before .before .before .before .before .before .before .before .before .before .before .before .before .before .before .heaviest .ensures (written (c .before .before .before .before .before .before .before .before .before .before .before .before .before .before .before .before .before .before .before .before .before .before .before .before .before .before .before .before .pre .1 .0))) (λ z. c .before .before .before .before .before .before .before .before .before .before .before .before .before .before .before .before .before .before .before .before .if1 .left (z ∙ sym (c .before .before .before .before .before .before .before .before .before .before .before .before .before .before .before .before .before .before .before .before .before .octet .ensures .0))) (bytes-known (c .before .before .before .before .before .before .before .before .before .before .before .before .before .before .before .before .before .before .before .before .before .before .before .before .before .before .before .before .args .s .now) (c .before .before .before .before .before .before .before .before .before .before .before .before .before .before .before .before .before .before .before .before .before .before .before .before .before .before .before .shared-slice-known .given)) _ _ (c .before .before .before .before .before .before .before .before .before .before .before .before .before .before .before .before .work .last .1 .1 .1 .1 .1 .1 .1 .1 .1 .1 .0) (c .before .before .before .before .before .before .before .before .before .before .before .before .before .before .before .before .work .ensures .0 (heavy-case (c .before .before .before .before .before .before .before .before .before .before .before .before .before .before .before .before .before .before .before .before .before .before .before .before .before .before .before .before .pre .1 .0) (c .before .before .before .before .before .before .before .before .before .before .before .before .before .before .before .before .before .before .before .before .before .before .before .heaviest .result) (c .before .before .before .before .before .before .before .before .before .before .before .before .before .before .before .before .before .before .before .before .before .before .before .heaviest .ensures (written (c .before .before .before .before .before .before .before .before .before .before .before .before .before .before .before .before .before .before .before .before .before .before .before .before .before .before .before .before .pre .1 .0))) (λ z. c .before .before .before .before .before .before .before .before .before .before .before .before .before .before .before .before .before .before .before .before .if1 .left (z ∙ sym (c .before .before .before .before .before .before .before .before .before .before .before .before .before .before .before .before .before .before .before .before .before .octet .ensures .0))))) (c .before .before .before .octet2 .ensures .0) (c .before .before .before .before .before .before .before .before .before .before .before .before .before .before .before .before .before .before .before .before .before .before .before .before .before .before .before .before .args .table .now) (c .before .before .before .before .before .before .before .before .before .before .before .before .before .before .before .before .work .last .1 .1 .1 .1 .1 .1 .1 .1 .1 .0) (c .before .before .before .before .before .before .before .before .before .before .before .before .before .before .before .before .work .last .1 .1 .1 .1 .1 .1 .1 .1 .1 .0) (c .before .before .before .before .before .before .before .before .before .before .before .before .before .before .before .before .before .before .before .before .before .before .before .before .before .before .before .before .pre .1 .1 .3) (c .before .before .before .before .before .before .before .before .before .before .before .before .before .before .before .before .work .ensures .1 .1))))
 
 work-others-requires : (t : ℕ) → work-lts.Need-others-requires (
   heaviest-reads.Asked,
   heaviest-reads.Learnt,
-  wide-reads.Asked,
-  wide-reads.Learnt,
+  octet-reads.Asked,
+  octet-reads.Learnt,
   alone-reads.Asked,
   alone-reads.Learnt,
   work-below t,
@@ -817,13 +817,13 @@ work-others-requires : (t : ℕ) → work-lts.Need-others-requires (
   others.Post,
 ) (work-at t) work.Post
 work-others-requires t c κs =
-    (omega (arith, c .before .before .before .before .before .before .before .before .before .before .before .before .before .before .before .before .before .before .before .before .before .before .before .before .before .before .before .before .before .before .before .before .before .before .before .before .pre .0), ((c .before .before .before .before .before .before .before .before .before .before .before .before .before .before .before .before .before .before .before .before .before .before .before .before .before .before .before .before .before .before .before .before .before .before .before .before .pre .1 .0), ((c .before .before .before .before .before .before .before .add-best .kept .1 .1 .1 .1 .1 .1 .1 .1 .1 .0 ∙ c .before .before .before .before .before .before .before .before .before .before .before .before .before .before .before .own .kept .1 .1 .0 ∙ c .before .before .before .before .before .before .before .before .before .before .before .before .before .before .before .before .before .before .before .before .before .before .before .before .work .kept .1 .1 .1 .1 .1 .1 .1 .1 .1 .1 .1 .0 ∙ c .before .before .before .before .before .before .before .before .before .before .before .before .before .before .before .before .before .before .before .before .before .before .before .before .before .before .before .before .before .before .before .before .before .before .before .before .pre .1 .1 .0, c .before .before .before .before .before .before .before .before .before .before .before .before .before .before .before .before .before .before .before .before .before .before .before .before .work .kept .1 .1 .1 .1 .1 .1 .1 .1 .1 .1 .0 ∙ c .before .before .before .before .before .before .before .before .before .before .before .before .before .before .before .before .before .before .before .before .before .before .before .before .before .before .before .before .before .before .before .before .before .before .before .before .pre .1 .1 .1, omega (arith, c .before .before .before .before .before .before .before .add-best .kept .1 .1 .1 .1 .1 .1 .1 .1 .0, c .before .before .before .before .before .before .before .before .before .before .before .before .before .before .before .before .before .before .before .before .before .before .before .before .work .kept .1 .1 .1 .1 .1 .1 .1 .1 .1 .0, c .before .before .before .before .before .before .before .before .before .before .before .before .before .before .before .before .before .before .before .before .before .before .before .before .before .before .before .before .before .before .before .before .before .before .before .before .pre .1 .1 .2)), λ k. headed k (c .before .before .before .before .before .before .before .before .before .before .before .before .before .before .before .before .before .before .before .before .before .before .before .before .before .before .before .before .before .before .before .heaviest .result) (c .before .before .before .before .before .before .before .before .before .before .before .before .before .before .before .before .before .before .before .before .before .before .before .before .before .before .before .before .before .before .before .heaviest .ensures (written k)) (λ z. c .before .before .before .before .before .before .before .before .before .before .before .before .before .before .before .before .before .before .before .before .before .before .before .before .before .before .before .before .if1 .left (z ∙ sym (c .before .before .before .before .before .before .before .before .before .before .before .before .before .before .before .before .before .before .before .before .before .before .before .before .before .before .before .before .before .wide .ensures .0))) (bytes-known (c .before .before .before .before .before .before .before .before .before .before .before .before .before .before .before .before .before .before .before .before .before .before .before .before .before .before .before .before .before .before .before .before .before .before .before .before .args .s .now) (c .before .before .before .before .before .before .before .before .before .before .before .before .before .before .before .before .before .before .before .before .before .before .before .before .before .before .before .before .before .before .before .before .before .before .before .shared-slice-known .given)) _ _ (c .before .before .before .before .before .before .before .before .before .before .before .before .before .before .before .before .before .before .before .before .before .before .before .before .work .last .1 .1 .1 .1 .1 .1 .1 .1 .1 .1 .0) (c .before .before .before .before .before .before .before .before .before .before .before .before .before .before .before .before .before .before .before .before .before .before .before .before .work .ensures .0 (heavy-case k (c .before .before .before .before .before .before .before .before .before .before .before .before .before .before .before .before .before .before .before .before .before .before .before .before .before .before .before .before .before .before .before .heaviest .result) (c .before .before .before .before .before .before .before .before .before .before .before .before .before .before .before .before .before .before .before .before .before .before .before .before .before .before .before .before .before .before .before .heaviest .ensures (written k)) (λ z. c .before .before .before .before .before .before .before .before .before .before .before .before .before .before .before .before .before .before .before .before .before .before .before .before .before .before .before .before .if1 .left (z ∙ sym (c .before .before .before .before .before .before .before .before .before .before .before .before .before .before .before .before .before .before .before .before .before .before .before .before .before .before .before .before .before .wide .ensures .0))))) (c .before .before .before .before .before .before .before .before .before .before .before .wide2 .ensures .0) (c .before .before .before .before .before .before .before .before .before .before .before .before .before .before .before .before .before .before .before .before .before .before .before .before .before .before .before .before .before .before .before .before .before .before .before .before .args .table .now) (c .before .before .before .before .before .before .before .before .before .before .before .before .before .before .before .before .before .before .before .before .before .before .before .before .work .last .1 .1 .1 .1 .1 .1 .1 .1 .1 .0) (c .before .before .before .before .before .before .before .add-best .last .1 .1 .1 .1 .1 .1 .1 .1 .0) (c .before .before .before .before .before .before .before .before .before .before .before .before .before .before .before .before .before .before .before .before .before .before .before .before .before .before .before .before .before .before .before .before .before .before .before .before .pre .1 .1 .3) (c .before .before .before .before .before .before .before .before .before .before .before .before .before .before .before .before .before .before .before .before .before .before .before .before .work .ensures .1 .1) (c .before .before .before .before .before .before .before .add-best .ensures .1 .1) (c .before .before .before .before .before .before .before .before .before .before .before .before .before .before .before .own .last .1 .1 .0) (c .before .before .before .before .before .before .before .add-best .last .1 .1 .1 .1 .1 .1 .1 .1 .1 .0) (c .before .before .before .before .before .before .before .add-best .kept .1 .1 .1 .1 .1 .1 .1 .1 .0) (c .before .before .before .before .before .before .before .before .before .before .before .before .before .before .before .own .ensures (k .register) (k .read)) (c .before .before .before .before .before .before .before .add-best .ensures .0 (k .register) (k .read)) (c .before .before .before .before .before .before .before .before .before .before .before .before .before .before .before .before .before .before .before .before .before .before .before .before .work .ensures .1 .0 (heavy-case k (c .before .before .before .before .before .before .before .before .before .before .before .before .before .before .before .before .before .before .before .before .before .before .before .before .before .before .before .before .before .before .before .heaviest .result) (c .before .before .before .before .before .before .before .before .before .before .before .before .before .before .before .before .before .before .before .before .before .before .before .before .before .before .before .before .before .before .before .heaviest .ensures (written k)) (λ z. c .before .before .before .before .before .before .before .before .before .before .before .before .before .before .before .before .before .before .before .before .before .before .before .before .before .before .before .before .if1 .left (z ∙ sym (c .before .before .before .before .before .before .before .before .before .before .before .before .before .before .before .before .before .before .before .before .before .before .before .before .before .before .before .before .before .wide .ensures .0))))) (c .before .before .before .before .before .before .before .add-best .ensures .1 .0 (k .register) (k .read)))))
+    (omega (arith, c .before .before .before .before .before .before .before .before .before .before .before .before .before .before .before .before .before .before .before .before .before .before .before .before .before .before .before .before .before .before .before .before .before .before .before .before .pre .0), ((c .before .before .before .before .before .before .before .before .before .before .before .before .before .before .before .before .before .before .before .before .before .before .before .before .before .before .before .before .before .before .before .before .before .before .before .before .pre .1 .0), ((c .before .before .before .before .before .before .before .add-best .kept .1 .1 .1 .1 .1 .1 .1 .1 .1 .0 ∙ c .before .before .before .before .before .before .before .before .before .before .before .before .before .before .before .own .kept .1 .1 .0 ∙ c .before .before .before .before .before .before .before .before .before .before .before .before .before .before .before .before .before .before .before .before .before .before .before .before .work .kept .1 .1 .1 .1 .1 .1 .1 .1 .1 .1 .1 .0 ∙ c .before .before .before .before .before .before .before .before .before .before .before .before .before .before .before .before .before .before .before .before .before .before .before .before .before .before .before .before .before .before .before .before .before .before .before .before .pre .1 .1 .0, c .before .before .before .before .before .before .before .before .before .before .before .before .before .before .before .before .before .before .before .before .before .before .before .before .work .kept .1 .1 .1 .1 .1 .1 .1 .1 .1 .1 .0 ∙ c .before .before .before .before .before .before .before .before .before .before .before .before .before .before .before .before .before .before .before .before .before .before .before .before .before .before .before .before .before .before .before .before .before .before .before .before .pre .1 .1 .1, omega (arith, c .before .before .before .before .before .before .before .add-best .kept .1 .1 .1 .1 .1 .1 .1 .1 .0, c .before .before .before .before .before .before .before .before .before .before .before .before .before .before .before .before .before .before .before .before .before .before .before .before .work .kept .1 .1 .1 .1 .1 .1 .1 .1 .1 .0, c .before .before .before .before .before .before .before .before .before .before .before .before .before .before .before .before .before .before .before .before .before .before .before .before .before .before .before .before .before .before .before .before .before .before .before .before .pre .1 .1 .2)), λ k. headed k (c .before .before .before .before .before .before .before .before .before .before .before .before .before .before .before .before .before .before .before .before .before .before .before .before .before .before .before .before .before .before .before .heaviest .result) (c .before .before .before .before .before .before .before .before .before .before .before .before .before .before .before .before .before .before .before .before .before .before .before .before .before .before .before .before .before .before .before .heaviest .ensures (written k)) (λ z. c .before .before .before .before .before .before .before .before .before .before .before .before .before .before .before .before .before .before .before .before .before .before .before .before .before .before .before .before .if1 .left (z ∙ sym (c .before .before .before .before .before .before .before .before .before .before .before .before .before .before .before .before .before .before .before .before .before .before .before .before .before .before .before .before .before .octet .ensures .0))) (bytes-known (c .before .before .before .before .before .before .before .before .before .before .before .before .before .before .before .before .before .before .before .before .before .before .before .before .before .before .before .before .before .before .before .before .before .before .before .before .args .s .now) (c .before .before .before .before .before .before .before .before .before .before .before .before .before .before .before .before .before .before .before .before .before .before .before .before .before .before .before .before .before .before .before .before .before .before .before .shared-slice-known .given)) _ _ (c .before .before .before .before .before .before .before .before .before .before .before .before .before .before .before .before .before .before .before .before .before .before .before .before .work .last .1 .1 .1 .1 .1 .1 .1 .1 .1 .1 .0) (c .before .before .before .before .before .before .before .before .before .before .before .before .before .before .before .before .before .before .before .before .before .before .before .before .work .ensures .0 (heavy-case k (c .before .before .before .before .before .before .before .before .before .before .before .before .before .before .before .before .before .before .before .before .before .before .before .before .before .before .before .before .before .before .before .heaviest .result) (c .before .before .before .before .before .before .before .before .before .before .before .before .before .before .before .before .before .before .before .before .before .before .before .before .before .before .before .before .before .before .before .heaviest .ensures (written k)) (λ z. c .before .before .before .before .before .before .before .before .before .before .before .before .before .before .before .before .before .before .before .before .before .before .before .before .before .before .before .before .if1 .left (z ∙ sym (c .before .before .before .before .before .before .before .before .before .before .before .before .before .before .before .before .before .before .before .before .before .before .before .before .before .before .before .before .before .octet .ensures .0))))) (c .before .before .before .before .before .before .before .before .before .before .before .octet2 .ensures .0) (c .before .before .before .before .before .before .before .before .before .before .before .before .before .before .before .before .before .before .before .before .before .before .before .before .before .before .before .before .before .before .before .before .before .before .before .before .args .table .now) (c .before .before .before .before .before .before .before .before .before .before .before .before .before .before .before .before .before .before .before .before .before .before .before .before .work .last .1 .1 .1 .1 .1 .1 .1 .1 .1 .0) (c .before .before .before .before .before .before .before .add-best .last .1 .1 .1 .1 .1 .1 .1 .1 .0) (c .before .before .before .before .before .before .before .before .before .before .before .before .before .before .before .before .before .before .before .before .before .before .before .before .before .before .before .before .before .before .before .before .before .before .before .before .pre .1 .1 .3) (c .before .before .before .before .before .before .before .before .before .before .before .before .before .before .before .before .before .before .before .before .before .before .before .before .work .ensures .1 .1) (c .before .before .before .before .before .before .before .add-best .ensures .1 .1) (c .before .before .before .before .before .before .before .before .before .before .before .before .before .before .before .own .last .1 .1 .0) (c .before .before .before .before .before .before .before .add-best .last .1 .1 .1 .1 .1 .1 .1 .1 .1 .0) (c .before .before .before .before .before .before .before .add-best .kept .1 .1 .1 .1 .1 .1 .1 .1 .0) (c .before .before .before .before .before .before .before .before .before .before .before .before .before .before .before .own .ensures (k .register) (k .read)) (c .before .before .before .before .before .before .before .add-best .ensures .0 (k .register) (k .read)) (c .before .before .before .before .before .before .before .before .before .before .before .before .before .before .before .before .before .before .before .before .before .before .before .before .work .ensures .1 .0 (heavy-case k (c .before .before .before .before .before .before .before .before .before .before .before .before .before .before .before .before .before .before .before .before .before .before .before .before .before .before .before .before .before .before .before .heaviest .result) (c .before .before .before .before .before .before .before .before .before .before .before .before .before .before .before .before .before .before .before .before .before .before .before .before .before .before .before .before .before .before .before .heaviest .ensures (written k)) (λ z. c .before .before .before .before .before .before .before .before .before .before .before .before .before .before .before .before .before .before .before .before .before .before .before .before .before .before .before .before .if1 .left (z ∙ sym (c .before .before .before .before .before .before .before .before .before .before .before .before .before .before .before .before .before .before .before .before .before .before .before .before .before .before .before .before .before .octet .ensures .0))))) (c .before .before .before .before .before .before .before .add-best .ensures .1 .0 (k .register) (k .read)))))
 
 work-same-length-2 : (t : ℕ) → work-lts.Need-same-length-2 (
   heaviest-reads.Asked,
   heaviest-reads.Learnt,
-  wide-reads.Asked,
-  wide-reads.Learnt,
+  octet-reads.Asked,
+  octet-reads.Learnt,
   alone-reads.Asked,
   alone-reads.Learnt,
   work-below t,
@@ -841,8 +841,8 @@ work-same-length-2 t c =
 work-same-length-3 : (t : ℕ) → work-lts.Need-same-length-3 (
   heaviest-reads.Asked,
   heaviest-reads.Learnt,
-  wide-reads.Asked,
-  wide-reads.Learnt,
+  octet-reads.Asked,
+  octet-reads.Learnt,
   alone-reads.Asked,
   alone-reads.Learnt,
   work-below t,
@@ -860,8 +860,8 @@ work-same-length-3 t c =
 work-same-length-4 : (t : ℕ) → work-lts.Need-same-length-4 (
   heaviest-reads.Asked,
   heaviest-reads.Learnt,
-  wide-reads.Asked,
-  wide-reads.Learnt,
+  octet-reads.Asked,
+  octet-reads.Learnt,
   alone-reads.Asked,
   alone-reads.Learnt,
   work-below t,
@@ -879,8 +879,8 @@ work-same-length-4 t c =
 work-returns-2 : (t : ℕ) → work-lts.Need-returns-2 (
   heaviest-reads.Asked,
   heaviest-reads.Learnt,
-  wide-reads.Asked,
-  wide-reads.Learnt,
+  octet-reads.Asked,
+  octet-reads.Learnt,
   alone-reads.Asked,
   alone-reads.Learnt,
   work-below t,
@@ -893,14 +893,14 @@ work-returns-2 : (t : ℕ) → work-lts.Need-returns-2 (
   others.Post,
 ) (work-at t) work.Post
 work-returns-2 t c =
-    (c .before .before .before .before .before .before .others .ensures .0, (c .before .before .before .before .before .before .others .ensures .1 .0, heavy-outside (c .before .before .before .before .before .before .before .before .before .before .before .before .before .before .before .before .before .before .before .before .before .before .before .before .before .before .before .before .before .before .before .before .before .before .before .before .before .before .before .before .before .before .before .pre .1 .0) (c .before .before .before .before .before .before .before .before .before .before .before .before .before .before .before .before .before .before .before .before .before .before .before .before .before .before .before .before .before .before .before .before .before .before .before .before .before .before .heaviest .result) (c .before .before .before .before .before .before .before .before .before .before .before .before .before .before .before .before .before .before .before .before .before .before .before .before .before .before .before .before .before .before .before .before .before .before .before .before .before .before .heaviest .ensures (written (c .before .before .before .before .before .before .before .before .before .before .before .before .before .before .before .before .before .before .before .before .before .before .before .before .before .before .before .before .before .before .before .before .before .before .before .before .before .before .before .before .before .before .before .pre .1 .0))) (λ z. c .before .before .before .before .before .before .before .before .before .before .before .before .before .before .before .before .before .before .before .before .before .before .before .before .before .before .before .before .before .before .before .before .before .before .before .if1 .left (z ∙ sym (c .before .before .before .before .before .before .before .before .before .before .before .before .before .before .before .before .before .before .before .before .before .before .before .before .before .before .before .before .before .before .before .before .before .before .before .before .wide .ensures .0))) (bytes-known (c .before .before .before .before .before .before .before .before .before .before .before .before .before .before .before .before .before .before .before .before .before .before .before .before .before .before .before .before .before .before .before .before .before .before .before .before .before .before .before .before .before .before .before .args .s .now) (c .before .before .before .before .before .before .before .before .before .before .before .before .before .before .before .before .before .before .before .before .before .before .before .before .before .before .before .before .before .before .before .before .before .before .before .before .before .before .before .before .before .before .shared-slice-known .given)) _ _ (c .before .before .before .before .before .before .before .before .before .before .before .before .before .before .before .before .before .before .before .before .before .before .before .before .before .before .before .before .before .before .before .work .last .1 .1 .1 .1 .1 .1 .1 .1 .1 .1 .0) (c .before .before .before .before .before .before .before .before .before .before .before .before .before .before .before .before .before .before .before .before .before .before .before .before .before .before .before .before .before .before .before .work .ensures .0 (heavy-case (c .before .before .before .before .before .before .before .before .before .before .before .before .before .before .before .before .before .before .before .before .before .before .before .before .before .before .before .before .before .before .before .before .before .before .before .before .before .before .before .before .before .before .before .pre .1 .0) (c .before .before .before .before .before .before .before .before .before .before .before .before .before .before .before .before .before .before .before .before .before .before .before .before .before .before .before .before .before .before .before .before .before .before .before .before .before .before .heaviest .result) (c .before .before .before .before .before .before .before .before .before .before .before .before .before .before .before .before .before .before .before .before .before .before .before .before .before .before .before .before .before .before .before .before .before .before .before .before .before .before .heaviest .ensures (written (c .before .before .before .before .before .before .before .before .before .before .before .before .before .before .before .before .before .before .before .before .before .before .before .before .before .before .before .before .before .before .before .before .before .before .before .before .before .before .before .before .before .before .before .pre .1 .0))) (λ z. c .before .before .before .before .before .before .before .before .before .before .before .before .before .before .before .before .before .before .before .before .before .before .before .before .before .before .before .before .before .before .before .before .before .before .before .if1 .left (z ∙ sym (c .before .before .before .before .before .before .before .before .before .before .before .before .before .before .before .before .before .before .before .before .before .before .before .before .before .before .before .before .before .before .before .before .before .before .before .before .wide .ensures .0))))) (c .before .before .before .before .before .before .before .before .before .before .before .before .before .before .before .before .before .before .wide2 .ensures .0) (c .before .before .before .before .before .before .before .before .before .before .before .before .before .before .before .before .before .before .before .before .before .before .before .before .before .before .before .before .before .before .before .before .before .before .before .before .before .before .before .before .before .before .before .args .table .now) (c .before .before .before .before .before .before .before .before .before .before .before .before .before .before .before .before .before .before .before .before .before .before .before .before .before .before .before .before .before .before .before .work .last .1 .1 .1 .1 .1 .1 .1 .1 .1 .0) (c .before .before .before .before .before .before .before .before .before .before .before .before .before .before .add-best .last .1 .1 .1 .1 .1 .1 .1 .1 .0) (c .before .before .before .before .before .before .before .before .before .before .before .before .before .before .before .before .before .before .before .before .before .before .before .before .before .before .before .before .before .before .before .before .before .before .before .before .before .before .before .before .before .before .before .pre .1 .1 .3) (c .before .before .before .before .before .before .before .before .before .before .before .before .before .before .before .before .before .before .before .before .before .before .before .before .before .before .before .before .before .before .before .work .ensures .1 .1) (c .before .before .before .before .before .before .before .before .before .before .before .before .before .before .add-best .ensures .1 .1) (c .before .before .before .before .before .before .others .last .1 .1 .1 .1 .1 .1 .1 .1 .1 .1 .1 .0) (c .before .before .before .before .before .before .others .ensures .1 .1)))
+    (c .before .before .before .before .before .before .others .ensures .0, (c .before .before .before .before .before .before .others .ensures .1 .0, heavy-outside (c .before .before .before .before .before .before .before .before .before .before .before .before .before .before .before .before .before .before .before .before .before .before .before .before .before .before .before .before .before .before .before .before .before .before .before .before .before .before .before .before .before .before .before .pre .1 .0) (c .before .before .before .before .before .before .before .before .before .before .before .before .before .before .before .before .before .before .before .before .before .before .before .before .before .before .before .before .before .before .before .before .before .before .before .before .before .before .heaviest .result) (c .before .before .before .before .before .before .before .before .before .before .before .before .before .before .before .before .before .before .before .before .before .before .before .before .before .before .before .before .before .before .before .before .before .before .before .before .before .before .heaviest .ensures (written (c .before .before .before .before .before .before .before .before .before .before .before .before .before .before .before .before .before .before .before .before .before .before .before .before .before .before .before .before .before .before .before .before .before .before .before .before .before .before .before .before .before .before .before .pre .1 .0))) (λ z. c .before .before .before .before .before .before .before .before .before .before .before .before .before .before .before .before .before .before .before .before .before .before .before .before .before .before .before .before .before .before .before .before .before .before .before .if1 .left (z ∙ sym (c .before .before .before .before .before .before .before .before .before .before .before .before .before .before .before .before .before .before .before .before .before .before .before .before .before .before .before .before .before .before .before .before .before .before .before .before .octet .ensures .0))) (bytes-known (c .before .before .before .before .before .before .before .before .before .before .before .before .before .before .before .before .before .before .before .before .before .before .before .before .before .before .before .before .before .before .before .before .before .before .before .before .before .before .before .before .before .before .before .args .s .now) (c .before .before .before .before .before .before .before .before .before .before .before .before .before .before .before .before .before .before .before .before .before .before .before .before .before .before .before .before .before .before .before .before .before .before .before .before .before .before .before .before .before .before .shared-slice-known .given)) _ _ (c .before .before .before .before .before .before .before .before .before .before .before .before .before .before .before .before .before .before .before .before .before .before .before .before .before .before .before .before .before .before .before .work .last .1 .1 .1 .1 .1 .1 .1 .1 .1 .1 .0) (c .before .before .before .before .before .before .before .before .before .before .before .before .before .before .before .before .before .before .before .before .before .before .before .before .before .before .before .before .before .before .before .work .ensures .0 (heavy-case (c .before .before .before .before .before .before .before .before .before .before .before .before .before .before .before .before .before .before .before .before .before .before .before .before .before .before .before .before .before .before .before .before .before .before .before .before .before .before .before .before .before .before .before .pre .1 .0) (c .before .before .before .before .before .before .before .before .before .before .before .before .before .before .before .before .before .before .before .before .before .before .before .before .before .before .before .before .before .before .before .before .before .before .before .before .before .before .heaviest .result) (c .before .before .before .before .before .before .before .before .before .before .before .before .before .before .before .before .before .before .before .before .before .before .before .before .before .before .before .before .before .before .before .before .before .before .before .before .before .before .heaviest .ensures (written (c .before .before .before .before .before .before .before .before .before .before .before .before .before .before .before .before .before .before .before .before .before .before .before .before .before .before .before .before .before .before .before .before .before .before .before .before .before .before .before .before .before .before .before .pre .1 .0))) (λ z. c .before .before .before .before .before .before .before .before .before .before .before .before .before .before .before .before .before .before .before .before .before .before .before .before .before .before .before .before .before .before .before .before .before .before .before .if1 .left (z ∙ sym (c .before .before .before .before .before .before .before .before .before .before .before .before .before .before .before .before .before .before .before .before .before .before .before .before .before .before .before .before .before .before .before .before .before .before .before .before .octet .ensures .0))))) (c .before .before .before .before .before .before .before .before .before .before .before .before .before .before .before .before .before .before .octet2 .ensures .0) (c .before .before .before .before .before .before .before .before .before .before .before .before .before .before .before .before .before .before .before .before .before .before .before .before .before .before .before .before .before .before .before .before .before .before .before .before .before .before .before .before .before .before .before .args .table .now) (c .before .before .before .before .before .before .before .before .before .before .before .before .before .before .before .before .before .before .before .before .before .before .before .before .before .before .before .before .before .before .before .work .last .1 .1 .1 .1 .1 .1 .1 .1 .1 .0) (c .before .before .before .before .before .before .before .before .before .before .before .before .before .before .add-best .last .1 .1 .1 .1 .1 .1 .1 .1 .0) (c .before .before .before .before .before .before .before .before .before .before .before .before .before .before .before .before .before .before .before .before .before .before .before .before .before .before .before .before .before .before .before .before .before .before .before .before .before .before .before .before .before .before .before .pre .1 .1 .3) (c .before .before .before .before .before .before .before .before .before .before .before .before .before .before .before .before .before .before .before .before .before .before .before .before .before .before .before .before .before .before .before .work .ensures .1 .1) (c .before .before .before .before .before .before .before .before .before .before .before .before .before .before .add-best .ensures .1 .1) (c .before .before .before .before .before .before .others .last .1 .1 .1 .1 .1 .1 .1 .1 .1 .1 .1 .0) (c .before .before .before .before .before .before .others .ensures .1 .1)))
 
 pub +others+work-spec : {M : Type 1} → statement M
 +others+work-spec = close μ-others μ-work (λ t. others-lts.spec (
-  wide-reads.Asked,
-  wide-reads.Learnt,
-  broad-reads.Asked,
-  broad-reads.Learnt,
+  octet-reads.Asked,
+  octet-reads.Learnt,
+  quad-reads.Asked,
+  quad-reads.Learnt,
   passed-reads.Asked,
   passed-reads.Learnt,
   work-below t,
@@ -912,16 +912,16 @@ pub +others+work-spec : {M : Type 1} → statement M
     others.Post
     others-Inv-loop
     others-μ-loop
-    (others-element-copy-out-wide t)
-    (others-wide-requires t)
-    (others-mul-broad t)
-    (others-element-copy-out-broad t)
-    (others-broad-requires t)
+    (others-element-copy-out-octet t)
+    (others-octet-requires t)
+    (others-mul-quad t)
+    (others-element-copy-out-quad t)
+    (others-quad-requires t)
     (others-add-n t)
     (others-add-c t)
     (others-loop-holds t)
-    (others-element-copy-out-wide-2 t)
-    (others-wide-requires-2 t)
+    (others-element-copy-out-octet-2 t)
+    (others-octet-requires-2 t)
     (others-element-copy-out-passed t)
     (others-passed-requires t)
     (others-loop-less t)
@@ -930,8 +930,8 @@ pub +others+work-spec : {M : Type 1} → statement M
     (others-array-borrow-prefix-room t)
     (others-slice-aggregate-work t)
     (others-work-requires t)
-    (others-element-copy-out-wide-3 t)
-    (others-wide-requires-3 t)
+    (others-element-copy-out-octet-3 t)
+    (others-octet-requires-3 t)
     (others-add-best-requires t)
     (others-mul-product t)
     (others-add-n-2 t)
@@ -945,8 +945,8 @@ pub +others+work-spec : {M : Type 1} → statement M
     λ t. work-lts.spec (
       heaviest-reads.Asked,
       heaviest-reads.Learnt,
-      wide-reads.Asked,
-      wide-reads.Learnt,
+      octet-reads.Asked,
+      octet-reads.Learnt,
       alone-reads.Asked,
       alone-reads.Learnt,
       work-below t,
@@ -961,8 +961,8 @@ pub +others+work-spec : {M : Type 1} → statement M
     (work-at t)
     work.Post
     (work-heaviest-requires t)
-    (work-element-copy-out-wide t)
-    (work-wide-requires t)
+    (work-element-copy-out-octet t)
+    (work-octet-requires t)
     (work-mul-alone t)
     (work-element-copy-out-alone t)
     (work-alone-requires t)
@@ -973,8 +973,8 @@ pub +others+work-spec : {M : Type 1} → statement M
     (work-mul-own t)
     (work-element-copy-out-own t)
     (work-own-requires t)
-    (work-element-copy-out-wide-2 t)
-    (work-wide-requires-2 t)
+    (work-element-copy-out-octet-2 t)
+    (work-octet-requires-2 t)
     (work-add-best-requires t)
     (work-others-requires t)
     (work-same-length-2 t)

@@ -6,7 +6,7 @@ use Rattle.degree.proofs.show.Kinds as show-kinds
 use Rattle.degree.proofs.+show.Lts-show as show-lts
 use Rattle.degree.proofs.fill_dropped.Reads as fill-dropped-reads
 use Rattle.degree.proofs.onward.Reads as onward-reads
-use Rattle.degree.proofs.wide.Reads as wide-reads
+use Rattle.fields.proofs.octet.Reads as octet-reads
 use Rattle.degree.proofs.+show.{statement}
 use Rattle.degree.proofs.+show.Tie.{close}
 use Prim.Native.Nat.{_-_}
@@ -37,8 +37,8 @@ show-μ-loop s items links ends marks table node left item map₀ e c₀ map c =
     e - c
 
 show-cast-map : (t : ℕ) → show-lts.Need-cast-map (
-  wide-reads.Asked,
-  wide-reads.Learnt,
+  octet-reads.Asked,
+  octet-reads.Learnt,
   fill-dropped-reads.Asked,
   fill-dropped-reads.Learnt,
   onward-reads.Asked,
@@ -50,8 +50,8 @@ show-cast-map t c =
     omega (arith, goes-fits _ (c .before .before .before .pre .1 .1 .1))
 
 show-mul-map : (t : ℕ) → show-lts.Need-mul-map (
-  wide-reads.Asked,
-  wide-reads.Learnt,
+  octet-reads.Asked,
+  octet-reads.Learnt,
   fill-dropped-reads.Asked,
   fill-dropped-reads.Learnt,
   onward-reads.Asked,
@@ -63,8 +63,8 @@ show-mul-map t c =
     omega (arith, drawing-here (c .before .before .before .pre .1 .0) .1)
 
 show-slice-write-map : (t : ℕ) → show-lts.Need-slice-write-map (
-  wide-reads.Asked,
-  wide-reads.Learnt,
+  octet-reads.Asked,
+  octet-reads.Learnt,
   fill-dropped-reads.Asked,
   fill-dropped-reads.Learnt,
   onward-reads.Asked,
@@ -75,9 +75,9 @@ show-slice-write-map : (t : ℕ) → show-lts.Need-slice-write-map (
 show-slice-write-map t c =
     omega (arith, drawing-here (c .before .before .before .pre .1 .0) .2, c .before .before .before .pre .1 .1 .0 .0)
 
-show-element-copy-out-wide : (t : ℕ) → show-lts.Need-element-copy-out-wide (
-  wide-reads.Asked,
-  wide-reads.Learnt,
+show-element-copy-out-octet : (t : ℕ) → show-lts.Need-element-copy-out-octet (
+  octet-reads.Asked,
+  octet-reads.Learnt,
   fill-dropped-reads.Asked,
   fill-dropped-reads.Learnt,
   onward-reads.Asked,
@@ -85,12 +85,12 @@ show-element-copy-out-wide : (t : ℕ) → show-lts.Need-element-copy-out-wide (
   show-below t,
   show.Post,
 ) (show-at t) show.Post show-Inv-loop show-μ-loop
-show-element-copy-out-wide t c =
+show-element-copy-out-octet t c =
     omega (arith, drawing-here (c .before .before .before .pre .1 .0) .1)
 
-show-wide-requires : (t : ℕ) → show-lts.Need-wide-requires (
-  wide-reads.Asked,
-  wide-reads.Learnt,
+show-octet-requires : (t : ℕ) → show-lts.Need-octet-requires (
+  octet-reads.Asked,
+  octet-reads.Learnt,
   fill-dropped-reads.Asked,
   fill-dropped-reads.Learnt,
   onward-reads.Asked,
@@ -98,11 +98,11 @@ show-wide-requires : (t : ℕ) → show-lts.Need-wide-requires (
   show-below t,
   show.Post,
 ) (show-at t) show.Post show-Inv-loop show-μ-loop
-show-wide-requires t c κs = search needs
+show-octet-requires t c κs = search needs
 
 show-add-c : (t : ℕ) → show-lts.Need-add-c (
-  wide-reads.Asked,
-  wide-reads.Learnt,
+  octet-reads.Asked,
+  octet-reads.Learnt,
   fill-dropped-reads.Asked,
   fill-dropped-reads.Learnt,
   onward-reads.Asked,
@@ -114,8 +114,8 @@ show-add-c t c =
     omega (arith, drawing-here (c .before .before .before .before .before .pre .1 .0) .1)
 
 show-loop-holds : (t : ℕ) → show-lts.Need-loop-holds (
-  wide-reads.Asked,
-  wide-reads.Learnt,
+  octet-reads.Asked,
+  octet-reads.Learnt,
   fill-dropped-reads.Asked,
   fill-dropped-reads.Learnt,
   onward-reads.Asked,
@@ -126,9 +126,9 @@ show-loop-holds : (t : ℕ) → show-lts.Need-loop-holds (
 show-loop-holds t c =
     (refl, λ k o. trace-start k (o .to) _)
 
-show-element-copy-out-wide-2 : (t : ℕ) → show-lts.Need-element-copy-out-wide-2 (
-  wide-reads.Asked,
-  wide-reads.Learnt,
+show-element-copy-out-octet-2 : (t : ℕ) → show-lts.Need-element-copy-out-octet-2 (
+  octet-reads.Asked,
+  octet-reads.Learnt,
   fill-dropped-reads.Asked,
   fill-dropped-reads.Learnt,
   onward-reads.Asked,
@@ -136,12 +136,12 @@ show-element-copy-out-wide-2 : (t : ℕ) → show-lts.Need-element-copy-out-wide
   show-below t,
   show.Post,
 ) (show-at t) show.Post show-Inv-loop show-μ-loop
-show-element-copy-out-wide-2 t c =
-    omega (arith, c .loop-test .taken, c .before .before .wide .ensures .0, c .before .before .before .before .before .before .before .pre .1 .0 .few)
+show-element-copy-out-octet-2 t c =
+    omega (arith, c .loop-test .taken, c .before .before .octet .ensures .0, c .before .before .before .before .before .before .before .pre .1 .0 .few)
 
-show-wide-requires-2 : (t : ℕ) → show-lts.Need-wide-requires-2 (
-  wide-reads.Asked,
-  wide-reads.Learnt,
+show-octet-requires-2 : (t : ℕ) → show-lts.Need-octet-requires-2 (
+  octet-reads.Asked,
+  octet-reads.Learnt,
   fill-dropped-reads.Asked,
   fill-dropped-reads.Learnt,
   onward-reads.Asked,
@@ -149,11 +149,11 @@ show-wide-requires-2 : (t : ℕ) → show-lts.Need-wide-requires-2 (
   show-below t,
   show.Post,
 ) (show-at t) show.Post show-Inv-loop show-μ-loop
-show-wide-requires-2 t c κs = search needs
+show-octet-requires-2 t c κs = search needs
 
 show-element-copy-out-if1 : (t : ℕ) → show-lts.Need-element-copy-out-if1 (
-  wide-reads.Asked,
-  wide-reads.Learnt,
+  octet-reads.Asked,
+  octet-reads.Learnt,
   fill-dropped-reads.Asked,
   fill-dropped-reads.Learnt,
   onward-reads.Asked,
@@ -162,11 +162,11 @@ show-element-copy-out-if1 : (t : ℕ) → show-lts.Need-element-copy-out-if1 (
   show.Post,
 ) (show-at t) show.Post show-Inv-loop show-μ-loop
 show-element-copy-out-if1 t c =
-    omega (arith, c .before .before .loop-test .taken, c .before .before .before .before .wide .ensures .0, c .before .before .before .before .before .before .before .before .before .pre .1 .0 .few)
+    omega (arith, c .before .before .loop-test .taken, c .before .before .before .before .octet .ensures .0, c .before .before .before .before .before .before .before .before .before .pre .1 .0 .few)
 
 show-fill-dropped-requires : (t : ℕ) → show-lts.Need-fill-dropped-requires (
-  wide-reads.Asked,
-  wide-reads.Learnt,
+  octet-reads.Asked,
+  octet-reads.Learnt,
   fill-dropped-reads.Asked,
   fill-dropped-reads.Learnt,
   onward-reads.Asked,
@@ -175,11 +175,11 @@ show-fill-dropped-requires : (t : ℕ) → show-lts.Need-fill-dropped-requires (
   show.Post,
 ) (show-at t) show.Post show-Inv-loop show-μ-loop
 show-fill-dropped-requires t c κs =
-    let q = drawn-next (c .before .before .before .before .before .before .loop .inv .1 (c .before .before .before .before .before .before .before .before .before .before .before .before .pre .1 .0) (c .before .before .before .before .before .before .before .before .before .before .before .before .pre .1 .1 .1)) (omega (arith, c .before .before .before .before .before .loop-test .taken, c .before .before .before .before .before .before .before .wide .ensures .0)) in omega (arith, c .before .before .before .wide2 .ensures .0, c .before .before .before .before .before .before .loop .inv .0, length-set (c .before .before .before .before .before .before .before .before .before .before .before .before .args .map .now) (c .before .before .before .before .before .before .before .before .before .before .before .before .args .node) (c .before .before .before .before .before .before .before .before .before .before .before .before .args .item), c .before .before .before .before .before .before .before .before .before .before .before .before .pre .1 .1 .0 .0, q .0, q .1)
+    let q = drawn-next (c .before .before .before .before .before .before .loop .inv .1 (c .before .before .before .before .before .before .before .before .before .before .before .before .pre .1 .0) (c .before .before .before .before .before .before .before .before .before .before .before .before .pre .1 .1 .1)) (omega (arith, c .before .before .before .before .before .loop-test .taken, c .before .before .before .before .before .before .before .octet .ensures .0)) in omega (arith, c .before .before .before .octet2 .ensures .0, c .before .before .before .before .before .before .loop .inv .0, length-set (c .before .before .before .before .before .before .before .before .before .before .before .before .args .map .now) (c .before .before .before .before .before .before .before .before .before .before .before .before .args .node) (c .before .before .before .before .before .before .before .before .before .before .before .before .args .item), c .before .before .before .before .before .before .before .before .before .before .before .before .pre .1 .1 .0 .0, q .0, q .1)
 
 show-loop-less : (t : ℕ) → show-lts.Need-loop-less (
-  wide-reads.Asked,
-  wide-reads.Learnt,
+  octet-reads.Asked,
+  octet-reads.Learnt,
   fill-dropped-reads.Asked,
   fill-dropped-reads.Learnt,
   onward-reads.Asked,
@@ -188,11 +188,11 @@ show-loop-less : (t : ℕ) → show-lts.Need-loop-less (
   show.Post,
 ) (show-at t) show.Post show-Inv-loop show-μ-loop
 show-loop-less t c =
-    omega (arith, c .before .before .before .before .before .before .before .before .loop-test .taken, c .before .before .before .before .before .before .before .before .before .before .wide .ensures .0, c .before .before .before .before .before .before .wide2 .ensures .0, drawn-next (c .before .before .before .before .before .before .before .before .before .loop .inv .1 (c .before .before .before .before .before .before .before .before .before .before .before .before .before .before .before .pre .1 .0) (c .before .before .before .before .before .before .before .before .before .before .before .before .before .before .before .pre .1 .1 .1)) (omega (arith, c .before .before .before .before .before .before .before .before .loop-test .taken, c .before .before .before .before .before .before .before .before .before .before .wide .ensures .0)) .0)
+    omega (arith, c .before .before .before .before .before .before .before .before .loop-test .taken, c .before .before .before .before .before .before .before .before .before .before .octet .ensures .0, c .before .before .before .before .before .before .octet2 .ensures .0, drawn-next (c .before .before .before .before .before .before .before .before .before .loop .inv .1 (c .before .before .before .before .before .before .before .before .before .before .before .before .before .before .before .pre .1 .0) (c .before .before .before .before .before .before .before .before .before .before .before .before .before .before .before .pre .1 .1 .1)) (omega (arith, c .before .before .before .before .before .before .before .before .loop-test .taken, c .before .before .before .before .before .before .before .before .before .before .octet .ensures .0)) .0)
 
 show-loop-again : (t : ℕ) → show-lts.Need-loop-again (
-  wide-reads.Asked,
-  wide-reads.Learnt,
+  octet-reads.Asked,
+  octet-reads.Learnt,
   fill-dropped-reads.Asked,
   fill-dropped-reads.Learnt,
   onward-reads.Asked,
@@ -201,11 +201,11 @@ show-loop-again : (t : ℕ) → show-lts.Need-loop-again (
   show.Post,
 ) (show-at t) show.Post show-Inv-loop show-μ-loop
 show-loop-again t c =
-    (c .before .before .fill-dropped .kept .0 ∙ c .before .before .before .before .before .before .before .before .before .loop .inv .0, λ k o. drawn-is (drawn-skip (c .before .before .before .before .before .before .before .before .before .loop .inv .1 k o) (omega (arith, c .before .before .before .before .before .before .before .before .loop-test .taken, c .before .before .before .before .before .before .before .before .before .before .wide .ensures .0)) (c .before .before .before .before .if1 .taken) _ (c .before .before .before .before .before .before .wide2 .ensures .0)) (c .before .before .fill-dropped .ensures))
+    (c .before .before .fill-dropped .kept .0 ∙ c .before .before .before .before .before .before .before .before .before .loop .inv .0, λ k o. drawn-is (drawn-skip (c .before .before .before .before .before .before .before .before .before .loop .inv .1 k o) (omega (arith, c .before .before .before .before .before .before .before .before .loop-test .taken, c .before .before .before .before .before .before .before .before .before .before .octet .ensures .0)) (c .before .before .before .before .if1 .taken) _ (c .before .before .before .before .before .before .octet2 .ensures .0)) (c .before .before .fill-dropped .ensures))
 
 show-onward-requires : (t : ℕ) → show-lts.Need-onward-requires (
-  wide-reads.Asked,
-  wide-reads.Learnt,
+  octet-reads.Asked,
+  octet-reads.Learnt,
   fill-dropped-reads.Asked,
   fill-dropped-reads.Learnt,
   onward-reads.Asked,
@@ -214,11 +214,11 @@ show-onward-requires : (t : ℕ) → show-lts.Need-onward-requires (
   show.Post,
 ) (show-at t) show.Post show-Inv-loop show-μ-loop
 show-onward-requires t c κs =
-    (record { register = (c .before .before .before .before .before .before .before .before .before .before .before .pre .1 .0) .register; read = (c .before .before .before .before .before .before .before .before .before .before .before .pre .1 .0) .read; holds = ((c .before .before .before .before .before .before .before .before .before .before .before .pre .1 .0) .items-are, (c .before .before .before .before .before .before .before .before .before .before .before .pre .1 .0) .links-are, λ _. (_, trace-note (c .before .before .before .before .before .before .before .before .before .before .before .pre .1 .0) (c .before .before .before .before .before .loop .inv .1 (c .before .before .before .before .before .before .before .before .before .before .before .pre .1 .0) (c .before .before .before .before .before .before .before .before .before .before .before .pre .1 .1 .1)) (omega (arith, c .before .before .before .before .loop-test .taken, c .before .before .before .before .before .before .wide .ensures .0)) (c .if1 .left) (bytes-known (c .before .before .before .before .before .before .before .before .before .before .before .args .s .now) (c .before .before .before .before .before .before .before .before .before .before .shared-slice-known .given)) _)) }, (omega (arith, c .before .before .before .before .loop-test .taken, c .before .before .before .before .before .before .wide .ensures .0, c .before .before .before .before .before .before .before .before .before .before .before .pre .1 .0 .few), c .before .before .before .before .before .before .before .before .before .before .before .pre .1 .1 .0 .1))
+    (record { register = (c .before .before .before .before .before .before .before .before .before .before .before .pre .1 .0) .register; read = (c .before .before .before .before .before .before .before .before .before .before .before .pre .1 .0) .read; holds = ((c .before .before .before .before .before .before .before .before .before .before .before .pre .1 .0) .items-are, (c .before .before .before .before .before .before .before .before .before .before .before .pre .1 .0) .links-are, λ _. (_, trace-note (c .before .before .before .before .before .before .before .before .before .before .before .pre .1 .0) (c .before .before .before .before .before .loop .inv .1 (c .before .before .before .before .before .before .before .before .before .before .before .pre .1 .0) (c .before .before .before .before .before .before .before .before .before .before .before .pre .1 .1 .1)) (omega (arith, c .before .before .before .before .loop-test .taken, c .before .before .before .before .before .before .octet .ensures .0)) (c .if1 .left) (bytes-known (c .before .before .before .before .before .before .before .before .before .before .before .args .s .now) (c .before .before .before .before .before .before .before .before .before .before .shared-slice-known .given)) _)) }, (omega (arith, c .before .before .before .before .loop-test .taken, c .before .before .before .before .before .before .octet .ensures .0, c .before .before .before .before .before .before .before .before .before .before .before .pre .1 .0 .few), c .before .before .before .before .before .before .before .before .before .before .before .pre .1 .1 .0 .1))
 
 show-sub-show : (t : ℕ) → show-lts.Need-sub-show (
-  wide-reads.Asked,
-  wide-reads.Learnt,
+  octet-reads.Asked,
+  octet-reads.Learnt,
   fill-dropped-reads.Asked,
   fill-dropped-reads.Learnt,
   onward-reads.Asked,
@@ -230,8 +230,8 @@ show-sub-show t c =
     omega (arith, drawing-here (c .before .before .before .before .before .before .before .before .before .before .before .before .pre .1 .0) .0)
 
 show-show-requires : (t : ℕ) → show-lts.Need-show-requires (
-  wide-reads.Asked,
-  wide-reads.Learnt,
+  octet-reads.Asked,
+  octet-reads.Learnt,
   fill-dropped-reads.Asked,
   fill-dropped-reads.Learnt,
   onward-reads.Asked,
@@ -240,11 +240,11 @@ show-show-requires : (t : ℕ) → show-lts.Need-show-requires (
   show.Post,
 ) (show-at t) show.Post show-Inv-loop show-μ-loop
 show-show-requires t c κs =
-    (omega (arith, drawing-here (c .before .before .before .before .before .before .before .before .before .before .before .before .before .pre .1 .0) .0, c .before .before .before .before .before .before .before .before .before .before .before .before .before .pre .0), (trace-child (c .before .before .before .before .before .before .before .before .before .before .before .before .before .pre .1 .0) (c .before .before .before .before .before .before .before .loop .inv .1 (c .before .before .before .before .before .before .before .before .before .before .before .before .before .pre .1 .0) (c .before .before .before .before .before .before .before .before .before .before .before .before .before .pre .1 .1 .1)) (omega (arith, c .before .before .before .before .before .before .loop-test .taken, c .before .before .before .before .before .before .before .before .wide .ensures .0)) (c .before .before .if1 .left), ((omega (arith, c .before .before .before .before .before .before .before .loop .inv .0, length-set (c .before .before .before .before .before .before .before .before .before .before .before .before .before .args .map .now) (c .before .before .before .before .before .before .before .before .before .before .before .before .before .args .node) (c .before .before .before .before .before .before .before .before .before .before .before .before .before .args .item), c .before .before .before .before .before .before .before .before .before .before .before .before .before .pre .1 .1 .0 .0, drawn-next (c .before .before .before .before .before .before .before .loop .inv .1 (c .before .before .before .before .before .before .before .before .before .before .before .before .before .pre .1 .0) (c .before .before .before .before .before .before .before .before .before .before .before .before .before .pre .1 .1 .1)) (omega (arith, c .before .before .before .before .before .before .loop-test .taken, c .before .before .before .before .before .before .before .before .wide .ensures .0)) .1), c .before .before .before .before .before .before .before .before .before .before .before .before .before .pre .1 .1 .0 .1), (trace-goes (c .before .before .before .before .before .before .before .before .before .before .before .before .before .pre .1 .0) (bytes-known (c .before .before .before .before .before .before .before .before .before .before .before .before .before .args .s .now) (c .before .before .before .before .before .before .before .before .before .before .before .before .shared-slice-known .given)) _ (c .before .before .before .before .before .before .before .before .before .before .before .before .before .pre .1 .1 .1) (c .before .before .before .before .before .before .before .loop .inv .1 (c .before .before .before .before .before .before .before .before .before .before .before .before .before .pre .1 .0) (c .before .before .before .before .before .before .before .before .before .before .before .before .before .pre .1 .1 .1)) (omega (arith, c .before .before .before .before .before .before .loop-test .taken, c .before .before .before .before .before .before .before .before .wide .ensures .0)) (c .before .before .if1 .left) _ (c .before .onward .ensures .0) (c .before .onward .ensures .1 ((c .before .before .before .before .before .before .before .before .before .before .before .before .before .pre .1 .0) .register) ((c .before .before .before .before .before .before .before .before .before .before .before .before .before .pre .1 .0) .read))))))
+    (omega (arith, drawing-here (c .before .before .before .before .before .before .before .before .before .before .before .before .before .pre .1 .0) .0, c .before .before .before .before .before .before .before .before .before .before .before .before .before .pre .0), (trace-child (c .before .before .before .before .before .before .before .before .before .before .before .before .before .pre .1 .0) (c .before .before .before .before .before .before .before .loop .inv .1 (c .before .before .before .before .before .before .before .before .before .before .before .before .before .pre .1 .0) (c .before .before .before .before .before .before .before .before .before .before .before .before .before .pre .1 .1 .1)) (omega (arith, c .before .before .before .before .before .before .loop-test .taken, c .before .before .before .before .before .before .before .before .octet .ensures .0)) (c .before .before .if1 .left), ((omega (arith, c .before .before .before .before .before .before .before .loop .inv .0, length-set (c .before .before .before .before .before .before .before .before .before .before .before .before .before .args .map .now) (c .before .before .before .before .before .before .before .before .before .before .before .before .before .args .node) (c .before .before .before .before .before .before .before .before .before .before .before .before .before .args .item), c .before .before .before .before .before .before .before .before .before .before .before .before .before .pre .1 .1 .0 .0, drawn-next (c .before .before .before .before .before .before .before .loop .inv .1 (c .before .before .before .before .before .before .before .before .before .before .before .before .before .pre .1 .0) (c .before .before .before .before .before .before .before .before .before .before .before .before .before .pre .1 .1 .1)) (omega (arith, c .before .before .before .before .before .before .loop-test .taken, c .before .before .before .before .before .before .before .before .octet .ensures .0)) .1), c .before .before .before .before .before .before .before .before .before .before .before .before .before .pre .1 .1 .0 .1), (trace-goes (c .before .before .before .before .before .before .before .before .before .before .before .before .before .pre .1 .0) (bytes-known (c .before .before .before .before .before .before .before .before .before .before .before .before .before .args .s .now) (c .before .before .before .before .before .before .before .before .before .before .before .before .shared-slice-known .given)) _ (c .before .before .before .before .before .before .before .before .before .before .before .before .before .pre .1 .1 .1) (c .before .before .before .before .before .before .before .loop .inv .1 (c .before .before .before .before .before .before .before .before .before .before .before .before .before .pre .1 .0) (c .before .before .before .before .before .before .before .before .before .before .before .before .before .pre .1 .1 .1)) (omega (arith, c .before .before .before .before .before .before .loop-test .taken, c .before .before .before .before .before .before .before .before .octet .ensures .0)) (c .before .before .if1 .left) _ (c .before .onward .ensures .0) (c .before .onward .ensures .1 ((c .before .before .before .before .before .before .before .before .before .before .before .before .before .pre .1 .0) .register) ((c .before .before .before .before .before .before .before .before .before .before .before .before .before .pre .1 .0) .read))))))
 
 show-loop-less-2 : (t : ℕ) → show-lts.Need-loop-less-2 (
-  wide-reads.Asked,
-  wide-reads.Learnt,
+  octet-reads.Asked,
+  octet-reads.Learnt,
   fill-dropped-reads.Asked,
   fill-dropped-reads.Learnt,
   onward-reads.Asked,
@@ -253,11 +253,11 @@ show-loop-less-2 : (t : ℕ) → show-lts.Need-loop-less-2 (
   show.Post,
 ) (show-at t) show.Post show-Inv-loop show-μ-loop
 show-loop-less-2 t c =
-    omega (arith, c .before .before .before .before .before .before .before .before .before .loop-test .taken, c .before .before .before .before .before .before .before .before .before .before .before .wide .ensures .0, c .before .before .before .before .before .before .before .wide2 .ensures .0, drawn-next (c .before .before .before .before .before .before .before .before .before .before .loop .inv .1 (c .before .before .before .before .before .before .before .before .before .before .before .before .before .before .before .before .pre .1 .0) (c .before .before .before .before .before .before .before .before .before .before .before .before .before .before .before .before .pre .1 .1 .1)) (omega (arith, c .before .before .before .before .before .before .before .before .before .loop-test .taken, c .before .before .before .before .before .before .before .before .before .before .before .wide .ensures .0)) .0)
+    omega (arith, c .before .before .before .before .before .before .before .before .before .loop-test .taken, c .before .before .before .before .before .before .before .before .before .before .before .octet .ensures .0, c .before .before .before .before .before .before .before .octet2 .ensures .0, drawn-next (c .before .before .before .before .before .before .before .before .before .before .loop .inv .1 (c .before .before .before .before .before .before .before .before .before .before .before .before .before .before .before .before .pre .1 .0) (c .before .before .before .before .before .before .before .before .before .before .before .before .before .before .before .before .pre .1 .1 .1)) (omega (arith, c .before .before .before .before .before .before .before .before .before .loop-test .taken, c .before .before .before .before .before .before .before .before .before .before .before .octet .ensures .0)) .0)
 
 show-loop-again-2 : (t : ℕ) → show-lts.Need-loop-again-2 (
-  wide-reads.Asked,
-  wide-reads.Learnt,
+  octet-reads.Asked,
+  octet-reads.Learnt,
   fill-dropped-reads.Asked,
   fill-dropped-reads.Learnt,
   onward-reads.Asked,
@@ -266,11 +266,11 @@ show-loop-again-2 : (t : ℕ) → show-lts.Need-loop-again-2 (
   show.Post,
 ) (show-at t) show.Post show-Inv-loop show-μ-loop
 show-loop-again-2 t c =
-    (c .before .before .show .kept .1 .1 .1 .1 .1 .1 .1 .1 .1 .0 ∙ c .before .before .before .before .before .before .before .before .before .before .loop .inv .0, λ k o. drawn-is (drawn-child (c .before .before .before .before .before .before .before .before .before .before .loop .inv .1 k o) (omega (arith, c .before .before .before .before .before .before .before .before .before .loop-test .taken, c .before .before .before .before .before .before .before .before .before .before .before .wide .ensures .0)) (c .before .before .before .before .before .if1 .left) .then _ (c .before .before .before .before .before .before .before .wide2 .ensures .0)) (c .before .before .show .ensures (trace-child k (c .before .before .before .before .before .before .before .before .before .before .loop .inv .1 k o) (omega (arith, c .before .before .before .before .before .before .before .before .before .loop-test .taken, c .before .before .before .before .before .before .before .before .before .before .before .wide .ensures .0)) (c .before .before .before .before .before .if1 .left)) (trace-goes k (bytes-known (c .before .before .before .before .before .before .before .before .before .before .before .before .before .before .before .before .args .s .now) (c .before .before .before .before .before .before .before .before .before .before .before .before .before .before .before .shared-slice-known .given)) _ o (c .before .before .before .before .before .before .before .before .before .before .loop .inv .1 k o) (omega (arith, c .before .before .before .before .before .before .before .before .before .loop-test .taken, c .before .before .before .before .before .before .before .before .before .before .before .wide .ensures .0)) (c .before .before .before .before .before .if1 .left) _ (c .before .before .before .before .onward .ensures .0) (c .before .before .before .before .onward .ensures .1 (k .register) (k .read)))))
+    (c .before .before .show .kept .1 .1 .1 .1 .1 .1 .1 .1 .1 .0 ∙ c .before .before .before .before .before .before .before .before .before .before .loop .inv .0, λ k o. drawn-is (drawn-child (c .before .before .before .before .before .before .before .before .before .before .loop .inv .1 k o) (omega (arith, c .before .before .before .before .before .before .before .before .before .loop-test .taken, c .before .before .before .before .before .before .before .before .before .before .before .octet .ensures .0)) (c .before .before .before .before .before .if1 .left) .then _ (c .before .before .before .before .before .before .before .octet2 .ensures .0)) (c .before .before .show .ensures (trace-child k (c .before .before .before .before .before .before .before .before .before .before .loop .inv .1 k o) (omega (arith, c .before .before .before .before .before .before .before .before .before .loop-test .taken, c .before .before .before .before .before .before .before .before .before .before .before .octet .ensures .0)) (c .before .before .before .before .before .if1 .left)) (trace-goes k (bytes-known (c .before .before .before .before .before .before .before .before .before .before .before .before .before .before .before .before .args .s .now) (c .before .before .before .before .before .before .before .before .before .before .before .before .before .before .before .shared-slice-known .given)) _ o (c .before .before .before .before .before .before .before .before .before .before .loop .inv .1 k o) (omega (arith, c .before .before .before .before .before .before .before .before .before .loop-test .taken, c .before .before .before .before .before .before .before .before .before .before .before .octet .ensures .0)) (c .before .before .before .before .before .if1 .left) _ (c .before .before .before .before .onward .ensures .0) (c .before .before .before .before .onward .ensures .1 (k .register) (k .read)))))
 
 show-same-length : (t : ℕ) → show-lts.Need-same-length (
-  wide-reads.Asked,
-  wide-reads.Learnt,
+  octet-reads.Asked,
+  octet-reads.Learnt,
   fill-dropped-reads.Asked,
   fill-dropped-reads.Learnt,
   onward-reads.Asked,
@@ -282,8 +282,8 @@ show-same-length t c =
     c .before .loop .inv .0 ∙ length-set (c .before .before .before .before .before .before .before .args .map .now) (c .before .before .before .before .before .before .before .args .node) (c .before .before .before .before .before .before .before .args .item)
 
 show-returns : (t : ℕ) → show-lts.Need-returns (
-  wide-reads.Asked,
-  wide-reads.Learnt,
+  octet-reads.Asked,
+  octet-reads.Learnt,
   fill-dropped-reads.Asked,
   fill-dropped-reads.Learnt,
   onward-reads.Asked,
@@ -292,12 +292,12 @@ show-returns : (t : ℕ) → show-lts.Need-returns (
   show.Post,
 ) (show-at t) show.Post show-Inv-loop show-μ-loop
 show-returns t c =
-    λ k o. trace-end k (o .to) _ _ _ _ (o .same) (c .before .loop .inv .1 k o) (omega (arith, c .loop-test .left, c .before .before .wide .ensures .0))
+    λ k o. trace-end k (o .to) _ _ _ _ (o .same) (c .before .loop .inv .1 k o) (omega (arith, c .loop-test .left, c .before .before .octet .ensures .0))
 
 pub +show-spec : {M : Type 1} → statement M
 +show-spec = close μ-show λ t. show-lts.spec (
-  wide-reads.Asked,
-  wide-reads.Learnt,
+  octet-reads.Asked,
+  octet-reads.Learnt,
   fill-dropped-reads.Asked,
   fill-dropped-reads.Learnt,
   onward-reads.Asked,
@@ -312,12 +312,12 @@ pub +show-spec : {M : Type 1} → statement M
     (show-cast-map t)
     (show-mul-map t)
     (show-slice-write-map t)
-    (show-element-copy-out-wide t)
-    (show-wide-requires t)
+    (show-element-copy-out-octet t)
+    (show-octet-requires t)
     (show-add-c t)
     (show-loop-holds t)
-    (show-element-copy-out-wide-2 t)
-    (show-wide-requires-2 t)
+    (show-element-copy-out-octet-2 t)
+    (show-octet-requires-2 t)
     (show-element-copy-out-if1 t)
     (show-fill-dropped-requires t)
     (show-loop-less t)

@@ -31,12 +31,12 @@ first-link-requires : tie.Need-first-link-requires
 first-link-requires c κs =
     record { register = c .before .before .before .before .before .before .before .before .before .before .pre .0 .register; read = c .before .before .before .before .before .before .before .before .before .before .pre .0 .read; holds = (c .before .before .before .before .before .before .before .before .before .before .pre .0 .items-are, c .before .before .before .before .before .before .before .before .before .before .pre .0 .links-are) }
 
-element-copy-out-wide : tie.Need-element-copy-out-wide
-element-copy-out-wide c =
+element-copy-out-octet : tie.Need-element-copy-out-octet
+element-copy-out-octet c =
     omega (arith, here (c .before .before .before .before .before .before .before .before .before .before .before .pre .0) .1)
 
-wide-requires : tie.Need-wide-requires
-wide-requires c κs = search needs
+octet-requires : tie.Need-octet-requires
+octet-requires c κs = search needs
 
 array-share-prefix-sub : tie.Need-array-share-prefix-sub
 array-share-prefix-sub c =
@@ -50,15 +50,15 @@ scan-requires : tie.Need-scan-requires
 scan-requires c κs =
     (record { register = c .before .before .before .before .before .before .before .before .before .before .before .before .before .before .pre .0 .register; read = c .before .before .before .before .before .before .before .before .before .before .before .before .before .before .pre .0 .read; holds = (c .before .before .before .before .before .before .before .before .before .before .before .before .before .before .pre .0 .items-are, c .before .before .before .before .before .before .before .before .before .before .before .before .before .before .pre .0 .links-are, c .before .before .before .first-link .ensures (c .before .before .before .before .before .before .before .before .before .before .before .before .before .before .pre .0 .register) (c .before .before .before .before .before .before .before .before .before .before .before .before .before .before .pre .0 .read)) }, (c .before .before .before .before .before .before .before .before .before .before .before .before .before .before .pre .0 .most, back-length (c .before .before .before .before .before .before .before .before .before .before .before .before .before .before .args .items) (c .before .before .before .before .before .before .before .before .before .before .before .before .before .before .pre .0 .most) (c .before .before .before .before .before .before .before .before .work .last .1 .1 .1 .1 .1 .1 .1 .1 .1 .1 .0) (c .before .before .before .before .before .before .before .before .work .kept .1 .1 .1 .1 .1 .1 .1 .1 .1 .1 .0)))
 
-broad-requires : tie.Need-broad-requires
-broad-requires c κs = search needs
+quad-requires : tie.Need-quad-requires
+quad-requires c κs = search needs
 
 same-length : tie.Need-same-length
 same-length c = search needs
 
 returns : tie.Need-returns
 returns c =
-    (λ k. case-chosen k (bytes-known (c .before .before .before .before .before .before .before .before .before .before .before .before .before .before .before .before .args .s .now) (c .before .before .before .before .before .before .before .before .before .before .before .before .before .before .before .shared-slice-known .given)) _ _ (c .before .before .before .before .before .before .before .before .before .before .work .last .1 .1 .1 .1 .1 .1 .1 .1 .1 .1 .0) (back (c .before .before .before .before .before .before .before .before .before .before .before .before .before .before .before .before .args .items) (c .before .before .before .before .before .before .before .before .before .before .work .last .1 .1 .1 .1 .1 .1 .1 .1 .1 .1 .0)) (c .before .before .before .before .before .before .before .before .before .before .work .ensures .0 k) (back-same (c .before .before .before .before .before .before .before .before .before .before .before .before .before .before .before .before .args .items) (c .before .before .before .before .before .before .before .before .before .before .before .before .before .before .before .before .pre .0 .most) (c .before .before .before .before .before .before .before .before .before .before .work .last .1 .1 .1 .1 .1 .1 .1 .1 .1 .1 .0) (c .before .before .before .before .before .before .before .before .before .before .work .kept .1 .1 .1 .1 .1 .1 .1 .1 .1 .1 .0)) (c .before .before .before .wide .ensures .0) _ _ _ (c .before .scan .ensures .0 (k .register) (k .read) .0) (c .broad .ensures .0), c .before .before .before .before .before .before .before .before .before .before .work .ensures .1)
+    (λ k. case-chosen k (bytes-known (c .before .before .before .before .before .before .before .before .before .before .before .before .before .before .before .before .args .s .now) (c .before .before .before .before .before .before .before .before .before .before .before .before .before .before .before .shared-slice-known .given)) _ _ (c .before .before .before .before .before .before .before .before .before .before .work .last .1 .1 .1 .1 .1 .1 .1 .1 .1 .1 .0) (back (c .before .before .before .before .before .before .before .before .before .before .before .before .before .before .before .before .args .items) (c .before .before .before .before .before .before .before .before .before .before .work .last .1 .1 .1 .1 .1 .1 .1 .1 .1 .1 .0)) (c .before .before .before .before .before .before .before .before .before .before .work .ensures .0 k) (back-same (c .before .before .before .before .before .before .before .before .before .before .before .before .before .before .before .before .args .items) (c .before .before .before .before .before .before .before .before .before .before .before .before .before .before .before .before .pre .0 .most) (c .before .before .before .before .before .before .before .before .before .before .work .last .1 .1 .1 .1 .1 .1 .1 .1 .1 .1 .0) (c .before .before .before .before .before .before .before .before .before .before .work .kept .1 .1 .1 .1 .1 .1 .1 .1 .1 .1 .0)) (c .before .before .before .octet .ensures .0) _ _ _ (c .before .scan .ensures .0 (k .register) (k .read) .0) (c .quad .ensures .0), c .before .before .before .before .before .before .before .before .before .before .work .ensures .1)
 
 pub choose-spec : {M : Type 1} → statement M
 choose-spec =
@@ -70,11 +70,11 @@ choose-spec =
     slice-aggregate-work-2
     work-requires
     first-link-requires
-    element-copy-out-wide
-    wide-requires
+    element-copy-out-octet
+    octet-requires
     array-share-prefix-sub
     slice-aggregate-scan
     scan-requires
-    broad-requires
+    quad-requires
     same-length
     returns)

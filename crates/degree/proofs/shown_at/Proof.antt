@@ -36,12 +36,12 @@ slice-write-map : tie.Need-slice-write-map Inv-loop μ-loop
 slice-write-map c =
     omega (arith, here (c .before .before .pre .0) .2, c .before .before .pre .1 .0)
 
-element-copy-out-wide : tie.Need-element-copy-out-wide Inv-loop μ-loop
-element-copy-out-wide c =
+element-copy-out-octet : tie.Need-element-copy-out-octet Inv-loop μ-loop
+element-copy-out-octet c =
     omega (arith, here (c .before .before .pre .0) .1)
 
-wide-requires : tie.Need-wide-requires Inv-loop μ-loop
-wide-requires c κs = search needs
+octet-requires : tie.Need-octet-requires Inv-loop μ-loop
+octet-requires c κs = search needs
 
 mul-begun : tie.Need-mul-begun Inv-loop μ-loop
 mul-begun c =
@@ -66,28 +66,28 @@ loop-holds : tie.Need-loop-holds Inv-loop μ-loop
 loop-holds c =
     (refl, blank-start _ _, λ k. (sum-start k _ _ (c .begun .ensures .0 ∙ ap (common (getD (c .before .before .before .before .before .before .before .args .names .now) (c .before .before .before .before .before .before .before .args .node) 0)) (c .before .names-of .ensures (k .register) (k .read))) (c .begun .ensures .1) (c .begun .ensures .2), walk-start k (some (c .before .before .before .before .before .before .before .args .item)) _))
 
-element-copy-out-wide-2 : tie.Need-element-copy-out-wide-2 Inv-loop μ-loop
-element-copy-out-wide-2 c =
-    omega (arith, c .loop-test .taken, c .before .before .before .before .before .wide .ensures .0, c .before .before .before .before .before .before .before .before .before .pre .0 .few)
+element-copy-out-octet-2 : tie.Need-element-copy-out-octet-2 Inv-loop μ-loop
+element-copy-out-octet-2 c =
+    omega (arith, c .loop-test .taken, c .before .before .before .before .before .octet .ensures .0, c .before .before .before .before .before .before .before .before .before .pre .0 .few)
 
-wide-requires-2 : tie.Need-wide-requires-2 Inv-loop μ-loop
-wide-requires-2 c κs = search needs
+octet-requires-2 : tie.Need-octet-requires-2 Inv-loop μ-loop
+octet-requires-2 c κs = search needs
 
 element-copy-out-if1 : tie.Need-element-copy-out-if1 Inv-loop μ-loop
 element-copy-out-if1 c =
-    omega (arith, c .before .before .loop-test .taken, c .before .before .before .before .before .before .before .wide .ensures .0, c .before .before .before .before .before .before .before .before .before .before .before .pre .0 .few)
+    omega (arith, c .before .before .loop-test .taken, c .before .before .before .before .before .before .before .octet .ensures .0, c .before .before .before .before .before .before .before .before .before .before .before .pre .0 .few)
 
 fill-dropped-requires : tie.Need-fill-dropped-requires Inv-loop μ-loop
 fill-dropped-requires c κs =
-    let q = drawn-next (c .before .before .before .before .before .before .loop .inv .2 (c .before .before .before .before .before .before .before .before .before .before .before .before .before .before .pre .0) .1) (omega (arith, c .before .before .before .before .before .loop-test .taken, c .before .before .before .before .before .before .before .before .before .before .wide .ensures .0)) in omega (arith, c .before .before .before .wide2 .ensures .0, c .before .before .before .before .before .before .loop .inv .0, length-set (c .before .before .before .before .before .before .before .before .before .before .before .before .before .before .args .map .now) (c .before .before .before .before .before .before .before .before .before .before .before .before .before .before .args .node) (c .before .before .before .before .before .before .before .before .before .before .before .before .before .before .args .item), c .before .before .before .before .before .before .before .before .before .before .before .before .before .before .pre .1 .0, q .0, q .1)
+    let q = drawn-next (c .before .before .before .before .before .before .loop .inv .2 (c .before .before .before .before .before .before .before .before .before .before .before .before .before .before .pre .0) .1) (omega (arith, c .before .before .before .before .before .loop-test .taken, c .before .before .before .before .before .before .before .before .before .before .octet .ensures .0)) in omega (arith, c .before .before .before .octet2 .ensures .0, c .before .before .before .before .before .before .loop .inv .0, length-set (c .before .before .before .before .before .before .before .before .before .before .before .before .before .before .args .map .now) (c .before .before .before .before .before .before .before .before .before .before .before .before .before .before .args .node) (c .before .before .before .before .before .before .before .before .before .before .before .before .before .before .args .item), c .before .before .before .before .before .before .before .before .before .before .before .before .before .before .pre .1 .0, q .0, q .1)
 
 loop-less : tie.Need-loop-less Inv-loop μ-loop
 loop-less c =
-    omega (arith, c .before .before .before .before .before .before .before .before .loop-test .taken, c .before .before .before .before .before .before .before .before .before .before .before .before .before .wide .ensures .0, c .before .before .before .before .before .before .wide2 .ensures .0, drawn-next (c .before .before .before .before .before .before .before .before .before .loop .inv .2 (c .before .before .before .before .before .before .before .before .before .before .before .before .before .before .before .before .before .pre .0) .1) (omega (arith, c .before .before .before .before .before .before .before .before .loop-test .taken, c .before .before .before .before .before .before .before .before .before .before .before .before .before .wide .ensures .0)) .0)
+    omega (arith, c .before .before .before .before .before .before .before .before .loop-test .taken, c .before .before .before .before .before .before .before .before .before .before .before .before .before .octet .ensures .0, c .before .before .before .before .before .before .octet2 .ensures .0, drawn-next (c .before .before .before .before .before .before .before .before .before .loop .inv .2 (c .before .before .before .before .before .before .before .before .before .before .before .before .before .before .before .before .before .pre .0) .1) (omega (arith, c .before .before .before .before .before .before .before .before .loop-test .taken, c .before .before .before .before .before .before .before .before .before .before .before .before .before .octet .ensures .0)) .0)
 
 loop-again : tie.Need-loop-again Inv-loop μ-loop
 loop-again c =
-    (c .before .before .fill-dropped .kept .0 ∙ c .before .before .before .before .before .before .before .before .before .loop .inv .0, blank-on (c .before .before .before .before .before .before .before .before .before .loop .inv .1) _ (omega (arith, c .before .before .before .before .before .before .wide2 .ensures .0, drawn-next (c .before .before .before .before .before .before .before .before .before .loop .inv .2 (c .before .before .before .before .before .before .before .before .before .before .before .before .before .before .before .before .before .pre .0) .1) (omega (arith, c .before .before .before .before .before .before .before .before .loop-test .taken, c .before .before .before .before .before .before .before .before .before .before .before .before .before .wide .ensures .0)) .0)), λ k. (rest-at (c .before .before .before .before .before .before .wide2 .ensures .0) (rest-skip (c .before .before .before .before .before .before .before .before .before .loop .inv .2 k .0) (omega (arith, c .before .before .before .before .before .before .before .before .loop-test .taken, c .before .before .before .before .before .before .before .before .before .before .before .before .before .wide .ensures .0)) (omega (arith, c .before .before .before .before .if1 .taken))), drawn-is (drawn-skip (c .before .before .before .before .before .before .before .before .before .loop .inv .2 k .1) (omega (arith, c .before .before .before .before .before .before .before .before .loop-test .taken, c .before .before .before .before .before .before .before .before .before .before .before .before .before .wide .ensures .0)) (omega (arith, c .before .before .before .before .if1 .taken)) _ (c .before .before .before .before .before .before .wide2 .ensures .0)) (c .before .before .fill-dropped .ensures)))
+    (c .before .before .fill-dropped .kept .0 ∙ c .before .before .before .before .before .before .before .before .before .loop .inv .0, blank-on (c .before .before .before .before .before .before .before .before .before .loop .inv .1) _ (omega (arith, c .before .before .before .before .before .before .octet2 .ensures .0, drawn-next (c .before .before .before .before .before .before .before .before .before .loop .inv .2 (c .before .before .before .before .before .before .before .before .before .before .before .before .before .before .before .before .before .pre .0) .1) (omega (arith, c .before .before .before .before .before .before .before .before .loop-test .taken, c .before .before .before .before .before .before .before .before .before .before .before .before .before .octet .ensures .0)) .0)), λ k. (rest-at (c .before .before .before .before .before .before .octet2 .ensures .0) (rest-skip (c .before .before .before .before .before .before .before .before .before .loop .inv .2 k .0) (omega (arith, c .before .before .before .before .before .before .before .before .loop-test .taken, c .before .before .before .before .before .before .before .before .before .before .before .before .before .octet .ensures .0)) (omega (arith, c .before .before .before .before .if1 .taken))), drawn-is (drawn-skip (c .before .before .before .before .before .before .before .before .before .loop .inv .2 k .1) (omega (arith, c .before .before .before .before .before .before .before .before .loop-test .taken, c .before .before .before .before .before .before .before .before .before .before .before .before .before .octet .ensures .0)) (omega (arith, c .before .before .before .before .if1 .taken)) _ (c .before .before .before .before .before .before .octet2 .ensures .0)) (c .before .before .fill-dropped .ensures)))
 
 sub-choose : tie.Need-sub-choose Inv-loop μ-loop
 sub-choose c =
@@ -103,7 +103,7 @@ slice-aggregate-choose c =
 
 choose-requires : tie.Need-choose-requires Inv-loop μ-loop
 choose-requires c κs =
-    ((walk-case (c .before .before .before .before .before .before .before .before .before .before .before .before .before .before .pre .0) (c .before .before .before .before .before .before .loop .inv .2 (c .before .before .before .before .before .before .before .before .before .before .before .before .before .before .pre .0) .1) (omega (arith, c .before .before .before .before .before .loop-test .taken, c .before .before .before .before .before .before .before .before .before .before .wide .ensures .0)) (c .before .if1 .left)), (omega (arith, lent-size (c .before .before .before .before .before .before .loop .inv .1) (c .before .before .before .before .before .before .before .before .before .before .before .before .before .before .args .links) (links-few (c .before .before .before .before .before .before .before .before .before .before .before .before .before .before .pre .0) (bytes-known (c .before .before .before .before .before .before .before .before .before .before .before .before .before .before .args .s .now) (c .before .before .before .before .before .before .before .before .before .before .before .before .before .shared-slice-known .given)))), lent-clear (c .before .before .before .before .before .before .loop .inv .1) (c .before .before .before .before .before .before .before .before .before .before .before .before .before .before .args .links) (links-few (c .before .before .before .before .before .before .before .before .before .before .before .before .before .before .pre .0) (bytes-known (c .before .before .before .before .before .before .before .before .before .before .before .before .before .before .args .s .now) (c .before .before .before .before .before .before .before .before .before .before .before .before .before .shared-slice-known .given))) _ _ (omega arith) (drawn-next (c .before .before .before .before .before .before .loop .inv .2 (c .before .before .before .before .before .before .before .before .before .before .before .before .before .before .pre .0) .1) (omega (arith, c .before .before .before .before .before .loop-test .taken, c .before .before .before .before .before .before .before .before .before .before .wide .ensures .0)) .1)))
+    ((walk-case (c .before .before .before .before .before .before .before .before .before .before .before .before .before .before .pre .0) (c .before .before .before .before .before .before .loop .inv .2 (c .before .before .before .before .before .before .before .before .before .before .before .before .before .before .pre .0) .1) (omega (arith, c .before .before .before .before .before .loop-test .taken, c .before .before .before .before .before .before .before .before .before .before .octet .ensures .0)) (c .before .if1 .left)), (omega (arith, lent-size (c .before .before .before .before .before .before .loop .inv .1) (c .before .before .before .before .before .before .before .before .before .before .before .before .before .before .args .links) (links-few (c .before .before .before .before .before .before .before .before .before .before .before .before .before .before .pre .0) (bytes-known (c .before .before .before .before .before .before .before .before .before .before .before .before .before .before .args .s .now) (c .before .before .before .before .before .before .before .before .before .before .before .before .before .shared-slice-known .given)))), lent-clear (c .before .before .before .before .before .before .loop .inv .1) (c .before .before .before .before .before .before .before .before .before .before .before .before .before .before .args .links) (links-few (c .before .before .before .before .before .before .before .before .before .before .before .before .before .before .pre .0) (bytes-known (c .before .before .before .before .before .before .before .before .before .before .before .before .before .before .args .s .now) (c .before .before .before .before .before .before .before .before .before .before .before .before .before .shared-slice-known .given))) _ _ (omega arith) (drawn-next (c .before .before .before .before .before .before .loop .inv .2 (c .before .before .before .before .before .before .before .before .before .before .before .before .before .before .pre .0) .1) (omega (arith, c .before .before .before .before .before .loop-test .taken, c .before .before .before .before .before .before .before .before .before .before .octet .ensures .0)) .1)))
 
 array-share-prefix-table : tie.Need-array-share-prefix-table Inv-loop μ-loop
 array-share-prefix-table c =
@@ -119,23 +119,23 @@ sub-show c =
 
 show-requires : tie.Need-show-requires Inv-loop μ-loop
 show-requires c κs =
-    ((case-drawing (walk-case (c .before .before .before .before .before .before .before .before .before .before .before .before .before .before .before .before .before .before .pre .0) (c .before .before .before .before .before .before .before .before .before .before .loop .inv .2 (c .before .before .before .before .before .before .before .before .before .before .before .before .before .before .before .before .before .before .pre .0) .1) (omega (arith, c .before .before .before .before .before .before .before .before .before .loop-test .taken, c .before .before .before .before .before .before .before .before .before .before .before .before .before .before .wide .ensures .0)) (c .before .before .before .before .before .if1 .left)) _ (subst (λ (z : List ℕ). Noted (c .before .before .before .before .before .before .before .before .before .before .before .before .before .before .before .before .before .before .args .items) (c .before .before .before .before .before .before .before .before .before .before .before .before .before .before .before .before .before .before .args .ends .now) (c .before .before .before .before .before .before .before .before .before .before .before .before .before .before .before .before .before .before .args .marks .now) ((c .before .before .before .before .before .before .before .before .before .before .before .before .before .before .before .before .before .before .pre .0) .register) z ((walk-case (c .before .before .before .before .before .before .before .before .before .before .before .before .before .before .before .before .before .before .pre .0) (c .before .before .before .before .before .before .before .before .before .before .loop .inv .2 (c .before .before .before .before .before .before .before .before .before .before .before .before .before .before .before .before .before .before .pre .0) .1) (omega (arith, c .before .before .before .before .before .before .before .before .before .loop-test .taken, c .before .before .before .before .before .before .before .before .before .before .before .before .before .before .wide .ensures .0)) (c .before .before .before .before .before .if1 .left)) .tree) (c .before .before .before .before .before .before .before .before .before .before .loop .c)) (sym (lent-back (c .before .before .before .before .before .before .before .before .before .before .loop .inv .1) (c .before .before .before .before .before .before .before .before .before .before .before .before .before .before .before .before .before .before .args .links) (links-few (c .before .before .before .before .before .before .before .before .before .before .before .before .before .before .before .before .before .before .pre .0) (bytes-known (c .before .before .before .before .before .before .before .before .before .before .before .before .before .before .before .before .before .before .args .s .now) (c .before .before .before .before .before .before .before .before .before .before .before .before .before .before .before .before .before .shared-slice-known .given))) (c .before .before .before .choose .last .1 .1 .1 .1 .1 .1 .1 .1 .1 .1 .0) (c .before .before .before .choose .kept .1 .1 .1 .1 .1 .1 .1 .1 .1 .1 .0))) (c .before .before .before .choose .ensures .1 .0 (walk-case (c .before .before .before .before .before .before .before .before .before .before .before .before .before .before .before .before .before .before .pre .0) (c .before .before .before .before .before .before .before .before .before .before .loop .inv .2 (c .before .before .before .before .before .before .before .before .before .before .before .before .before .before .before .before .before .before .pre .0) .1) (omega (arith, c .before .before .before .before .before .before .before .before .before .loop-test .taken, c .before .before .before .before .before .before .before .before .before .before .before .before .before .before .wide .ensures .0)) (c .before .before .before .before .before .if1 .left))))), ((omega (arith, c .before .before .before .before .before .before .before .before .before .before .loop .inv .0, length-set (c .before .before .before .before .before .before .before .before .before .before .before .before .before .before .before .before .before .before .args .map .now) (c .before .before .before .before .before .before .before .before .before .before .before .before .before .before .before .before .before .before .args .node) (c .before .before .before .before .before .before .before .before .before .before .before .before .before .before .before .before .before .before .args .item), c .before .before .before .before .before .before .before .before .before .before .before .before .before .before .before .before .before .before .pre .1 .0, drawn-next (c .before .before .before .before .before .before .before .before .before .before .loop .inv .2 (c .before .before .before .before .before .before .before .before .before .before .before .before .before .before .before .before .before .before .pre .0) .1) (omega (arith, c .before .before .before .before .before .before .before .before .before .loop-test .taken, c .before .before .before .before .before .before .before .before .before .before .before .before .before .before .wide .ensures .0)) .1), omega (arith, ap length (lent-back (c .before .before .before .before .before .before .before .before .before .before .loop .inv .1) (c .before .before .before .before .before .before .before .before .before .before .before .before .before .before .before .before .before .before .args .links) (links-few (c .before .before .before .before .before .before .before .before .before .before .before .before .before .before .before .before .before .before .pre .0) (bytes-known (c .before .before .before .before .before .before .before .before .before .before .before .before .before .before .before .before .before .before .args .s .now) (c .before .before .before .before .before .before .before .before .before .before .before .before .before .before .before .before .before .shared-slice-known .given))) (c .before .before .before .choose .last .1 .1 .1 .1 .1 .1 .1 .1 .1 .1 .0) (c .before .before .before .choose .kept .1 .1 .1 .1 .1 .1 .1 .1 .1 .1 .0)) ∙ (c .before .before .before .choose .kept .1 .1 .1 .1 .1 .1 .1 .1 .1 .1 .0) ∙ lent-size (c .before .before .before .before .before .before .before .before .before .before .loop .inv .1) (c .before .before .before .before .before .before .before .before .before .before .before .before .before .before .before .before .before .before .args .links) (links-few (c .before .before .before .before .before .before .before .before .before .before .before .before .before .before .before .before .before .before .pre .0) (bytes-known (c .before .before .before .before .before .before .before .before .before .before .before .before .before .before .before .before .before .before .args .s .now) (c .before .before .before .before .before .before .before .before .before .before .before .before .before .before .before .before .before .shared-slice-known .given))))), (walk-goes (c .before .before .before .before .before .before .before .before .before .before .before .before .before .before .before .before .before .before .pre .0) (bytes-known (c .before .before .before .before .before .before .before .before .before .before .before .before .before .before .before .before .before .before .args .s .now) (c .before .before .before .before .before .before .before .before .before .before .before .before .before .before .before .before .before .shared-slice-known .given)) _ (c .before .before .before .before .before .before .before .before .before .before .before .before .before .before .before .before .before .before .pre .1 .1) (c .before .before .before .before .before .before .before .before .before .before .loop .inv .2 (c .before .before .before .before .before .before .before .before .before .before .before .before .before .before .before .before .before .before .pre .0) .1) (omega (arith, c .before .before .before .before .before .before .before .before .before .loop-test .taken, c .before .before .before .before .before .before .before .before .before .before .before .before .before .before .wide .ensures .0)) (c .before .before .before .before .before .if1 .left) _ (c .before .before .before .choose .ensures .0 (walk-case (c .before .before .before .before .before .before .before .before .before .before .before .before .before .before .before .before .before .before .pre .0) (c .before .before .before .before .before .before .before .before .before .before .loop .inv .2 (c .before .before .before .before .before .before .before .before .before .before .before .before .before .before .before .before .before .before .pre .0) .1) (omega (arith, c .before .before .before .before .before .before .before .before .before .loop-test .taken, c .before .before .before .before .before .before .before .before .before .before .before .before .before .before .wide .ensures .0)) (c .before .before .before .before .before .if1 .left))))))
+    ((case-drawing (walk-case (c .before .before .before .before .before .before .before .before .before .before .before .before .before .before .before .before .before .before .pre .0) (c .before .before .before .before .before .before .before .before .before .before .loop .inv .2 (c .before .before .before .before .before .before .before .before .before .before .before .before .before .before .before .before .before .before .pre .0) .1) (omega (arith, c .before .before .before .before .before .before .before .before .before .loop-test .taken, c .before .before .before .before .before .before .before .before .before .before .before .before .before .before .octet .ensures .0)) (c .before .before .before .before .before .if1 .left)) _ (subst (λ (z : List ℕ). Noted (c .before .before .before .before .before .before .before .before .before .before .before .before .before .before .before .before .before .before .args .items) (c .before .before .before .before .before .before .before .before .before .before .before .before .before .before .before .before .before .before .args .ends .now) (c .before .before .before .before .before .before .before .before .before .before .before .before .before .before .before .before .before .before .args .marks .now) ((c .before .before .before .before .before .before .before .before .before .before .before .before .before .before .before .before .before .before .pre .0) .register) z ((walk-case (c .before .before .before .before .before .before .before .before .before .before .before .before .before .before .before .before .before .before .pre .0) (c .before .before .before .before .before .before .before .before .before .before .loop .inv .2 (c .before .before .before .before .before .before .before .before .before .before .before .before .before .before .before .before .before .before .pre .0) .1) (omega (arith, c .before .before .before .before .before .before .before .before .before .loop-test .taken, c .before .before .before .before .before .before .before .before .before .before .before .before .before .before .octet .ensures .0)) (c .before .before .before .before .before .if1 .left)) .tree) (c .before .before .before .before .before .before .before .before .before .before .loop .c)) (sym (lent-back (c .before .before .before .before .before .before .before .before .before .before .loop .inv .1) (c .before .before .before .before .before .before .before .before .before .before .before .before .before .before .before .before .before .before .args .links) (links-few (c .before .before .before .before .before .before .before .before .before .before .before .before .before .before .before .before .before .before .pre .0) (bytes-known (c .before .before .before .before .before .before .before .before .before .before .before .before .before .before .before .before .before .before .args .s .now) (c .before .before .before .before .before .before .before .before .before .before .before .before .before .before .before .before .before .shared-slice-known .given))) (c .before .before .before .choose .last .1 .1 .1 .1 .1 .1 .1 .1 .1 .1 .0) (c .before .before .before .choose .kept .1 .1 .1 .1 .1 .1 .1 .1 .1 .1 .0))) (c .before .before .before .choose .ensures .1 .0 (walk-case (c .before .before .before .before .before .before .before .before .before .before .before .before .before .before .before .before .before .before .pre .0) (c .before .before .before .before .before .before .before .before .before .before .loop .inv .2 (c .before .before .before .before .before .before .before .before .before .before .before .before .before .before .before .before .before .before .pre .0) .1) (omega (arith, c .before .before .before .before .before .before .before .before .before .loop-test .taken, c .before .before .before .before .before .before .before .before .before .before .before .before .before .before .octet .ensures .0)) (c .before .before .before .before .before .if1 .left))))), ((omega (arith, c .before .before .before .before .before .before .before .before .before .before .loop .inv .0, length-set (c .before .before .before .before .before .before .before .before .before .before .before .before .before .before .before .before .before .before .args .map .now) (c .before .before .before .before .before .before .before .before .before .before .before .before .before .before .before .before .before .before .args .node) (c .before .before .before .before .before .before .before .before .before .before .before .before .before .before .before .before .before .before .args .item), c .before .before .before .before .before .before .before .before .before .before .before .before .before .before .before .before .before .before .pre .1 .0, drawn-next (c .before .before .before .before .before .before .before .before .before .before .loop .inv .2 (c .before .before .before .before .before .before .before .before .before .before .before .before .before .before .before .before .before .before .pre .0) .1) (omega (arith, c .before .before .before .before .before .before .before .before .before .loop-test .taken, c .before .before .before .before .before .before .before .before .before .before .before .before .before .before .octet .ensures .0)) .1), omega (arith, ap length (lent-back (c .before .before .before .before .before .before .before .before .before .before .loop .inv .1) (c .before .before .before .before .before .before .before .before .before .before .before .before .before .before .before .before .before .before .args .links) (links-few (c .before .before .before .before .before .before .before .before .before .before .before .before .before .before .before .before .before .before .pre .0) (bytes-known (c .before .before .before .before .before .before .before .before .before .before .before .before .before .before .before .before .before .before .args .s .now) (c .before .before .before .before .before .before .before .before .before .before .before .before .before .before .before .before .before .shared-slice-known .given))) (c .before .before .before .choose .last .1 .1 .1 .1 .1 .1 .1 .1 .1 .1 .0) (c .before .before .before .choose .kept .1 .1 .1 .1 .1 .1 .1 .1 .1 .1 .0)) ∙ (c .before .before .before .choose .kept .1 .1 .1 .1 .1 .1 .1 .1 .1 .1 .0) ∙ lent-size (c .before .before .before .before .before .before .before .before .before .before .loop .inv .1) (c .before .before .before .before .before .before .before .before .before .before .before .before .before .before .before .before .before .before .args .links) (links-few (c .before .before .before .before .before .before .before .before .before .before .before .before .before .before .before .before .before .before .pre .0) (bytes-known (c .before .before .before .before .before .before .before .before .before .before .before .before .before .before .before .before .before .before .args .s .now) (c .before .before .before .before .before .before .before .before .before .before .before .before .before .before .before .before .before .shared-slice-known .given))))), (walk-goes (c .before .before .before .before .before .before .before .before .before .before .before .before .before .before .before .before .before .before .pre .0) (bytes-known (c .before .before .before .before .before .before .before .before .before .before .before .before .before .before .before .before .before .before .args .s .now) (c .before .before .before .before .before .before .before .before .before .before .before .before .before .before .before .before .before .shared-slice-known .given)) _ (c .before .before .before .before .before .before .before .before .before .before .before .before .before .before .before .before .before .before .pre .1 .1) (c .before .before .before .before .before .before .before .before .before .before .loop .inv .2 (c .before .before .before .before .before .before .before .before .before .before .before .before .before .before .before .before .before .before .pre .0) .1) (omega (arith, c .before .before .before .before .before .before .before .before .before .loop-test .taken, c .before .before .before .before .before .before .before .before .before .before .before .before .before .before .octet .ensures .0)) (c .before .before .before .before .before .if1 .left) _ (c .before .before .before .choose .ensures .0 (walk-case (c .before .before .before .before .before .before .before .before .before .before .before .before .before .before .before .before .before .before .pre .0) (c .before .before .before .before .before .before .before .before .before .before .loop .inv .2 (c .before .before .before .before .before .before .before .before .before .before .before .before .before .before .before .before .before .before .pre .0) .1) (omega (arith, c .before .before .before .before .before .before .before .before .before .loop-test .taken, c .before .before .before .before .before .before .before .before .before .before .before .before .before .before .octet .ensures .0)) (c .before .before .before .before .before .if1 .left))))))
 
 joined-requires : tie.Need-joined-requires Inv-loop μ-loop
 joined-requires c κs =
-    join-fits (c .before .before .before .before .before .before .before .before .before .before .before .before .before .before .before .before .before .before .before .before .before .pre .0) _ _ _ (c .before .before .before .before .before .before .before .before .before .before .before .before .before .loop .inv .2 (c .before .before .before .before .before .before .before .before .before .before .before .before .before .before .before .before .before .before .before .before .before .pre .0) .0) (omega (arith, c .before .before .before .before .before .before .before .before .before .before .before .before .loop-test .taken, c .before .before .before .before .before .before .before .before .before .before .before .before .before .before .before .before .before .wide .ensures .0)) (c .before .before .before .before .before .before .before .before .if1 .left) _ (c .before .before .before .before .before .before .choose .ensures .0 (child-case (c .before .before .before .before .before .before .before .before .before .before .before .before .before .before .before .before .before .before .before .before .before .pre .0) (c .before .before .before .before .before .before .before .before .before .before .before .before .before .loop .inv .2 (c .before .before .before .before .before .before .before .before .before .before .before .before .before .before .before .before .before .before .before .before .before .pre .0) .0) (omega (arith, c .before .before .before .before .before .before .before .before .before .before .before .before .loop-test .taken, c .before .before .before .before .before .before .before .before .before .before .before .before .before .before .before .before .before .wide .ensures .0)) (c .before .before .before .before .before .before .before .before .if1 .left)))
+    join-fits (c .before .before .before .before .before .before .before .before .before .before .before .before .before .before .before .before .before .before .before .before .before .pre .0) _ _ _ (c .before .before .before .before .before .before .before .before .before .before .before .before .before .loop .inv .2 (c .before .before .before .before .before .before .before .before .before .before .before .before .before .before .before .before .before .before .before .before .before .pre .0) .0) (omega (arith, c .before .before .before .before .before .before .before .before .before .before .before .before .loop-test .taken, c .before .before .before .before .before .before .before .before .before .before .before .before .before .before .before .before .before .octet .ensures .0)) (c .before .before .before .before .before .before .before .before .if1 .left) _ (c .before .before .before .before .before .before .choose .ensures .0 (child-case (c .before .before .before .before .before .before .before .before .before .before .before .before .before .before .before .before .before .before .before .before .before .pre .0) (c .before .before .before .before .before .before .before .before .before .before .before .before .before .loop .inv .2 (c .before .before .before .before .before .before .before .before .before .before .before .before .before .before .before .before .before .before .before .before .before .pre .0) .0) (omega (arith, c .before .before .before .before .before .before .before .before .before .before .before .before .loop-test .taken, c .before .before .before .before .before .before .before .before .before .before .before .before .before .before .before .before .before .octet .ensures .0)) (c .before .before .before .before .before .before .before .before .if1 .left)))
 
 loop-less-2 : tie.Need-loop-less-2 Inv-loop μ-loop
 loop-less-2 c =
-    omega (arith, c .before .before .before .before .before .before .before .before .before .before .before .before .before .loop-test .taken, c .before .before .before .before .before .before .before .before .before .before .before .before .before .before .before .before .before .before .wide .ensures .0, c .before .before .before .before .before .before .before .before .before .before .before .wide2 .ensures .0, drawn-next (c .before .before .before .before .before .before .before .before .before .before .before .before .before .before .loop .inv .2 (c .before .before .before .before .before .before .before .before .before .before .before .before .before .before .before .before .before .before .before .before .before .before .pre .0) .1) (omega (arith, c .before .before .before .before .before .before .before .before .before .before .before .before .before .loop-test .taken, c .before .before .before .before .before .before .before .before .before .before .before .before .before .before .before .before .before .before .wide .ensures .0)) .0)
+    omega (arith, c .before .before .before .before .before .before .before .before .before .before .before .before .before .loop-test .taken, c .before .before .before .before .before .before .before .before .before .before .before .before .before .before .before .before .before .before .octet .ensures .0, c .before .before .before .before .before .before .before .before .before .before .before .octet2 .ensures .0, drawn-next (c .before .before .before .before .before .before .before .before .before .before .before .before .before .before .loop .inv .2 (c .before .before .before .before .before .before .before .before .before .before .before .before .before .before .before .before .before .before .before .before .before .before .pre .0) .1) (omega (arith, c .before .before .before .before .before .before .before .before .before .before .before .before .before .loop-test .taken, c .before .before .before .before .before .before .before .before .before .before .before .before .before .before .before .before .before .before .octet .ensures .0)) .0)
 
 loop-again-2 : tie.Need-loop-again-2 Inv-loop μ-loop
 loop-again-2 c =
-    (c .before .before .before .show .kept .1 .1 .1 .1 .1 .1 .1 .1 .1 .0 ∙ c .before .before .before .before .before .before .before .before .before .before .before .before .before .before .loop .inv .0, blank-next (c .before .before .before .before .before .before .before .before .before .before .before .before .before .before .loop .inv .1) (c .before .before .before .before .before .before .before .before .before .before .before .before .before .before .before .before .before .before .before .before .before .before .args .links) (links-few (c .before .before .before .before .before .before .before .before .before .before .before .before .before .before .before .before .before .before .before .before .before .before .pre .0) (bytes-known (c .before .before .before .before .before .before .before .before .before .before .before .before .before .before .before .before .before .before .before .before .before .before .args .s .now) (c .before .before .before .before .before .before .before .before .before .before .before .before .before .before .before .before .before .before .before .before .before .shared-slice-known .given))) (c .before .before .before .before .before .before .before .choose .last .1 .1 .1 .1 .1 .1 .1 .1 .1 .1 .0) (c .before .before .before .before .before .before .before .choose .kept .1 .1 .1 .1 .1 .1 .1 .1 .1 .1 .0) _ _ (subst (λ (z : ℕ). Outside (c .before .before .before .before .before .before .before .before .before .before .before .before .before .before .loop .c + 1) z (take (c .before .before .before .before .before .before .before .before .before .before .before .before .before .before .before .before .before .before .before .before .before .before .args .links) (c .before .before .before .before .before .before .before .before .before .before .before .before .before .before .loop .table)) (c .before .before .before .before .before .before .before .choose .last .1 .1 .1 .1 .1 .1 .1 .1 .1 .1 .0)) (sym (c .before .before .before .before .before .before .before .before .before .before .before .wide2 .ensures .0)) (c .before .before .before .before .before .before .before .choose .ensures .1 .1)) (omega (arith, c .before .before .before .before .before .before .before .before .before .before .before .wide2 .ensures .0, drawn-next (c .before .before .before .before .before .before .before .before .before .before .before .before .before .before .loop .inv .2 (c .before .before .before .before .before .before .before .before .before .before .before .before .before .before .before .before .before .before .before .before .before .before .pre .0) .1) (omega (arith, c .before .before .before .before .before .before .before .before .before .before .before .before .before .loop-test .taken, c .before .before .before .before .before .before .before .before .before .before .before .before .before .before .before .before .before .before .wide .ensures .0)) .0)), λ k. (rest-at (c .before .before .before .before .before .before .before .before .before .before .before .wide2 .ensures .0) (join-next k _ _ _ (c .before .before .before .before .before .before .before .before .before .before .before .before .before .before .loop .inv .2 k .0) (omega (arith, c .before .before .before .before .before .before .before .before .before .before .before .before .before .loop-test .taken, c .before .before .before .before .before .before .before .before .before .before .before .before .before .before .before .before .before .before .wide .ensures .0)) (c .before .before .before .before .before .before .before .before .before .if1 .left) _ (c .before .before .before .before .before .before .before .choose .ensures .0 (child-case k (c .before .before .before .before .before .before .before .before .before .before .before .before .before .before .loop .inv .2 k .0) (omega (arith, c .before .before .before .before .before .before .before .before .before .before .before .before .before .loop-test .taken, c .before .before .before .before .before .before .before .before .before .before .before .before .before .before .before .before .before .before .wide .ensures .0)) (c .before .before .before .before .before .before .before .before .before .if1 .left))) _ (c .joined .ensures)), drawn-is (drawn-child (c .before .before .before .before .before .before .before .before .before .before .before .before .before .before .loop .inv .2 k .1) (omega (arith, c .before .before .before .before .before .before .before .before .before .before .before .before .before .loop-test .taken, c .before .before .before .before .before .before .before .before .before .before .before .before .before .before .before .before .before .before .wide .ensures .0)) (c .before .before .before .before .before .before .before .before .before .if1 .left) .then _ (c .before .before .before .before .before .before .before .before .before .before .before .wide2 .ensures .0)) (c .before .before .before .show .ensures (case-drawing (walk-case k (c .before .before .before .before .before .before .before .before .before .before .before .before .before .before .loop .inv .2 k .1) (omega (arith, c .before .before .before .before .before .before .before .before .before .before .before .before .before .loop-test .taken, c .before .before .before .before .before .before .before .before .before .before .before .before .before .before .before .before .before .before .wide .ensures .0)) (c .before .before .before .before .before .before .before .before .before .if1 .left)) _ (subst (λ (z : List ℕ). Noted (c .before .before .before .before .before .before .before .before .before .before .before .before .before .before .before .before .before .before .before .before .before .before .args .items) (c .before .before .before .before .before .before .before .before .before .before .before .before .before .before .before .before .before .before .before .before .before .before .args .ends .now) (c .before .before .before .before .before .before .before .before .before .before .before .before .before .before .before .before .before .before .before .before .before .before .args .marks .now) (k .register) z ((walk-case k (c .before .before .before .before .before .before .before .before .before .before .before .before .before .before .loop .inv .2 k .1) (omega (arith, c .before .before .before .before .before .before .before .before .before .before .before .before .before .loop-test .taken, c .before .before .before .before .before .before .before .before .before .before .before .before .before .before .before .before .before .before .wide .ensures .0)) (c .before .before .before .before .before .before .before .before .before .if1 .left)) .tree) (c .before .before .before .before .before .before .before .before .before .before .before .before .before .before .loop .c)) (sym (lent-back (c .before .before .before .before .before .before .before .before .before .before .before .before .before .before .loop .inv .1) (c .before .before .before .before .before .before .before .before .before .before .before .before .before .before .before .before .before .before .before .before .before .before .args .links) (links-few (c .before .before .before .before .before .before .before .before .before .before .before .before .before .before .before .before .before .before .before .before .before .before .pre .0) (bytes-known (c .before .before .before .before .before .before .before .before .before .before .before .before .before .before .before .before .before .before .before .before .before .before .args .s .now) (c .before .before .before .before .before .before .before .before .before .before .before .before .before .before .before .before .before .before .before .before .before .shared-slice-known .given))) (c .before .before .before .before .before .before .before .choose .last .1 .1 .1 .1 .1 .1 .1 .1 .1 .1 .0) (c .before .before .before .before .before .before .before .choose .kept .1 .1 .1 .1 .1 .1 .1 .1 .1 .1 .0))) (c .before .before .before .before .before .before .before .choose .ensures .1 .0 (walk-case k (c .before .before .before .before .before .before .before .before .before .before .before .before .before .before .loop .inv .2 k .1) (omega (arith, c .before .before .before .before .before .before .before .before .before .before .before .before .before .loop-test .taken, c .before .before .before .before .before .before .before .before .before .before .before .before .before .before .before .before .before .before .wide .ensures .0)) (c .before .before .before .before .before .before .before .before .before .if1 .left))))) (walk-goes k (bytes-known (c .before .before .before .before .before .before .before .before .before .before .before .before .before .before .before .before .before .before .before .before .before .before .args .s .now) (c .before .before .before .before .before .before .before .before .before .before .before .before .before .before .before .before .before .before .before .before .before .shared-slice-known .given)) _ (c .before .before .before .before .before .before .before .before .before .before .before .before .before .before .before .before .before .before .before .before .before .before .pre .1 .1) (c .before .before .before .before .before .before .before .before .before .before .before .before .before .before .loop .inv .2 k .1) (omega (arith, c .before .before .before .before .before .before .before .before .before .before .before .before .before .loop-test .taken, c .before .before .before .before .before .before .before .before .before .before .before .before .before .before .before .before .before .before .wide .ensures .0)) (c .before .before .before .before .before .before .before .before .before .if1 .left) _ (c .before .before .before .before .before .before .before .choose .ensures .0 (walk-case k (c .before .before .before .before .before .before .before .before .before .before .before .before .before .before .loop .inv .2 k .1) (omega (arith, c .before .before .before .before .before .before .before .before .before .before .before .before .before .loop-test .taken, c .before .before .before .before .before .before .before .before .before .before .before .before .before .before .before .before .before .before .wide .ensures .0)) (c .before .before .before .before .before .before .before .before .before .if1 .left)))))))
+    (c .before .before .before .show .kept .1 .1 .1 .1 .1 .1 .1 .1 .1 .0 ∙ c .before .before .before .before .before .before .before .before .before .before .before .before .before .before .loop .inv .0, blank-next (c .before .before .before .before .before .before .before .before .before .before .before .before .before .before .loop .inv .1) (c .before .before .before .before .before .before .before .before .before .before .before .before .before .before .before .before .before .before .before .before .before .before .args .links) (links-few (c .before .before .before .before .before .before .before .before .before .before .before .before .before .before .before .before .before .before .before .before .before .before .pre .0) (bytes-known (c .before .before .before .before .before .before .before .before .before .before .before .before .before .before .before .before .before .before .before .before .before .before .args .s .now) (c .before .before .before .before .before .before .before .before .before .before .before .before .before .before .before .before .before .before .before .before .before .shared-slice-known .given))) (c .before .before .before .before .before .before .before .choose .last .1 .1 .1 .1 .1 .1 .1 .1 .1 .1 .0) (c .before .before .before .before .before .before .before .choose .kept .1 .1 .1 .1 .1 .1 .1 .1 .1 .1 .0) _ _ (subst (λ (z : ℕ). Outside (c .before .before .before .before .before .before .before .before .before .before .before .before .before .before .loop .c + 1) z (take (c .before .before .before .before .before .before .before .before .before .before .before .before .before .before .before .before .before .before .before .before .before .before .args .links) (c .before .before .before .before .before .before .before .before .before .before .before .before .before .before .loop .table)) (c .before .before .before .before .before .before .before .choose .last .1 .1 .1 .1 .1 .1 .1 .1 .1 .1 .0)) (sym (c .before .before .before .before .before .before .before .before .before .before .before .octet2 .ensures .0)) (c .before .before .before .before .before .before .before .choose .ensures .1 .1)) (omega (arith, c .before .before .before .before .before .before .before .before .before .before .before .octet2 .ensures .0, drawn-next (c .before .before .before .before .before .before .before .before .before .before .before .before .before .before .loop .inv .2 (c .before .before .before .before .before .before .before .before .before .before .before .before .before .before .before .before .before .before .before .before .before .before .pre .0) .1) (omega (arith, c .before .before .before .before .before .before .before .before .before .before .before .before .before .loop-test .taken, c .before .before .before .before .before .before .before .before .before .before .before .before .before .before .before .before .before .before .octet .ensures .0)) .0)), λ k. (rest-at (c .before .before .before .before .before .before .before .before .before .before .before .octet2 .ensures .0) (join-next k _ _ _ (c .before .before .before .before .before .before .before .before .before .before .before .before .before .before .loop .inv .2 k .0) (omega (arith, c .before .before .before .before .before .before .before .before .before .before .before .before .before .loop-test .taken, c .before .before .before .before .before .before .before .before .before .before .before .before .before .before .before .before .before .before .octet .ensures .0)) (c .before .before .before .before .before .before .before .before .before .if1 .left) _ (c .before .before .before .before .before .before .before .choose .ensures .0 (child-case k (c .before .before .before .before .before .before .before .before .before .before .before .before .before .before .loop .inv .2 k .0) (omega (arith, c .before .before .before .before .before .before .before .before .before .before .before .before .before .loop-test .taken, c .before .before .before .before .before .before .before .before .before .before .before .before .before .before .before .before .before .before .octet .ensures .0)) (c .before .before .before .before .before .before .before .before .before .if1 .left))) _ (c .joined .ensures)), drawn-is (drawn-child (c .before .before .before .before .before .before .before .before .before .before .before .before .before .before .loop .inv .2 k .1) (omega (arith, c .before .before .before .before .before .before .before .before .before .before .before .before .before .loop-test .taken, c .before .before .before .before .before .before .before .before .before .before .before .before .before .before .before .before .before .before .octet .ensures .0)) (c .before .before .before .before .before .before .before .before .before .if1 .left) .then _ (c .before .before .before .before .before .before .before .before .before .before .before .octet2 .ensures .0)) (c .before .before .before .show .ensures (case-drawing (walk-case k (c .before .before .before .before .before .before .before .before .before .before .before .before .before .before .loop .inv .2 k .1) (omega (arith, c .before .before .before .before .before .before .before .before .before .before .before .before .before .loop-test .taken, c .before .before .before .before .before .before .before .before .before .before .before .before .before .before .before .before .before .before .octet .ensures .0)) (c .before .before .before .before .before .before .before .before .before .if1 .left)) _ (subst (λ (z : List ℕ). Noted (c .before .before .before .before .before .before .before .before .before .before .before .before .before .before .before .before .before .before .before .before .before .before .args .items) (c .before .before .before .before .before .before .before .before .before .before .before .before .before .before .before .before .before .before .before .before .before .before .args .ends .now) (c .before .before .before .before .before .before .before .before .before .before .before .before .before .before .before .before .before .before .before .before .before .before .args .marks .now) (k .register) z ((walk-case k (c .before .before .before .before .before .before .before .before .before .before .before .before .before .before .loop .inv .2 k .1) (omega (arith, c .before .before .before .before .before .before .before .before .before .before .before .before .before .loop-test .taken, c .before .before .before .before .before .before .before .before .before .before .before .before .before .before .before .before .before .before .octet .ensures .0)) (c .before .before .before .before .before .before .before .before .before .if1 .left)) .tree) (c .before .before .before .before .before .before .before .before .before .before .before .before .before .before .loop .c)) (sym (lent-back (c .before .before .before .before .before .before .before .before .before .before .before .before .before .before .loop .inv .1) (c .before .before .before .before .before .before .before .before .before .before .before .before .before .before .before .before .before .before .before .before .before .before .args .links) (links-few (c .before .before .before .before .before .before .before .before .before .before .before .before .before .before .before .before .before .before .before .before .before .before .pre .0) (bytes-known (c .before .before .before .before .before .before .before .before .before .before .before .before .before .before .before .before .before .before .before .before .before .before .args .s .now) (c .before .before .before .before .before .before .before .before .before .before .before .before .before .before .before .before .before .before .before .before .before .shared-slice-known .given))) (c .before .before .before .before .before .before .before .choose .last .1 .1 .1 .1 .1 .1 .1 .1 .1 .1 .0) (c .before .before .before .before .before .before .before .choose .kept .1 .1 .1 .1 .1 .1 .1 .1 .1 .1 .0))) (c .before .before .before .before .before .before .before .choose .ensures .1 .0 (walk-case k (c .before .before .before .before .before .before .before .before .before .before .before .before .before .before .loop .inv .2 k .1) (omega (arith, c .before .before .before .before .before .before .before .before .before .before .before .before .before .loop-test .taken, c .before .before .before .before .before .before .before .before .before .before .before .before .before .before .before .before .before .before .octet .ensures .0)) (c .before .before .before .before .before .before .before .before .before .if1 .left))))) (walk-goes k (bytes-known (c .before .before .before .before .before .before .before .before .before .before .before .before .before .before .before .before .before .before .before .before .before .before .args .s .now) (c .before .before .before .before .before .before .before .before .before .before .before .before .before .before .before .before .before .before .before .before .before .shared-slice-known .given)) _ (c .before .before .before .before .before .before .before .before .before .before .before .before .before .before .before .before .before .before .before .before .before .before .pre .1 .1) (c .before .before .before .before .before .before .before .before .before .before .before .before .before .before .loop .inv .2 k .1) (omega (arith, c .before .before .before .before .before .before .before .before .before .before .before .before .before .loop-test .taken, c .before .before .before .before .before .before .before .before .before .before .before .before .before .before .before .before .before .before .octet .ensures .0)) (c .before .before .before .before .before .before .before .before .before .if1 .left) _ (c .before .before .before .before .before .before .before .choose .ensures .0 (walk-case k (c .before .before .before .before .before .before .before .before .before .before .before .before .before .before .loop .inv .2 k .1) (omega (arith, c .before .before .before .before .before .before .before .before .before .before .before .before .before .loop-test .taken, c .before .before .before .before .before .before .before .before .before .before .before .before .before .before .before .before .before .before .octet .ensures .0)) (c .before .before .before .before .before .before .before .before .before .if1 .left)))))))
 
 ended-requires : tie.Need-ended-requires Inv-loop μ-loop
 ended-requires c κs =
-    sum-end (c .before .before .before .before .before .before .before .before .before .pre .0) _ _ _ (c .before .loop .inv .2 (c .before .before .before .before .before .before .before .before .before .pre .0) .0) (omega (arith, c .loop-test .left, c .before .before .before .before .before .wide .ensures .0)) .0
+    sum-end (c .before .before .before .before .before .before .before .before .before .pre .0) _ _ _ (c .before .loop .inv .2 (c .before .before .before .before .before .before .before .before .before .pre .0) .0) (omega (arith, c .loop-test .left, c .before .before .before .before .before .octet .ensures .0)) .0
 
 same-length : tie.Need-same-length Inv-loop μ-loop
 same-length c =
@@ -143,7 +143,7 @@ same-length c =
 
 returns : tie.Need-returns Inv-loop μ-loop
 returns c =
-    (λ k. sum-end k _ _ _ (c .before .before .loop .inv .2 k .0) (omega (arith, c .before .loop-test .left, c .before .before .before .before .before .before .wide .ensures .0)) .1 _ (c .ended .ensures), λ k. walk-end k (some (c .before .before .before .before .before .before .before .before .before .before .args .item)) _ _ _ _ refl (c .before .before .loop .inv .2 k .1) (omega (arith, c .before .loop-test .left, c .before .before .before .before .before .before .wide .ensures .0)))
+    (λ k. sum-end k _ _ _ (c .before .before .loop .inv .2 k .0) (omega (arith, c .before .loop-test .left, c .before .before .before .before .before .before .octet .ensures .0)) .1 _ (c .ended .ensures), λ k. walk-end k (some (c .before .before .before .before .before .before .before .before .before .before .args .item)) _ _ _ _ refl (c .before .before .loop .inv .2 k .1) (omega (arith, c .before .loop-test .left, c .before .before .before .before .before .before .octet .ensures .0)))
 
 pub shown-at-spec : {M : Type 1} → statement M
 shown-at-spec =
@@ -154,16 +154,16 @@ shown-at-spec =
     cast-map
     mul-map
     slice-write-map
-    element-copy-out-wide
-    wide-requires
+    element-copy-out-octet
+    octet-requires
     mul-begun
     element-copy-out-begun
     names-of-requires
     begun-requires
     add-c
     loop-holds
-    element-copy-out-wide-2
-    wide-requires-2
+    element-copy-out-octet-2
+    octet-requires-2
     element-copy-out-if1
     fill-dropped-requires
     loop-less

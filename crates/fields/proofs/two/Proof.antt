@@ -4,40 +4,40 @@ use Rattle.fields.proofs.two.Tie as tie
 use native.Mathlib.Omega.{arith}
 use Rattle.meaning.proofs.Reading.{number-two}
 
-shared-slice-read-wide : tie.Need-shared-slice-read-wide
-shared-slice-read-wide c = search needs
+shared-slice-read-octet : tie.Need-shared-slice-read-octet
+shared-slice-read-octet c = search needs
 
-wide-requires : tie.Need-wide-requires
-wide-requires c κs = search needs
+octet-requires : tie.Need-octet-requires
+octet-requires c κs = search needs
 
 mul-result : tie.Need-mul-result
 mul-result c = search needs
 
-add-wide : tie.Need-add-wide
-add-wide c = search needs
+add-octet : tie.Need-add-octet
+add-octet c = search needs
 
-shared-slice-read-wide-2 : tie.Need-shared-slice-read-wide-2
-shared-slice-read-wide-2 c = search needs
+shared-slice-read-octet-2 : tie.Need-shared-slice-read-octet-2
+shared-slice-read-octet-2 c = search needs
 
-wide-requires-2 : tie.Need-wide-requires-2
-wide-requires-2 c κs = search needs
+octet-requires-2 : tie.Need-octet-requires-2
+octet-requires-2 c κs = search needs
 
 add-result : tie.Need-add-result
 add-result c = search needs
 
 returns : tie.Need-returns
 returns c =
-    (omega (arith, number-two (c .before .before .before .before .before .args .s .now) (c .before .before .before .before .before .args .at), c .before .before .wide .ensures .0, c .wide2 .ensures .0), search needs)
+    (omega (arith, number-two (c .before .before .before .before .before .args .s .now) (c .before .before .before .before .before .args .at), c .before .before .octet .ensures .0, c .octet2 .ensures .0), search needs)
 
 pub two-spec : {M : Type 1} → statement M
 two-spec =
     tie.close
     (tie.spec
-    shared-slice-read-wide
-    wide-requires
+    shared-slice-read-octet
+    octet-requires
     mul-result
-    add-wide
-    shared-slice-read-wide-2
-    wide-requires-2
+    add-octet
+    shared-slice-read-octet-2
+    octet-requires-2
     add-result
     returns)

@@ -29,18 +29,18 @@ mul-marked c = search needs
 slice-read-marked : tie.Need-slice-read-marked Inv-loop μ-loop
 slice-read-marked c = search needs
 
-mul-broad : tie.Need-mul-broad Inv-loop μ-loop
-mul-broad c = search needs
+mul-quad : tie.Need-mul-quad Inv-loop μ-loop
+mul-quad c = search needs
 
-shared-slice-read-broad : tie.Need-shared-slice-read-broad Inv-loop μ-loop
-shared-slice-read-broad c = search needs
+shared-slice-read-quad : tie.Need-shared-slice-read-quad Inv-loop μ-loop
+shared-slice-read-quad c = search needs
 
-broad-requires : tie.Need-broad-requires Inv-loop μ-loop
-broad-requires c κs = search needs
+quad-requires : tie.Need-quad-requires Inv-loop μ-loop
+quad-requires c κs = search needs
 
 satisfies-requires : tie.Need-satisfies-requires Inv-loop μ-loop
 satisfies-requires c κs =
-    (c .broad .ensures .1, c .before .before .before .before .before .before .before .pre .3, c .before .before .before .before .before .before .before .pre .4, c .before .before .before .before .before .before .before .pre .5)
+    (c .quad .ensures .1, c .before .before .before .before .before .before .before .pre .3, c .before .before .before .before .before .before .before .pre .4, c .before .before .before .before .before .before .before .pre .5)
 
 marked-requires : tie.Need-marked-requires Inv-loop μ-loop
 marked-requires c κs = search needs
@@ -59,7 +59,7 @@ loop-less c = search needs
 
 loop-again : tie.Need-loop-again Inv-loop μ-loop
 loop-again c =
-    (rowed-more _ _ _ _ _ _ _ (c .before .before .before .before .before .before .loop .inv .0) (omega (arith, c .before .before .before .before .before .before .loop .inv .1, c .before .before .before .before .before .before .before .before .before .pre .1)) (c .marked .ensures) (c .before .satisfies .ensures ∙ ap (λ (z : ℕ). compares (comparison (c .before .before .before .before .before .before .before .before .before .args .how)) (z // c .before .before .before .before .before .before .before .before .before .args .scale) (c .before .before .before .before .before .before .before .before .before .args .p // c .before .before .before .before .before .before .before .before .before .args .q)) (c .before .before .broad .ensures .0)), simp length-set (c .before .before .before .before .before .before .loop .inv .1), omega arith)
+    (rowed-more _ _ _ _ _ _ _ (c .before .before .before .before .before .before .loop .inv .0) (omega (arith, c .before .before .before .before .before .before .loop .inv .1, c .before .before .before .before .before .before .before .before .before .pre .1)) (c .marked .ensures) (c .before .satisfies .ensures ∙ ap (λ (z : ℕ). compares (comparison (c .before .before .before .before .before .before .before .before .before .args .how)) (z // c .before .before .before .before .before .before .before .before .before .args .scale) (c .before .before .before .before .before .before .before .before .before .args .p // c .before .before .before .before .before .before .before .before .before .args .q)) (c .before .before .quad .ensures .0)), simp length-set (c .before .before .before .before .before .before .loop .inv .1), omega arith)
 
 same-length : tie.Need-same-length Inv-loop μ-loop
 same-length c =
@@ -78,9 +78,9 @@ judge-spec =
     loop-holds
     mul-marked
     slice-read-marked
-    mul-broad
-    shared-slice-read-broad
-    broad-requires
+    mul-quad
+    shared-slice-read-quad
+    quad-requires
     satisfies-requires
     marked-requires
     mul-table

@@ -23,18 +23,18 @@ loop-holds c =
 add-k : tie.Need-add-k Inv-loop μ-loop
 add-k c = search needs
 
-element-copy-out-wide : tie.Need-element-copy-out-wide Inv-loop μ-loop
-element-copy-out-wide c = search needs
+element-copy-out-octet : tie.Need-element-copy-out-octet Inv-loop μ-loop
+element-copy-out-octet c = search needs
 
-wide-requires : tie.Need-wide-requires Inv-loop μ-loop
-wide-requires c κs = search needs
+octet-requires : tie.Need-octet-requires Inv-loop μ-loop
+octet-requires c κs = search needs
 
 loop-less : tie.Need-loop-less Inv-loop μ-loop
 loop-less c = search needs
 
 loop-again : tie.Need-loop-again Inv-loop μ-loop
 loop-again c =
-    (through-pass _ _ _ _ _ _ _ _ (c .before .before .before .before .loop .inv .0) (c .before .wide .ensures .0) (c .if1 .taken), c .before .before .before .before .loop .inv .1, omega arith)
+    (through-pass _ _ _ _ _ _ _ _ (c .before .before .before .before .loop .inv .0) (c .before .octet .ensures .0) (c .if1 .taken), c .before .before .before .before .loop .inv .1, omega arith)
 
 keep-requires : tie.Need-keep-requires Inv-loop μ-loop
 keep-requires c κs =
@@ -45,7 +45,7 @@ loop-less-2 c = search needs
 
 loop-again-2 : tie.Need-loop-again-2 Inv-loop μ-loop
 loop-again-2 c =
-    (through-take _ _ _ _ _ _ _ _ _ (c .before .before .before .before .before .before .before .before .loop .inv .0) (c .before .before .before .before .before .wide .ensures .0) (c .before .before .before .before .if1 .left) (c .before .before .keep .ensures), c .before .before .keep .ensures .size ∙ c .before .before .before .before .before .before .before .before .loop .inv .1, omega arith)
+    (through-take _ _ _ _ _ _ _ _ _ (c .before .before .before .before .before .before .before .before .loop .inv .0) (c .before .before .before .before .before .octet .ensures .0) (c .before .before .before .before .if1 .left) (c .before .before .keep .ensures), c .before .before .keep .ensures .size ∙ c .before .before .before .before .before .before .before .before .loop .inv .1, omega arith)
 
 same-length : tie.Need-same-length Inv-loop μ-loop
 same-length c =
@@ -63,8 +63,8 @@ keep-all-spec =
     μ-loop
     loop-holds
     add-k
-    element-copy-out-wide
-    wide-requires
+    element-copy-out-octet
+    octet-requires
     loop-less
     loop-again
     keep-requires

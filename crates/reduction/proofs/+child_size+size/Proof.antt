@@ -8,7 +8,7 @@ use Rattle.reduction.proofs.size.Reads as size
 use Rattle.reduction.proofs.size.Kinds as size-kinds
 use Rattle.reduction.proofs.+child_size+size.Lts-size as size-lts
 use Rattle.reduction.proofs.named.Reads as named-reads
-use Rattle.reduction.proofs.wide.Reads as wide-reads
+use Rattle.fields.proofs.octet.Reads as octet-reads
 use Rattle.reduction.proofs.+child_size+size.{statement}
 use Rattle.reduction.proofs.+child_size+size.Tie.{close}
 use native.Mathlib.Omega.{arith}
@@ -62,8 +62,8 @@ pub +child-size+size-spec : {M : Type 1} → statement M
     (λ c. let s = c .size .ensures .small in let f = c .before .before .before .pre .1 .held .fits in omega arith)
     (λ c. kept-sized _ _ _ _ _ _ (c .before .if1 .left) (c .size .ensures)))
     λ t. size-lts.spec (
-      wide-reads.Asked,
-      wide-reads.Learnt,
+      octet-reads.Asked,
+      octet-reads.Learnt,
       named-reads.Asked,
       named-reads.Learnt,
       child-size-below t,
@@ -80,7 +80,7 @@ pub +child-size+size-spec : {M : Type 1} → statement M
     (λ c κs. search needs)
     (λ c. let a = in-range _ _ _ _ (c .before .before .before .before .pre .1 .held) in omega arith)
     (λ c. let o = inside _ _ _ _ _ (c .before .before .before .before .pre .1 .held) in
-    let e = c .before .before .wide .ensures .0 in
+    let e = c .before .before .octet .ensures .0 in
     let l = c .named .ensures .1 in
     (e, omega arith, omega arith, size-start _ _ _ _ _ (c .named .ensures .0)))
     (λ c. let o = inside _ _ _ _ _ (c .before .before .before .before .before .before .pre .1 .held) in omega arith)
@@ -93,9 +93,9 @@ pub +child-size+size-spec : {M : Type 1} → statement M
     (λ c. let f = c .before .before .before .before .before .before .before .pre .1 .held .fits in omega (arith, c .before .before .loop .inv .0))
     (λ c κs. search needs)
     (λ c. let f = size-child _ _ _ _ _ _ _ (c .before .before .before .before .loop .inv .3) (c .before .before .before .before .before .before .before .before .before .pre .1) (omega (arith, c .before .before .before .before .loop .inv .0)) in
-    omega (arith, c .wide2 .ensures .0))
+    omega (arith, c .octet2 .ensures .0))
     (λ c. let f = size-child _ _ _ _ _ _ _ (c .before .before .before .before .loop .inv .3) (c .before .before .before .before .before .before .before .before .before .pre .1) (omega (arith, c .before .before .before .before .loop .inv .0)) in
-    let e = c .wide2 .ensures .0 in (
+    let e = c .octet2 .ensures .0 in (
       c .before .before .before .before .loop .inv .0,
       omega (arith, c .before .before .before .before .loop .inv .1),
       omega (arith, c .before .before .child-size .ensures .small, c .before .before .before .before .loop .inv .0, c .before .before .before .before .loop .inv .2),

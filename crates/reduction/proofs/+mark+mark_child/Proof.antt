@@ -9,7 +9,7 @@ use Rattle.reduction.proofs.mark_child.Kinds as mark-child-kinds
 use Rattle.reduction.proofs.+mark+mark_child.Lts-mark_child as mark-child-lts
 use Rattle.reduction.proofs.dropped.Reads as dropped-reads
 use Rattle.reduction.proofs.put.Reads as put-reads
-use Rattle.reduction.proofs.wide.Reads as wide-reads
+use Rattle.fields.proofs.octet.Reads as octet-reads
 use Rattle.reduction.proofs.+mark+mark_child.{statement}
 use Rattle.reduction.proofs.+mark+mark_child.Tie.{close}
 use native.Mathlib.Omega.{arith}
@@ -52,8 +52,8 @@ mark-μ-loop names roles ends marks₀ node left end c₀ marks c =
 
 pub +mark+mark-child-spec : {M : Type 1} → statement M
 +mark+mark-child-spec = close μ-mark μ-mark-child (λ t. mark-lts.spec (
-  wide-reads.Asked,
-  wide-reads.Learnt,
+  octet-reads.Asked,
+  octet-reads.Learnt,
   mark-child-below t,
   mark-child.Post,
 )
@@ -64,7 +64,7 @@ pub +mark+mark-child-spec : {M : Type 1} → statement M
     (λ c. let a = in-range _ _ _ _ (c .pre .1) in omega arith)
     (λ c κs. search needs)
     (λ c. let a = in-range _ _ _ _ (c .before .before .pre .1) in omega arith)
-    (λ c. (c .wide .ensures .0, mark-start _ _ _ _ _ _))
+    (λ c. (c .octet .ensures .0, mark-start _ _ _ _ _ _))
     (λ c. let a = in-range _ _ _ _ (c .before .before .before .before .before .pre .1) in omega arith)
     (λ c. let o = inside _ _ _ _ _ (c .before .before .before .before .before .pre .1) in omega arith)
     (λ c κs. let o = inside _ _ _ _ _ (c .before .before .before .before .before .pre .1) in
@@ -74,8 +74,8 @@ pub +mark+mark-child-spec : {M : Type 1} → statement M
     (λ c κs. search needs)
     (λ c. let s = next-child _ _ _ _ _ _ _ _ (c .before .before .before .before .before .loop .inv .1) (c .before .before .before .before .before .before .before .before .pre .1) (omega (arith, c .before .before .before .before .before .loop .inv .0)) in
     let o = inside _ _ _ _ _ (s .here) in
-    omega (arith, c .wide2 .ensures .0))
-    (λ c. (c .before .before .before .before .before .loop .inv .0, mark-next _ _ _ _ _ _ _ _ (c .before .before .before .before .before .loop .inv .1) (omega (arith, c .before .before .before .before .before .loop .inv .0)) _ (c .before .before .before .before .before .loop .inv .0) (c .before .before .mark-child .ensures) (c .wide2 .ensures .0) (c .before .before .before .before .before .before .before .before .pre .1)))
+    omega (arith, c .octet2 .ensures .0))
+    (λ c. (c .before .before .before .before .before .loop .inv .0, mark-next _ _ _ _ _ _ _ _ (c .before .before .before .before .before .loop .inv .1) (omega (arith, c .before .before .before .before .before .loop .inv .0)) _ (c .before .before .before .before .before .loop .inv .0) (c .before .before .mark-child .ensures) (c .octet2 .ensures .0) (c .before .before .before .before .before .before .before .before .pre .1)))
     (λ c. mark-all _ _ _ _ _ _ _ _ (c .before .loop .inv .1) (omega (arith, c .before .loop .inv .0))))
     λ t. mark-child-lts.spec (
       dropped-reads.Asked,

@@ -10,7 +10,7 @@ use Rattle.reduction.proofs.+subsumes+subsumes_like+subsumes_one.Lts-su
 use Rattle.reduction.proofs.subsumes_one.Reads as subsumes-one
 use Rattle.reduction.proofs.subsumes_one.Kinds as subsumes-one-kinds
 use Rattle.reduction.proofs.+subsumes+subsumes_like+subsumes_one.Lts-subsumes_one as subsumes-one-lts
-use Rattle.reduction.proofs.wide.Reads as wide-reads
+use Rattle.fields.proofs.octet.Reads as octet-reads
 use Rattle.reduction.proofs.within.Reads as within-reads
 use Rattle.reduction.proofs.+subsumes+subsumes_like+subsumes_one.{statement}
 use Rattle.reduction.proofs.+subsumes+subsumes_like+subsumes_one.Tie.{close}
@@ -88,8 +88,8 @@ pub +subsumes+subsumes-like+subsumes-one-spec : {M : Type 1} → statement M
     close μ-subsumes μ-subsumes-like μ-subsumes-one (λ t. subsumes-lts.spec (
       within-reads.Asked,
       within-reads.Learnt,
-      wide-reads.Asked,
-      wide-reads.Learnt,
+      octet-reads.Asked,
+      octet-reads.Learnt,
       subsumes-one-below t,
       subsumes-one.Post,
     )
@@ -108,7 +108,7 @@ pub +subsumes+subsumes-like+subsumes-one-spec : {M : Type 1} → statement M
     (λ c. let a = in-range _ _ _ _ (c .before .before .before .before .before .before .pre .1 .one) in let b = in-range _ _ _ _ (c .before .before .before .before .before .before .pre .1 .other) in omega arith)
     (λ c κs. search needs)
     (λ c. let a = in-range _ _ _ _ (c .before .before .before .before .before .before .before .before .pre .1 .one) in let b = in-range _ _ _ _ (c .before .before .before .before .before .before .before .before .pre .1 .other) in omega arith)
-    (λ c. (c .before .before .wide .ensures .0, c .wide2 .ensures .0, serve-start _ _ _ _ _ _ (c .before .before .before .before .before .within .ensures) (not-false _ (c .before .before .before .before .if1 .left))))
+    (λ c. (c .before .before .octet .ensures .0, c .octet2 .ensures .0, serve-start _ _ _ _ _ _ (c .before .before .before .before .before .within .ensures) (not-false _ (c .before .before .before .before .if1 .left))))
     (λ c. let a = in-range _ _ _ _ (c .before .before .before .before .before .before .before .before .before .before .pre .1 .one) in let b = in-range _ _ _ _ (c .before .before .before .before .before .before .before .before .before .before .pre .1 .other) in omega arith)
     (λ c. let o = inside _ _ _ _ _ (c .before .before .before .before .before .before .before .before .before .before .pre .1 .other) in omega arith)
     (λ c κs. let o = inside _ _ _ _ _ (c .before .before .before .before .before .before .before .before .before .before .pre .1 .one) in
@@ -120,11 +120,11 @@ pub +subsumes+subsumes-like+subsumes-one-spec : {M : Type 1} → statement M
     (λ c. let f = c .before .before .before .before .before .before .before .before .before .before .before .before .pre .1 .one .fits in omega (arith, c .before .before .before .loop .inv .0))
     (λ c κs. search needs)
     (λ c. let f = front _ _ _ _ _ _ (left-over _ _ _ _ _ _ _ (c .before .before .before .before .before .loop .inv .2) (c .before .before .before .before .before .before .before .before .before .before .before .before .before .before .pre .1)) (omega (arith, c .before .before .before .before .before .loop .inv .0)) in
-    omega (arith, c .wide3 .ensures .0))
+    omega (arith, c .octet3 .ensures .0))
     (λ c. (
-      c .before .before .before .before .before .before .before .before .wide .ensures .0,
-      c .before .before .before .before .before .before .wide2 .ensures .0,
-      serve-next _ _ _ _ _ _ _ (c .before .before .before .before .before .loop .inv .2) (omega (arith, c .before .before .before .before .before .loop .inv .0)) (c .before .before .before .before .before .loop .inv .1) (c .before .before .before .subsumes-one .ensures) (not-false _ (c .before .before .if2 .left)) (c .wide3 .ensures .0),
+      c .before .before .before .before .before .before .before .before .octet .ensures .0,
+      c .before .before .before .before .before .before .octet2 .ensures .0,
+      serve-next _ _ _ _ _ _ _ (c .before .before .before .before .before .loop .inv .2) (omega (arith, c .before .before .before .before .before .loop .inv .0)) (c .before .before .before .before .before .loop .inv .1) (c .before .before .before .subsumes-one .ensures) (not-false _ (c .before .before .if2 .left)) (c .octet3 .ensures .0),
     ))
     (λ c. serve-all _ _ _ _ _ _ _ (c .before .loop .inv .2) (omega (arith, c .before .loop .inv .0))))
     (λ t. subsumes-like-lts.spec
@@ -137,7 +137,7 @@ pub +subsumes+subsumes-like+subsumes-one-spec : {M : Type 1} → statement M
     (λ c κs. search needs)
     (λ c. role-same _ _ _ _ _ (c .before .before .before .before .args .c) (c .before .before .before .before .args .d) (c .subsumes .ensures) (omega arith) (omega arith) (omega (arith, c .before .if1 .left))))
     λ t. subsumes-one-lts.spec
-    (subsumes-like-below t, subsumes-like.Post, wide-reads.Asked, wide-reads.Learnt)
+    (subsumes-like-below t, subsumes-like.Post, octet-reads.Asked, octet-reads.Learnt)
     (subsumes-one-at t)
     subsumes-one.Post
     subsumes-one-Inv-loop
@@ -149,6 +149,6 @@ pub +subsumes+subsumes-like+subsumes-one-spec : {M : Type 1} → statement M
     (λ c. let f = c .before .before .before .before .pre .1 .others .fits in omega arith)
     (λ c κs. search needs)
     (λ c. let f = front _ _ _ _ _ _ (unseen _ _ _ _ _ _ _ _ _ (c .before .before .before .before .before .loop .inv) (c .before .before .before .before .before .before .pre .1)) (c .before .before .before .before .loop-test .taken) in
-    omega (arith, c .wide .ensures .0))
-    (λ c. seek-next _ _ _ _ _ _ _ _ _ (c .before .before .before .before .before .loop .inv) (c .before .before .before .before .loop-test .taken) (c .before .before .before .subsumes-like .ensures) (c .before .before .if1 .left) (c .wide .ensures .0))
+    omega (arith, c .octet .ensures .0))
+    (λ c. seek-next _ _ _ _ _ _ _ _ _ (c .before .before .before .before .before .loop .inv) (c .before .before .before .before .loop-test .taken) (c .before .before .before .subsumes-like .ensures) (c .before .before .if1 .left) (c .octet .ensures .0))
     (λ c. seek-none _ _ _ _ _ _ _ _ _ (c .before .loop .inv) (c .loop-test .left))

@@ -14,20 +14,20 @@ returns : tie.Need-returns
 returns c =
     drop-before _ _ _ _ _ _ _ (c .before .yields-one .ensures) refl (c .if1 .taken)
 
-element-copy-out-wide : tie.Need-element-copy-out-wide
-element-copy-out-wide c =
+element-copy-out-octet : tie.Need-element-copy-out-octet
+element-copy-out-octet c =
     let a = in-range _ _ _ _ (c .before .before .pre .here) in omega arith
 
-wide-requires : tie.Need-wide-requires
-wide-requires c κs = search needs
+octet-requires : tie.Need-octet-requires
+octet-requires c κs = search needs
 
 yields-one-requires-2 : tie.Need-yields-one-requires-2
 yields-one-requires-2 c κs =
-    record { one = c .before .before .before .before .pre .here; others = rw (c .wide .ensures .0) (c .before .before .before .before .pre .after) }
+    record { one = c .before .before .before .before .pre .here; others = rw (c .octet .ensures .0) (c .before .before .before .before .pre .after) }
 
 returns-2 : tie.Need-returns-2
 returns-2 c =
-    drop-after _ _ _ _ _ _ _ (c .before .before .before .before .yields-one .ensures) refl _ (c .before .before .before .if1 .left) (rw (c .before .wide .ensures .0) at (c .yields-one2 .ensures)) refl
+    drop-after _ _ _ _ _ _ _ (c .before .before .before .before .yields-one .ensures) refl _ (c .before .before .before .if1 .left) (rw (c .before .octet .ensures .0) at (c .yields-one2 .ensures)) refl
 
 pub dropped-spec : {M : Type 1} → statement M
 dropped-spec =
@@ -35,7 +35,7 @@ dropped-spec =
     (tie.spec
     yields-one-requires
     returns
-    element-copy-out-wide
-    wide-requires
+    element-copy-out-octet
+    octet-requires
     yields-one-requires-2
     returns-2)

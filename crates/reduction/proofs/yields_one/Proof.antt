@@ -28,21 +28,21 @@ returns : tie.Need-returns Inv-loop μ-loop
 returns c =
     seek-found _ _ _ _ _ _ _ _ _ (c .before .before .before .loop .inv) (c .before .before .loop-test .taken) (c .before .yields .ensures) (c .if1 .taken)
 
-element-copy-out-wide : tie.Need-element-copy-out-wide Inv-loop μ-loop
-element-copy-out-wide c =
+element-copy-out-octet : tie.Need-element-copy-out-octet Inv-loop μ-loop
+element-copy-out-octet c =
     let f = c .before .before .before .before .pre .others .fits in omega arith
 
-wide-requires : tie.Need-wide-requires Inv-loop μ-loop
-wide-requires c κs = search needs
+octet-requires : tie.Need-octet-requires Inv-loop μ-loop
+octet-requires c κs = search needs
 
 loop-less : tie.Need-loop-less Inv-loop μ-loop
 loop-less c =
     let f = front _ _ _ _ _ _ (unseen _ _ _ _ _ _ _ _ _ (c .before .before .before .before .before .loop .inv) (c .before .before .before .before .before .before .pre)) (c .before .before .before .before .loop-test .taken) in
-    omega (arith, c .wide .ensures .0)
+    omega (arith, c .octet .ensures .0)
 
 loop-again : tie.Need-loop-again Inv-loop μ-loop
 loop-again c =
-    seek-next _ _ _ _ _ _ _ _ _ (c .before .before .before .before .before .loop .inv) (c .before .before .before .before .loop-test .taken) (c .before .before .before .yields .ensures) (c .before .before .if1 .left) (c .wide .ensures .0)
+    seek-next _ _ _ _ _ _ _ _ _ (c .before .before .before .before .before .loop .inv) (c .before .before .before .before .loop-test .taken) (c .before .before .before .yields .ensures) (c .before .before .if1 .left) (c .octet .ensures .0)
 
 returns-2 : tie.Need-returns-2 Inv-loop μ-loop
 returns-2 c =
@@ -57,8 +57,8 @@ yields-one-spec =
     loop-holds
     yields-requires
     returns
-    element-copy-out-wide
-    wide-requires
+    element-copy-out-octet
+    octet-requires
     loop-less
     loop-again
     returns-2)

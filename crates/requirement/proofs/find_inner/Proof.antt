@@ -5,7 +5,7 @@ use Rattle.requirement.proofs.find_inner.Reads as reads
 use Rattle.requirement.proofs.find_inner.Lts as lts
 use Rattle.fields.proofs.two.Reads as two-reads
 use Rattle.requirement.proofs.read_message.Reads as read-message-reads
-use Rattle.requirement.proofs.wide.Reads as wide-reads
+use Rattle.fields.proofs.pair.Reads as pair-reads
 use native.Mathlib.Omega.{arith}
 use Rattle.fields.proofs.Known.{bytes-known}
 use Rattle.requirement.proofs.Inner.{found, found-none, found-refused, found-room, found-place}
@@ -45,24 +45,24 @@ returns c =
     found-none (c .before .before .before .before .before .before .before .before .before .before .before .before .before .before .before .before .args .s .now) _ _ f (c .before .before .before .before .before .before .before .before .before .before .before .before .before .before .before .before .args .k) (omega (arith, c .if1 .taken))
 
 -- src/lib.rt:74:30
-mul-wide : tie.Need-mul-wide
-mul-wide c = omega (arith, found (c .before .before .before .before .before .before .before .before .before .before .before .before .before .before .before .before .args .s .now) _ _ _ _ (c .before .before .before .before .before .before .before .before .before .read-message .ensures) (c .before .before .m .given .1) .few, c .if1 .left)
+mul-pair : tie.Need-mul-pair
+mul-pair c = omega (arith, found (c .before .before .before .before .before .before .before .before .before .before .before .before .before .before .before .before .args .s .now) _ _ _ _ (c .before .before .before .before .before .before .before .before .before .read-message .ensures) (c .before .before .m .given .1) .few, c .if1 .left)
 
 -- src/lib.rt:74:30
-array-read-wide : tie.Need-array-read-wide
-array-read-wide c =
+array-read-pair : tie.Need-array-read-pair
+array-read-pair c =
     omega (arith, found (c .before .before .before .before .before .before .before .before .before .before .before .before .before .before .before .before .args .s .now) _ _ _ _ (c .before .before .before .before .before .before .before .before .before .read-message .ensures) (c .before .before .m .given .1) .few, c .if1 .left)
 
 -- src/lib.rt:74:17
-wide-requires : tie.Need-wide-requires
-wide-requires c κs = search needs
+pair-requires : tie.Need-pair-requires
+pair-requires c κs = search needs
 
 -- src/lib.rt:75:38
 add-two : tie.Need-add-two
 add-two c =
     let f = found (c .before .before .before .before .before .before .before .before .before .before .before .before .before .before .before .before .before .args .s .now) _ _ _ _ (c .before .before .before .before .before .before .before .before .before .before .read-message .ensures) (c .before .before .before .m .given .1) in
     let b = bytes-known (c .before .before .before .before .before .before .before .before .before .before .before .before .before .before .before .before .before .args .s .now) (c .before .before .before .before .before .before .before .before .before .before .before .before .before .before .before .before .shared-slice-known .given) in
-    let room = found-room (c .before .before .before .before .before .before .before .before .before .before .before .before .before .before .before .before .before .args .s .now) b _ _ f (c .before .before .before .before .before .before .before .before .before .before .before .before .before .before .before .before .before .args .k) (omega (arith, c .before .if1 .left)) (c .wide .result) (c .wide .ensures) in
+    let room = found-room (c .before .before .before .before .before .before .before .before .before .before .before .before .before .before .before .before .before .args .s .now) b _ _ f (c .before .before .before .before .before .before .before .before .before .before .before .before .before .before .before .before .before .args .k) (omega (arith, c .before .if1 .left)) (c .pair .result) (c .pair .ensures .0) in
     omega (arith, room)
 
 -- src/lib.rt:75:17
@@ -70,7 +70,7 @@ two-requires : tie.Need-two-requires
 two-requires c κs =
     let f = found (c .before .before .before .before .before .before .before .before .before .before .before .before .before .before .before .before .before .args .s .now) _ _ _ _ (c .before .before .before .before .before .before .before .before .before .before .read-message .ensures) (c .before .before .before .m .given .1) in
     let b = bytes-known (c .before .before .before .before .before .before .before .before .before .before .before .before .before .before .before .before .before .args .s .now) (c .before .before .before .before .before .before .before .before .before .before .before .before .before .before .before .before .shared-slice-known .given) in
-    let room = found-room (c .before .before .before .before .before .before .before .before .before .before .before .before .before .before .before .before .before .args .s .now) b _ _ f (c .before .before .before .before .before .before .before .before .before .before .before .before .before .before .before .before .before .args .k) (omega (arith, c .before .if1 .left)) (c .wide .result) (c .wide .ensures) in
+    let room = found-room (c .before .before .before .before .before .before .before .before .before .before .before .before .before .before .before .before .before .args .s .now) b _ _ f (c .before .before .before .before .before .before .before .before .before .before .before .before .before .before .before .before .before .args .k) (omega (arith, c .before .if1 .left)) (c .pair .result) (c .pair .ensures .0) in
     omega (arith, room)
 
 -- src/lib.rt:76:28
@@ -78,7 +78,7 @@ add-t24 : tie.Need-add-t24
 add-t24 c =
     let f = found (c .before .before .before .before .before .before .before .before .before .before .before .before .before .before .before .before .before .before .args .s .now) _ _ _ _ (c .before .before .before .before .before .before .before .before .before .before .before .read-message .ensures) (c .before .before .before .before .m .given .1) in
     let b = bytes-known (c .before .before .before .before .before .before .before .before .before .before .before .before .before .before .before .before .before .before .args .s .now) (c .before .before .before .before .before .before .before .before .before .before .before .before .before .before .before .before .before .shared-slice-known .given) in
-    let room = found-room (c .before .before .before .before .before .before .before .before .before .before .before .before .before .before .before .before .before .before .args .s .now) b _ _ f (c .before .before .before .before .before .before .before .before .before .before .before .before .before .before .before .before .before .before .args .k) (omega (arith, c .before .before .if1 .left)) (c .before .wide .result) (c .before .wide .ensures) in
+    let room = found-room (c .before .before .before .before .before .before .before .before .before .before .before .before .before .before .before .before .before .before .args .s .now) b _ _ f (c .before .before .before .before .before .before .before .before .before .before .before .before .before .before .before .before .before .before .args .k) (omega (arith, c .before .before .if1 .left)) (c .before .pair .result) (c .before .pair .ensures .0) in
     omega (arith, room)
 
 -- src/lib.rt:78:44
@@ -90,7 +90,7 @@ returns-2 : tie.Need-returns-2
 returns-2 c =
     let f = found (c .before .before .before .before .before .before .before .before .before .before .before .before .before .before .before .before .before .before .args .s .now) _ _ _ _ (c .before .before .before .before .before .before .before .before .before .before .before .read-message .ensures) (c .before .before .before .before .m .given .1) in
     let b = bytes-known (c .before .before .before .before .before .before .before .before .before .before .before .before .before .before .before .before .before .before .args .s .now) (c .before .before .before .before .before .before .before .before .before .before .before .before .before .before .before .before .before .shared-slice-known .given) in
-    found-place (c .before .before .before .before .before .before .before .before .before .before .before .before .before .before .before .before .before .before .args .s .now) b _ _ f (c .before .before .before .before .before .before .before .before .before .before .before .before .before .before .before .before .before .before .args .k) (omega (arith, c .before .before .if1 .left)) (c .before .wide .result) (c .before .wide .ensures) (c .two .result) (c .two .ensures .0)
+    found-place (c .before .before .before .before .before .before .before .before .before .before .before .before .before .before .before .before .before .before .args .s .now) b _ _ f (c .before .before .before .before .before .before .before .before .before .before .before .before .before .before .before .before .before .before .args .k) (omega (arith, c .before .before .if1 .left)) (c .before .pair .result) (c .before .pair .ensures .0) (c .two .result) (c .two .ensures .0)
 
 -- src/lib.rt:59:1
 returns-3 : tie.Need-returns-3
@@ -108,9 +108,9 @@ find-inner-spec =
     read-message-requires
     enum-known-m
     returns
-    mul-wide
-    array-read-wide
-    wide-requires
+    mul-pair
+    array-read-pair
+    pair-requires
     add-two
     two-requires
     add-t24

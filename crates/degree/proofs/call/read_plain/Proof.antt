@@ -18,11 +18,11 @@ read-message-requires c κs = search needs
 enum-known-m : tie.Need-enum-known-m
 enum-known-m c = search needs
 
-array-read-wide : tie.Need-array-read-wide
-array-read-wide c = search needs
+array-read-pair : tie.Need-array-read-pair
+array-read-pair c = search needs
 
-wide-requires : tie.Need-wide-requires
-wide-requires c κs = search needs
+pair-requires : tie.Need-pair-requires
+pair-requires c κs = search needs
 
 plain-refused-requires : tie.Need-plain-refused-requires
 plain-refused-requires c κs = search needs
@@ -32,7 +32,7 @@ returns c =
     let message = c .before .before .before .before .before .before .before .before .before .before .before .before .before .before .before .args .message .now in
     let done = c .before .before .before .before .before .before .before .before .read-message .ensures in
     let told = c .before .before .before .before .m .given .1 in
-    plain-first message _ _ done _ _ told (omega (arith, c .before .before .if1 .taken)) _ _ _ (c .before .wide .ensures) (search needs)
+    plain-first message _ _ done _ _ told (omega (arith, c .before .before .if1 .taken)) _ _ _ (c .before .pair .ensures .0) (search needs)
 
 reduce-requires : tie.Need-reduce-requires
 reduce-requires c κs =
@@ -87,8 +87,8 @@ read-plain-spec =
     slice-aggregate-read-message-2
     read-message-requires
     enum-known-m
-    array-read-wide
-    wide-requires
+    array-read-pair
+    pair-requires
     plain-refused-requires
     returns
     reduce-requires

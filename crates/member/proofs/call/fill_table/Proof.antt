@@ -24,15 +24,15 @@ loop-holds : tie.Need-loop-holds Inv-loop μ-loop
 loop-holds c =
     ((λ g e a. tabled-none (c .before .before .before .args .items) (judged g) (a .thresholds) _ (c .before .before .before .args .table .now) (omega arith)), refl, omega arith)
 
-mul-wide : tie.Need-mul-wide Inv-loop μ-loop
-mul-wide c = search needs
+mul-pair : tie.Need-mul-pair Inv-loop μ-loop
+mul-pair c = search needs
 
-element-copy-out-wide : tie.Need-element-copy-out-wide Inv-loop μ-loop
-element-copy-out-wide c =
+element-copy-out-pair : tie.Need-element-copy-out-pair Inv-loop μ-loop
+element-copy-out-pair c =
     omega (arith, c .before .before .before .before .before .pre .1 .1 .0)
 
-wide-requires : tie.Need-wide-requires Inv-loop μ-loop
-wide-requires c κs = search needs
+pair-requires : tie.Need-pair-requires Inv-loop μ-loop
+pair-requires c κs = search needs
 
 fill-row-requires : tie.Need-fill-row-requires Inv-loop μ-loop
 fill-row-requires c κs =
@@ -40,7 +40,7 @@ fill-row-requires c κs =
     let a = pre .1 .0 in
     let k = c .before .before .before .before .loop .k in
     let h = getD (a .thresholds) k noThreshold in
-    let place : getD (c .before .before .before .before .before .before .before .before .args .firsts .now) k 0 ≡ c .before .wide .result = omega (arith, c .before .wide .ensures) in
+    let place : getD (c .before .before .before .before .before .before .before .before .args .firsts .now) k 0 ≡ c .before .pair .result = omega (arith, c .before .pair .ensures .0) in
     let here = stands-there _ _ _ h place (a .each k (c .before .before .before .loop-test .taken)) in
     let room = c .before .before .before .before .loop .inv .1 in
     (pre .0, (record { threshold = h; stands = here }, (omega (arith, pre .1 .1 .0), omega (arith, pre .1 .1 .1, room))))
@@ -56,7 +56,7 @@ loop-again c = (
   (λ g e a.
       let k = c .before .before .before .before .before .before .before .loop .k in
       let h = getD (a .thresholds) k noThreshold in
-      let place : getD (c .before .before .before .before .before .before .before .before .before .before .before .args .firsts .now) k 0 ≡ c .before .before .before .before .wide .result = omega (arith, c .before .before .before .before .wide .ensures) in
+      let place : getD (c .before .before .before .before .before .before .before .before .before .before .before .args .firsts .now) k 0 ≡ c .before .before .before .before .pair .result = omega (arith, c .before .before .before .before .pair .ensures .0) in
       let here = stands-there _ _ _ h place (a .each k (c .before .before .before .before .before .before .loop-test .taken)) in
       let before = c .before .before .before .before .before .before .before .loop .inv .0 g e a in
       tabled-more (c .before .before .before .before .before .before .before .before .before .before .before .args .items) (judged g) (a .thresholds) k _ _ before (c .before .before .fill-row .ensures g e h here)),
@@ -79,9 +79,9 @@ fill-table-spec =
     Inv-loop
     μ-loop
     loop-holds
-    mul-wide
-    element-copy-out-wide
-    wide-requires
+    mul-pair
+    element-copy-out-pair
+    pair-requires
     fill-row-requires
     add-k
     loop-less

@@ -1,14 +1,14 @@
--- `session::put` meets its contract. The invariant: what is left to store makes of the list what the whole number makes of it.
+-- `fields::put` meets its contract. The invariant: what is left to store makes of the list what the whole number makes of it.
 -- Assumes nothing.
-use Rattle.session.proofs.put.Statement.{statement}
-use Rattle.session.proofs.put.Tie as tie
+use Rattle.fields.proofs.put.Statement.{statement}
+use Rattle.fields.proofs.put.Tie as tie
 use mathlib.Core.Path.{_≡_, refl, _∙_}
 use Prim.Native.Nat.{_≤_, _-_}
 use native.Mathlib.Omega.{arith}
 use lib.ListN.{length, length-set}
 use lib.Seq.{sets}
 use Rattle.meaning.specs.Bytes.{bytes}
-use Rattle.session.proofs.Stores.{put-more, put-all}
+use Rattle.fields.proofs.Putting.{put-more, put-all}
 use borrow.Author.Needs.{needs}
 
 abbrev Inv-loop : tie.InvT-loop
