@@ -15,7 +15,7 @@ use Rattle.meaning.specs.Fraction.{gcd, lowest}
 use Rattle.meaning.specs.Register.{targets, itemsBytes, linksBytes, readItems, readLink, readLinks, readBody, readRegisterBy, readRegister, readBuffer}
 use Rattle.meaning.specs.Register.{encode as image}
 use Rattle.meaning.specs.Whole.{any, meetsBy}
-use Rattle.meaning.specs.Reduce.{dropped, keep, reduce, size, scale}
+use Rattle.meaning.specs.Reduce.{dropped, keptOf, reduce, size, scale}
 use Rattle.meaning.specs.Degree.{best, degree}
 use Rattle.meaning.specs.Requirement.{every, plain}
 use Rattle.meaning.specs.Message.{conceptBytes, nodeBytes, thresholdsBytes, readChildren, readNode, noThresholds, readThreshold, readThresholds, withThresholds, readRequirement}
@@ -179,5 +179,5 @@ unfolding
     registers messages calls is sameSide root asked repeat empty chain fan wide wideAsked oneItem linkBytes R1 Q1
     allTrue degreeCall marginCall memberCall readPlain readRequirement readRegisterBy readBody readItems readLink readLinks readHead number bytes fields headed
     image message nodeBytes thresholdsBytes itemsBytes linksBytes readNode readChildren noThresholds readThreshold readThresholds withThresholds shown yesBy degree best lowest gcd
-    reduce keep dropped size scale meetsBy any every targets count under nodes relabel ones refuseIf _>>=_ _>>_
+    reduce keptOf dropped size scale meetsBy any every targets count under nodes relabel ones refuseIf _>>=_ _>>_
 orders = tt
