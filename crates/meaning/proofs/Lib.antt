@@ -47,9 +47,12 @@ pub mod NamesChanged
 pub mod SessionLinks
 pub mod SessionFacts
 pub mod SessionCalls
+pub mod Refusing
 pub mod History
 pub mod Demand3
+pub mod Worked
 -- Examples
 pub mod Sheet
 pub mod Orders
+pub mod SessionOrders
 pub mod Slips

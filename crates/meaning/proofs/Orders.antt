@@ -24,7 +24,7 @@ use Rattle.meaning.specs.Shown.{shown, yesBy}
 use Rattle.meaning.specs.Calls.{readPlain, degreeCall, marginCall, memberCall}
 use Rattle.meaning.specs.Sheet.{R1, Q1, leaf, allTrue}
 
-sameSide : Side → Side → Bool
+unfoldable pub sameSide : Side → Side → Bool
 sameSide register register = true
 sameSide register requirement = false
 sameSide register call = false
@@ -35,16 +35,16 @@ sameSide call register = false
 sameSide call requirement = false
 sameSide call call = true
 
-is : {A : Type 0} → Side → ℕ → ℕ → Answer A → Bool
+unfoldable pub is : {A : Type 0} → Side → ℕ → ℕ → Answer A → Bool
 is side n p (good a) = false
 is side n p (refused r) = sameSide (r .side) side && eqb (r .number) n && eqb (r .place) p
 
 -- ---- registers of one item with no names: the first link stands at place 15
 
-linkBytes : ℕ → ℕ → ℕ → List ℕ
+unfoldable pub linkBytes : ℕ → ℕ → ℕ → List ℕ
 linkBytes a r b = bytes 2 a ++ bytes 1 r ++ bytes 2 b
 
-oneItem : ℕ → List ℕ → List ℕ
+unfoldable pub oneItem : ℕ → List ℕ → List ℕ
 oneItem links rest = headed (bytes 2 1 ++ bytes 8 0 ++ bytes 2 links ++ rest)
 
 pub registers : List Bool
