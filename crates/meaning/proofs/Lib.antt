@@ -41,6 +41,7 @@ pub mod Picked
 pub mod Kept
 pub mod Shown
 pub mod YesShown
+pub mod Lent
 -- Sessions, and demand 3
 pub mod SessionNames
 pub mod NamesChanged
@@ -55,4 +56,5 @@ pub mod Worked
 pub mod Sheet
 pub mod Orders
 pub mod SessionOrders
+pub mod Bounds
 pub mod Slips
