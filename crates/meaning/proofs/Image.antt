@@ -15,11 +15,14 @@ use Rattle.meaning.specs.declared.Side.the-variants.{Register as registe
 use Rattle.meaning.specs.Refusal.{good, refused, at, _>>=_, _>>_}
 use Rattle.meaning.specs.Bytes.{number, bytes, Bytes, readHead, unequal, moreThan}
 use Rattle.meaning.specs.Names.{isSet}
-use Rattle.meaning.specs.Register.{Link, Register, above, allSets, linksOf, wellFormed, linkBytes, itemsBytes, linksBytes, encode, linkAt, readItems, readLink, readLinks, readBody, readRegisterBy, readRegister, readBuffer}
+use Rattle.meaning.specs.Register.{Link, Register, above, allSets, linksOf, wellFormed, linkBytes, itemsBytes, linksBytes, encode, linkAt}
+use Rattle.meaning.specs.Register.{readItems, readLink, readLinks, readBody, readRegisterBy, readRegister, readBuffer}
 use Rattle.meaning.specs.Bounds.{mostItems, mostLinks}
 use Rattle.meaning.proofs.Tests.{is-true, of-not, and-both, both-and, or-right, neither, neither-of}
 use Rattle.meaning.proofs.Head.{headed-length, body-stands, head-stands, head-read, read-head, headed-stands, headed-read}
-use Rattle.meaning.proofs.Reading.{good-inj, pass, stop, passed, took, taken, below, not-below, le-of-not-below, not-le, lt-of-not-le, not-not, not-unequal, eq-of-unequal, total, fitted, fields-fitted, Stands, stands-self, stands-left, stands-right, stands-both, stands-whole, bytes-length, number-of, bytes-of, number-below}
+use Rattle.meaning.proofs.Reading.{good-inj, pass, stop, passed, took, taken, below, not-below, le-of-not-below, not-le, lt-of-not-le, not-not}
+use Rattle.meaning.proofs.Reading.{not-unequal, eq-of-unequal, total, fitted, fields-fitted, Stands, stands-self, stands-left, stands-right}
+use Rattle.meaning.proofs.Reading.{stands-both, stands-whole, bytes-length, number-of, bytes-of, number-below}
 
 -- ---- lengths
 
@@ -40,7 +43,8 @@ links-length (l ∷ ls) = length-append (linkBytes l) (linksBytes ls) ∙ omega 
 
 -- ---- items
 
-items-read : (s : List ℕ) (end : ℕ) (as′ : List ℕ) (p : ℕ) → T (allSets as′) → Stands s p (itemsBytes as′) → p + 8 * length as′ ≤ end → readItems s end (length as′) p ≡ good as′
+items-read : (s : List ℕ) (end : ℕ) (as′ : List ℕ) (p : ℕ) → T (allSets as′) → Stands s p (itemsBytes as′) → p + 8 * length as′ ≤ end
+    → readItems s end (length as′) p ≡ good as′
 unfolding readItems allSets itemsBytes total
 items-read s end [] p w h b = refl
 items-read s end (a ∷ as′) p w h b =
@@ -68,7 +72,9 @@ read-items s end (suc k) p as′ h l e =
     subst (λ z. ItemsRead s end (suc k) p z) (good-inj (r .2)) (record {
       many = ap suc (m .many);
       sets = both-and (isSet (number s p 8)) (allSets (r .0)) (lt→ltb _ _ (number-below s p 8 h)) (m .sets);
-      stand = stands-both s p (bytes 8 (number s p 8)) (itemsBytes (r .0)) (bytes-of s p 8 h) (subst (λ (z : ℕ). Stands s (p + z) (itemsBytes (r .0))) (sym (bytes-length 8 (number s p 8))) (m .stand));
+      stand =
+          let later = subst (λ (z : ℕ). Stands s (p + z) (itemsBytes (r .0))) (sym (bytes-length 8 (number s p 8))) (m .stand) in
+          stands-both s p (bytes 8 (number s p 8)) (itemsBytes (r .0)) (bytes-of s p 8 h) later;
       fit = omega (arith, m .fit);
     })
 

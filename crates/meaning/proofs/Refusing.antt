@@ -70,7 +70,11 @@ tells-most : (m n : ℕ) → Tells (leb m n) (m ≤ n) (n < m)
 tells-most m n = told (leb m n) (at-most m n) (not-le m n) (λ e. leb→le m n (holds e)) (lt-of-not-le m n)
 
 tells-either : {A A′ B B′ : Type 0} (a b : Bool) → Tells a A A′ → Tells b B B′ → Tells (a || b) (A ⊎ B) (A′ × B′)
-tells-either {A} {A′} {B} {B′} a b p q = record { yes-is = yes-is a b p q; no-is = λ x. no-is a b p q x; said = cases (p .said) (λ x. inl (inl x)) (λ x. cases (q .said) (λ y. inl (inr y)) (λ y. inr (x, y))) }
+tells-either {A} {A′} {B} {B′} a b p q = record {
+  yes-is = yes-is a b p q;
+  no-is = no-is a b p q;
+  said = cases (p .said) (λ x. inl (inl x)) (λ x. cases (q .said) (λ y. inl (inr y)) (λ y. inr (x, y)));
+}
   where
     yes-is : (a b : Bool) → Tells a A A′ → Tells b B B′ → A ⊎ B → (a || b) ≡ true
     yes-is true b p q x = refl
