@@ -41,15 +41,20 @@ pub mod Picked
 pub mod Kept
 pub mod Shown
 pub mod YesShown
+pub mod Lent
 -- Sessions, and demand 3
 pub mod SessionNames
 pub mod NamesChanged
 pub mod SessionLinks
 pub mod SessionFacts
 pub mod SessionCalls
+pub mod Refusing
 pub mod History
 pub mod Demand3
+pub mod Worked
 -- Examples
 pub mod Sheet
 pub mod Orders
+pub mod SessionOrders
+pub mod Bounds
 pub mod Slips

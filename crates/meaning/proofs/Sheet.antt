@@ -20,7 +20,8 @@ use Rattle.meaning.specs.Sheet.{sameList, sameWhole, rows, allTrue}
 
 pub sheet : T (allTrue rows)
 unfolding
-    rows allTrue sameList sameWhole degreeCall marginCall memberCall readPlain readRequirement readRegisterBy readBody readItems readLink readLinks itemsBytes linksBytes readHead number bytes fields headed
-    image message nodeBytes thresholdsBytes readNode readChildren noThresholds readThreshold readThresholds withThresholds shown yesBy degree best lowest gcd reduce keptOf dropped size scale
+    rows allTrue sameList sameWhole degreeCall marginCall memberCall readPlain readRequirement readRegisterBy readBody readItems readLink readLinks
+    itemsBytes linksBytes readHead number bytes fields headed image message nodeBytes thresholdsBytes
+    readNode readChildren noThresholds readThreshold readThresholds withThresholds shown yesBy degree best lowest gcd reduce keptOf dropped size scale
     meetsBy any every refuseIf _>>=_ _>>_ targets count under nodes relabel ones
 sheet = tt
