@@ -2,13 +2,11 @@
 use crate::text::put_byte;
 use crate::text::put_number;
 use crate::text::put_word;
-use degree::call;
-use degree::call::Answered;
+use asking::Answered;
+use deciding::Verdict;
 use fields;
 use meaning::Refusal;
 use meaning::Side;
-use member::call as yes_no;
-use member::call::Verdict;
 use register::Reading;
 use requirement::Message;
 ghost use mathlib.Core.Path.{_≡_};
@@ -136,7 +134,7 @@ fn degree_row(out: &mut [u8], at: usize, image: &[u8], message: &[u8], item: usi
     ensures { λ r. ⌜ r ≤ at + 448 ⌝ }
 {
     let mut map = [0u16; 64];
-    let a = call::degree_of(image, message, item, &mut map);
+    let a = asking::degree_of(image, message, item, &mut map);
     match a {
         Answered::Good { num, den, nodes } => {
             put_degree_line(out, at, item, num, den, &map[..nodes])
@@ -152,7 +150,7 @@ fn member_row(out: &mut [u8], at: usize, image: &[u8], message: &[u8], item: usi
     ensures { λ r. ⌜ r ≤ at + 448 ⌝ }
 {
     let mut map = [0u16; 64];
-    let v = yes_no::decide(image, message, item, &mut map);
+    let v = deciding::decide(image, message, item, &mut map);
     match v {
         Verdict::Yes { nodes } => put_yes_line(out, at, item, &map[..nodes]),
         Verdict::No => put_no_line(out, at, item),
@@ -196,7 +194,7 @@ fn degree_list(out: &mut [u8], image: &[u8], message: &[u8], items: usize) -> us
     ensures { λ r. ⌜ r ≤ 229392 ⌝ }
 {
     let mut map = [0u16; 64];
-    let a = call::degree_of(image, message, 0, &mut map);
+    let a = asking::degree_of(image, message, 0, &mut map);
     match a {
         Answered::Good {
             num: _,

@@ -14,11 +14,11 @@ use mir.Facts.{toZ-ofZ}
 use Rattle.meaning.specs.Refusal.{Answer}
 use Rattle.meaning.specs.Calls.{Against}
 use Rattle.meaning.proofs.Tests.{holds, true-false}
-use Rattle.degree.specs.declared.call.Answered.{Answered}
-use Rattle.degree.specs.declared.call.Answered.the-variants.{Good as GoodDegree}
-use Rattle.degree.specs.declared.call.Margin.{Margin}
-use Rattle.degree.specs.declared.call.Margin.the-variants.{Good as GoodMargin}
-use Rattle.degree.specs.Answers.{Told, paper, paperMargin}
+use Rattle.asking.specs.declared.Answered.{Answered}
+use Rattle.asking.specs.declared.Answered.the-variants.{Good as GoodDegree}
+use Rattle.asking.specs.declared.Margin.{Margin}
+use Rattle.asking.specs.declared.Margin.the-variants.{Good as GoodMargin}
+use Rattle.asking.specs.Answers.{Told, paperDegree, paperMargin}
 use Rattle.meaning.specs.Bounds.{mostMargin}
 use Rattle.svelgandur.specs.Numbers.{four, numbers, degreeNumbers, belowZero, marginNumbers}
 
@@ -97,5 +97,5 @@ margin-told l z o size sign r a w d e is says =
     let n : four 1 size o sign ≡ marginNumbers (record { margin = z; over = o }) = cc in
     w ∙ n ∙ ap (numbers marginNumbers) (sym (ap paperMargin is) ∙ says)
 
-pub degree-told : (l : List ℕ) (n d k : ℕ) (r : Answered) (a : Answer Told) → l ≡ four 1 n d k → r ≡ GoodDegree n d k → paper r ≡ a → l ≡ numbers degreeNumbers a
-degree-told l n d k r a w is says = w ∙ ap (numbers degreeNumbers) (sym (ap paper is) ∙ says)
+pub degree-told : (l : List ℕ) (n d k : ℕ) (r : Answered) (a : Answer Told) → l ≡ four 1 n d k → r ≡ GoodDegree n d k → paperDegree r ≡ a → l ≡ numbers degreeNumbers a
+degree-told l n d k r a w is says = w ∙ ap (numbers degreeNumbers) (sym (ap paperDegree is) ∙ says)

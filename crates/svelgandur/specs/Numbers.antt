@@ -14,10 +14,10 @@ use Rattle.meaning.specs.Requirement.{Requirement as RequirementTree}
 use Rattle.meaning.specs.Message.{Part}
 use Rattle.register.specs.Reading.{Counts}
 use Rattle.requirement.specs.declared.Place.{Place}
-use Rattle.member.specs.Call.{Said, yes, no}
+use Rattle.deciding.specs.Answers.{Said, yes, no}
 use lib.IntN.{ℤ, pos, negsuc, natAbs}
 use Rattle.meaning.specs.Calls.{Against}
-use Rattle.degree.specs.Answers.{Told}
+use Rattle.asking.specs.Answers.{Told}
 
 abbrev pub four : ℕ → ℕ → ℕ → ℕ → List ℕ
 four kind a b c = kind ∷ a ∷ b ∷ c ∷ []

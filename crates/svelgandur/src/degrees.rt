@@ -1,13 +1,13 @@
 // The degree and the margin from C.
 use super::answer;
-use degree::call::Answered;
-use degree::call::Margin;
+use asking::Answered;
+use asking::Margin;
 ghost use mathlib.Core.Path.{_≡_};
 ghost use Prim.Native.Nat.{_≤_};
 ghost use lib.IntN.{natAbs};
 ghost use lib.ListN.{length};
 ghost use Rattle.meaning.specs.Calls.{degreeCall, afterDegree, marginCall};
-ghost use Rattle.degree.specs.Answers.{told};
+ghost use Rattle.asking.specs.Answers.{told};
 ghost use Rattle.meaning.specs.Bounds.{mostMargin};
 ghost use Rattle.svelgandur.specs.Numbers.{numbers, degreeNumbers, marginNumbers, belowZero};
 
@@ -26,7 +26,7 @@ pub extern "C" fn svelgandur_degree(
     ensures { λ _. ⌜ now (map .exit)
         ≡ afterDegree (now (map .entry)) (degreeCall (now (image .entry)) (now (message .entry)) item (length (now (map .entry)))) ⌝ }
 {
-    let r = degree::call::degree_of(image, message, item as usize, map);
+    let r = asking::degree_of(image, message, item as usize, map);
     match r {
         Answered::Good { num, den, nodes } => answer::put(answer, 1, num, den, nodes as u64),
         Answered::Refused { refusal } => answer::refuse(answer, refusal),
@@ -46,7 +46,7 @@ pub extern "C" fn svelgandur_margin(
 )
     ensures { λ _. ⌜ now (answer .exit) ≡ numbers marginNumbers (marginCall (now (image .entry)) (now (message .entry)) item p q) ⌝ }
 {
-    let r = degree::call::margin_of(image, message, item as usize, p as usize, q as usize);
+    let r = asking::margin_of(image, message, item as usize, p as usize, q as usize);
     match r {
         Margin::Good { margin, over } => {
             answer::put(answer, 1, magnitude(margin), over, below_zero(margin));

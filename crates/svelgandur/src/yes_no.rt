@@ -1,10 +1,10 @@
 // The yes/no call from C.
 use crate::answer;
-use member::call::Verdict;
+use deciding::Verdict;
 ghost use mathlib.Core.Path.{_≡_};
 ghost use lib.ListN.{length};
 ghost use Rattle.meaning.specs.Calls.{memberCall, afterMember};
-ghost use Rattle.member.specs.Call.{said};
+ghost use Rattle.deciding.specs.Answers.{said};
 ghost use Rattle.svelgandur.specs.Numbers.{numbers, verdicts};
 
 // Whether an item meets a requirement; a yes writes the map.
@@ -20,7 +20,7 @@ pub extern "C" fn svelgandur_member(
     ensures { λ _. ⌜ now (answer .exit) ≡ numbers verdicts (said (memberCall (now (image .entry)) (now (message .entry)) item (length (now (map .entry))))) ⌝ }
     ensures { λ _. ⌜ now (map .exit) ≡ afterMember (now (map .entry)) (memberCall (now (image .entry)) (now (message .entry)) item (length (now (map .entry)))) ⌝ }
 {
-    let r = member::call::decide(image, message, item as usize, map);
+    let r = deciding::decide(image, message, item as usize, map);
     match r {
         Verdict::Yes { nodes } => answer::put(answer, 1, nodes as u64, 0, 0),
         Verdict::No => answer::put(answer, 2, 0, 0, 0),

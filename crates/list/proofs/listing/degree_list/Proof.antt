@@ -5,7 +5,7 @@ use Rattle.list.proofs.listing.degree_list.Statement.{statement}
 use Rattle.list.proofs.listing.degree_list.Tie as tie
 use Rattle.list.proofs.listing.degree_list.Reads as reads
 use Rattle.list.proofs.listing.degree_list.Lts as lts
-use Rattle.degree.proofs.call.degree_of.Reads as degree-of-reads
+use Rattle.asking.proofs.degree_of.Reads as degree-of-reads
 use Rattle.list.proofs.listing.degree_rows.Reads as degree-rows-reads
 use Rattle.list.proofs.listing.put_refusal.Reads as put-refusal-reads
 use Rattle.list.proofs.text.put_word.Reads as put-word-reads

@@ -5,7 +5,7 @@ use Rattle.list.proofs.listing.degree_row.Statement.{statement}
 use Rattle.list.proofs.listing.degree_row.Tie as tie
 use Rattle.list.proofs.listing.degree_row.Reads as reads
 use Rattle.list.proofs.listing.degree_row.Lts as lts
-use Rattle.degree.proofs.call.degree_of.Reads as degree-of-reads
+use Rattle.asking.proofs.degree_of.Reads as degree-of-reads
 use Rattle.list.proofs.listing.put_degree_line.Reads as put-degree-line-reads
 use Rattle.list.proofs.listing.put_refusal.Reads as put-refusal-reads
 use native.Mathlib.Omega.{arith}

@@ -8,7 +8,7 @@ use Rattle.list.proofs.listing.member_row.Lts as lts
 use Rattle.list.proofs.listing.put_no_line.Reads as put-no-line-reads
 use Rattle.list.proofs.listing.put_refusal.Reads as put-refusal-reads
 use Rattle.list.proofs.listing.put_yes_line.Reads as put-yes-line-reads
-use Rattle.member.proofs.call.decide.Reads as decide-reads
+use Rattle.deciding.proofs.decide.Reads as decide-reads
 use native.Mathlib.Omega.{arith}
 use Rattle.list.proofs.Writing.{as-text, wrote-length}
 use Rattle.list.proofs.Items.{member-row-yes, member-row-no, member-row-refused}

@@ -7,7 +7,7 @@ use native.Mathlib.Omega.{arith}
 use mathlib.Core.Path.{sym, _∙_, ap}
 use Rattle.svelgandur.proofs.Numbers.{four-same}
 use Rattle.svelgandur.proofs.Margins.{degree-told}
-use Rattle.degree.specs.Answers.{paper}
+use Rattle.asking.specs.Answers.{paperDegree}
 use Rattle.svelgandur.specs.Numbers.{numbers, degreeNumbers}
 
 degree-of-requires : tie.Need-degree-of-requires
@@ -37,7 +37,7 @@ same-length-2 c = search needs
 
 returns-2 : tie.Need-returns-2
 returns-2 c =
-    (c .refuse .ensures ∙ ap (numbers degreeNumbers) (sym (ap paper (c .before .before .before .r2 .given .1)) ∙ c .before .before .before .before .before .before .before .degree-of .ensures .0), c .before .before .before .before .before .before .before .degree-of .ensures .1)
+    (c .refuse .ensures ∙ ap (numbers degreeNumbers) (sym (ap paperDegree (c .before .before .before .r2 .given .1)) ∙ c .before .before .before .before .before .before .before .degree-of .ensures .0), c .before .before .before .before .before .before .before .degree-of .ensures .1)
 
 pub svelgandur-degree-spec : {M : Type 1} → statement M
 svelgandur-degree-spec =

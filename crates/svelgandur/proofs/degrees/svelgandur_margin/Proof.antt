@@ -5,8 +5,8 @@ use Rattle.svelgandur.proofs.degrees.svelgandur_margin.Statement.{state
 use Rattle.svelgandur.proofs.degrees.svelgandur_margin.Tie as tie
 use mathlib.Core.Path.{sym, _∙_, ap}
 use lib.IntN.{natAbs}
-use Rattle.degree.specs.Answers.{paperMargin}
-use Rattle.degree.proofs.Promise.{margin-within}
+use Rattle.asking.specs.Answers.{paperMargin}
+use Rattle.asking.proofs.Promise.{margin-within}
 use Rattle.svelgandur.specs.Numbers.{numbers, belowZero, marginNumbers}
 use Rattle.svelgandur.proofs.Margins.{read-back, small-again, margin-told}
 

@@ -5,7 +5,7 @@ use Rattle.svelgandur.proofs.yes_no.svelgandur_member.Statement.{statem
 use Rattle.svelgandur.proofs.yes_no.svelgandur_member.Tie as tie
 use native.Mathlib.Omega.{arith}
 use mathlib.Core.Path.{_≡_, sym, _∙_, ap}
-use Rattle.member.specs.Call.{paper}
+use Rattle.deciding.specs.Answers.{paperVerdict}
 use Rattle.svelgandur.specs.Numbers.{four, numbers, verdicts}
 use Rattle.svelgandur.proofs.Numbers.{four-same}
 
@@ -38,7 +38,7 @@ returns c =
     let nodes = c .before .before .before .r .given .0 .0 in
     let decided = c .before .before .before .before .before .before .before .decide in
     let written : _ ≡ four 1 nodes 0 0 = c .put .ensures ∙ four-same (omega arith) (omega arith) (omega arith) (omega arith) in
-    (written ∙ ap (numbers verdicts) (sym (ap paper (c .before .before .before .r .given .1)) ∙ decided .ensures .0), decided .ensures .1)
+    (written ∙ ap (numbers verdicts) (sym (ap paperVerdict (c .before .before .before .r .given .1)) ∙ decided .ensures .0), decided .ensures .1)
 
 same-length-2 : tie.Need-same-length-2
 same-length-2 c = search needs
@@ -47,7 +47,7 @@ returns-2 : tie.Need-returns-2
 returns-2 c =
     let decided = c .before .before .before .before .before .before .decide in
     let written : _ ≡ four 2 0 0 0 = c .put2 .ensures ∙ four-same (omega arith) (omega arith) (omega arith) (omega arith) in
-    (written ∙ ap (numbers verdicts) (sym (ap paper (c .before .before .enum-told .given .1)) ∙ decided .ensures .0), decided .ensures .1)
+    (written ∙ ap (numbers verdicts) (sym (ap paperVerdict (c .before .before .enum-told .given .1)) ∙ decided .ensures .0), decided .ensures .1)
 
 same-length-3 : tie.Need-same-length-3
 same-length-3 c = search needs
@@ -55,7 +55,7 @@ same-length-3 c = search needs
 returns-3 : tie.Need-returns-3
 returns-3 c =
     let decided = c .before .before .before .before .before .before .before .decide in
-    (c .refuse .ensures ∙ ap (numbers verdicts) (sym (ap paper (c .before .before .before .r2 .given .1)) ∙ decided .ensures .0), decided .ensures .1)
+    (c .refuse .ensures ∙ ap (numbers verdicts) (sym (ap paperVerdict (c .before .before .before .r2 .given .1)) ∙ decided .ensures .0), decided .ensures .1)
 
 pub svelgandur-member-spec : {M : Type 1} → statement M
 svelgandur-member-spec =
