@@ -47,8 +47,9 @@ pub mod SessionNames
 pub mod NamesChanged
 pub mod SessionLinks
 pub mod SessionFacts
-pub mod SessionCalls
 pub mod Refusing
+pub mod SessionCalls
+pub mod Behind
 pub mod History
 pub mod Demand3
 pub mod Worked
