@@ -41,7 +41,7 @@ pub mod Picked
 pub mod Kept
 pub mod Shown
 pub mod YesShown
-pub mod Lent
+pub mod Answers
 -- Sessions, and demand 3
 pub mod SessionNames
 pub mod NamesChanged
