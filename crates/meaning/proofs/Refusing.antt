@@ -23,7 +23,6 @@ use Rattle.meaning.specs.Refusing.{KeepTakes, KeepRow, EditTakes, EditRo
 use Rattle.meaning.specs.Refusing.{UndoTakes, UndoRow, earlierOne, noStepLeft, stepOutside, noRoomBack}
 use Rattle.meaning.proofs.Tests.{holds, is-true, is-false, is-eqb, true-false}
 use Rattle.meaning.proofs.Reading.{not-good, good-inj, pass, stop, stopped, took, below, not-below, at-most, not-le, le-of-not-below, lt-of-not-le}
-use Rattle.meaning.proofs.SessionCalls.{differs}
 
 -- ---- an answer and its rows
 
@@ -54,10 +53,10 @@ never-both a Row Takes x f p t = not-good (sym (x .refuses f .1 p) ∙ x .takes 
 -- ---- tests, and what they say
 
 -- what holds where the test does, and what where it does not
-record Tells (b : Bool) (Yes No : Type 0) : Type 0 where
-  yes-is : Yes → b ≡ true
-  no-is : No → b ≡ false
-  said : Yes ⊎ No
+pub record Tells (b : Bool) (Yes No : Type 0) : Type 0 where
+  pub yes-is : Yes → b ≡ true
+  pub no-is : No → b ≡ false
+  pub said : Yes ⊎ No
 
 told : {Yes No : Type 0} (b : Bool) → (Yes → b ≡ true) → (No → b ≡ false) → (b ≡ true → Yes) → (b ≡ false → No) → Tells b Yes No
 told true f g h k = record { yes-is = f; no-is = g; said = inl (h refl) }
@@ -98,7 +97,7 @@ tells-count log count = record {
     go (no l) (yes m) = inl (inr m)
     go (no l) (no m) = inr (omega arith, omega arith)
 
-tells-full : (log count : ℕ) → count ≤ log → count ≤ 64 → Tells (eqb count (room log)) ((count ≡ log) ⊎ (count ≡ 64)) ((count < log) × (count < 64))
+pub tells-full : (log count : ℕ) → count ≤ log → count ≤ 64 → Tells (eqb count (room log)) ((count ≡ log) ⊎ (count ≡ 64)) ((count < log) × (count < 64))
 tells-full log count a b = record {
   yes-is = λ x. is-true (eqb count (room log)) (is-eqb {m = count} {n = room log} (cases x (λ e. omega arith) (λ e. omega arith)));
   no-is = λ x. is-false (eqb count (room log)) (λ t. let z = eqb→eq count (room log) t in omega (arith, x .0, x .1));
@@ -113,14 +112,14 @@ tells-full log count a b = record {
 tells-none : (count : ℕ) → Tells (eqb count 0) (count ≡ 0) (0 < count)
 tells-none count = told (eqb count 0) (λ e. is-true (eqb count 0) (is-eqb e))
     (λ l. is-false (eqb count 0) (λ t. let z = eqb→eq count 0 t in omega arith)) (λ e. eqb→eq count 0 (holds e))
-    (λ e. let d = differs count 0 e in omega arith)
+    (λ e. let d : count ≡ 0 → ⊥ = λ z. true-false (is-true (eqb count 0) (is-eqb z)) e in omega arith)
 
 -- 15, 7 and 20
-tells-outside : (n : ℕ) (f : Fact) → Tells (outOfRange n f) (Outside n f) (Inside n f)
+pub tells-outside : (n : ℕ) (f : Fact) → Tells (outOfRange n f) (Outside n f) (Inside n f)
 tells-outside n (nameOn i k) = tells-either (leb n i) (ltb mostName k) (tells-most n i) (tells-below mostName k)
 tells-outside n (linkOf a r b) = tells-either (leb n a) (leb n b) (tells-most n a) (tells-most n b)
 
-tells-role : (f : Fact) → Tells (roleAbove f) (RoleAbove f) (RoleFits f)
+pub tells-role : (f : Fact) → Tells (roleAbove f) (RoleAbove f) (RoleFits f)
 tells-role (nameOn i k) = record { yes-is = λ x. absurd x; no-is = λ x. refl; said = inr tt }
 tells-role (linkOf a r b) = tells-below mostRole r
 
@@ -138,7 +137,7 @@ tells-free s g =
     tells-either (leb mostLinks (length (g .links))) (ltb (length s) (length (encode g) + 5)) (tells-most mostLinks (length (g .links)))
     (tells-below (length s) (length (encode g) + 5))
 
-tells-room : (s : List ℕ) (g : Register) (v : Bool) (f : Fact) → Tells (noPlace s g v f) (NoRoom s g v f) (HasRoom s g v f)
+pub tells-room : (s : List ℕ) (g : Register) (v : Bool) (f : Fact) → Tells (noPlace s g v f) (NoRoom s g v f) (HasRoom s g v f)
 unfolding noPlace
 tells-room s g v (nameOn i k) = record { yes-is = λ x. absurd x; no-is = λ x. refl; said = inr tt }
 tells-room s g v (linkOf a r b) = go v (isFact g (linkOf a r b))
