@@ -10,6 +10,7 @@ use lib.Dec.{ltb}
 use lib.ListN.{length}
 use Rattle.meaning.specs.declared.Side.the-variants.{Register as register}
 use Rattle.meaning.specs.Refusal.{Answer, good, refused, at, refuseIf, _>>=_, _>>_}
+use Rattle.meaning.specs.Bounds.{mostRole}
 use Rattle.meaning.specs.Register.{Link, Register, readLinks, readRegisterBy}
 use Rattle.fields.specs.Head.{wrongIn}
 use Rattle.register.specs.declared.Reading.{Reading}
@@ -50,10 +51,14 @@ refusedAt n p = Refused (at register n p)
 abbrev pub key : Link → ℕ
 key l = (l .from * 256 + l .role) * 65536 + l .to
 
+-- the fields behind `from` are small enough not to reach into it
+abbrev pub Small : Link → Type 0
+Small l = (l .role ≤ mostRole) × (l .to < 65536)
+
 -- the least number that a link behind this one may have
 abbrev pub Floor : Option Link → ℕ → Type 0
 Floor nowhere f = f ≡ 0
-Floor (some l) f = (f ≡ key l + 1) × (l .role ≤ 31) × (l .to < 65536)
+Floor (some l) f = (f ≡ key l + 1) × (l .role ≤ mostRole) × (l .to < 65536)
 
 abbrev pub paperLink : Linked → Answer ℕ
 paperLink (GoodLink f) = good f

@@ -8,10 +8,10 @@ ghost use mathlib.Core.Path.{_≡_};
 ghost use mathlib.Core.Option.{Option};
 ghost use Prim.Native.Nat.{_+_, _*_, _≤_, _<_};
 ghost use lib.ListN.{length, getD};
-ghost use Rattle.meaning.specs.Register.{Link, readLink, readBody};
+ghost use Rattle.meaning.specs.Register.{Link, linkAt, readLink, readBody};
 ghost use Rattle.meaning.specs.Bounds.{mostItems, mostLinks, mostRole};
 ghost use Rattle.register.specs.Image.{Asked, Image, linkNo, Begins};
-ghost use Rattle.register.specs.Reading.{ReadPromise, paperReading, counted, linksAnswer, refusedAt, Floor, paperLink, keyed, Passed, cutAt};
+ghost use Rattle.register.specs.Reading.{ReadPromise, paperReading, counted, linksAnswer, refusedAt, key, Floor, paperLink, keyed, Passed, cutAt};
 
 // An image: how many items and links it has, or its refusal.
 pub enum Reading {
@@ -197,6 +197,22 @@ pub fn to_of(s: &[u8], items: usize, k: usize) -> usize
     ensures { λ r. ⌜ Image (now (s .entry)) (λ g. (r ≡ linkNo g k .to) × (r < length (g .names))) ⌝ }
 {
     fields::two(s, layout::link_at(items, k) + 3)
+}
+
+// The number of the link at a place, that of its five bytes: it rises with (from, role, to).
+fn key_at(s: &[u8], at: usize) -> usize
+    requires { ⌜ at + 5 ≤ length (now s) ⌝ }
+    ensures { λ r. ⌜ r ≡ key (linkAt (now (s .entry)) at) ⌝ }
+{
+    (fields::two(s, at) * 256 + fields::one(s, at + 2)) * 65536 + fields::two(s, at + 3)
+}
+
+// The number of its k-th link.
+pub fn key_of(s: &[u8], items: usize, k: usize) -> usize
+    requires { ⌜ Asked (now s) (λ g. (items ≡ length (g .names)) × (k < length (g .links))) ⌝ }
+    ensures { λ r. ⌜ Image (now (s .entry)) (λ g. r ≡ key (linkNo g k)) ⌝ }
+{
+    key_at(s, layout::link_at(items, k))
 }
 
 // Where the links of an item begin: at the first link that leads from it or from an item behind it.
