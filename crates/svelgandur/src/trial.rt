@@ -8,13 +8,13 @@ ghost use Prim.Native.Nat.{_-_};
 ghost use lib.ListN.{length, getD};
 ghost use Rattle.meaning.specs.declared.Fact.{Fact};
 ghost use Rattle.meaning.specs.Session.{openCall, editCall, undoCall, keepCall, noSteps, counted, bufferOpened, bufferAfter};
-ghost use Rattle.session.specs.Coded.{decoded};
-ghost use Rattle.session.specs.Calls.{paper, anEdit, numbersAfter};
+ghost use Rattle.session.specs.Calls.{paperCount, anEdit};
+ghost use Rattle.numbered.specs.Coded.{decoded, numbersAfter};
 ghost use Rattle.svelgandur.specs.Numbers.{numbers, inUse, isAdding};
 
 // Writes what a call of the session hands back.
 fn hand_back(answer: &mut [u64; 4], r: Counted)
-    ensures { λ _. ⌜ now (answer .exit) ≡ numbers inUse (paper r) ⌝ }
+    ensures { λ _. ⌜ now (answer .exit) ≡ numbers inUse (paperCount r) ⌝ }
 {
     match r {
         Counted::Good { count } => answer::put(answer, 1, count as u64, 0, 0),
@@ -51,7 +51,7 @@ pub extern "C" fn svelgandur_edit_name(
         item: item as usize,
         name: name as usize,
     };
-    let r = session::edit(buffer, log, count as usize, named, adds != 0);
+    let r = numbered::edit(buffer, log, count as usize, named, adds != 0);
     hand_back(answer, r);
 }
 
@@ -76,7 +76,7 @@ pub extern "C" fn svelgandur_edit_link(
         role: role as usize,
         to: to as usize,
     };
-    let r = session::edit(buffer, log, count as usize, linked, adds != 0);
+    let r = numbered::edit(buffer, log, count as usize, linked, adds != 0);
     hand_back(answer, r);
 }
 
@@ -86,7 +86,7 @@ pub extern "C" fn svelgandur_undo(buffer: &mut [u8], log: &[u64], count: u64, an
     ensures { λ _. ⌜ now (answer .exit) ≡ numbers inUse (counted (undoCall (now (buffer .entry)) (length (now (log .entry))) count (decoded (getD (now (log .entry)) (count - 1) 0)))) ⌝ }
     ensures { λ _. ⌜ now (buffer .exit) ≡ bufferAfter (now (buffer .entry)) (undoCall (now (buffer .entry)) (length (now (log .entry))) count (decoded (getD (now (log .entry)) (count - 1) 0))) ⌝ }
 {
-    let r = session::undo(buffer, log, count as usize);
+    let r = numbered::undo(buffer, log, count as usize);
     hand_back(answer, r);
 }
 
@@ -95,6 +95,6 @@ pub extern "C" fn svelgandur_undo(buffer: &mut [u8], log: &[u64], count: u64, an
 pub extern "C" fn svelgandur_keep(buffer: &[u8], log: &[u64], count: u64, answer: &mut [u64; 4])
     ensures { λ _. ⌜ now (answer .exit) ≡ numbers inUse (noSteps (keepCall (now (buffer .entry)) (length (now (log .entry))) count)) ⌝ }
 {
-    let r = session::keep(buffer, log, count as usize);
+    let r = numbered::keep(buffer, log, count as usize);
     hand_back(answer, r);
 }

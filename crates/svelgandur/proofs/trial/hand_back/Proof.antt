@@ -6,7 +6,7 @@ use Rattle.svelgandur.proofs.trial.hand_back.Tie as tie
 use native.Mathlib.Omega.{arith}
 use mathlib.Core.Path.{_≡_, sym, _∙_, ap}
 use Rattle.session.specs.declared.Counted.{Counted}
-use Rattle.session.specs.Calls.{paper}
+use Rattle.session.specs.Calls.{paperCount}
 use Rattle.svelgandur.specs.Numbers.{four, numbers, inUse}
 use Rattle.svelgandur.proofs.Numbers.{four-same}
 
@@ -25,11 +25,11 @@ refuse-requires c κs = search needs
 returns : tie.Need-returns
 returns c =
     let written : _ ≡ four 1 (c .before .before .before .r .given .0 .0) 0 0 = c .put .ensures ∙ four-same (omega arith) (omega arith) (omega arith) (omega arith) in
-    written ∙ ap (λ (x : Counted). numbers inUse (paper x)) (sym (c .before .before .before .r .given .1))
+    written ∙ ap (λ (x : Counted). numbers inUse (paperCount x)) (sym (c .before .before .before .r .given .1))
 
 returns-2 : tie.Need-returns-2
 returns-2 c =
-    c .refuse .ensures ∙ ap (λ (x : Counted). numbers inUse (paper x)) (sym (c .before .before .before .r2 .given .1))
+    c .refuse .ensures ∙ ap (λ (x : Counted). numbers inUse (paperCount x)) (sym (c .before .before .before .r2 .given .1))
 
 pub hand-back-spec : {M : Type 1} → statement M
 hand-back-spec =
