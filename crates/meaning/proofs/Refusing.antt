@@ -1,5 +1,6 @@
 -- The calls of a session are refused exactly when a row of the document's table holds, with that row's number, and accepted exactly when none
--- does (`open-exactly`, `keep-exactly`, `edit-exactly`, `undo-exactly`). So two rows that hold are one refusal (`one-row`).
+-- does (`open-exactly`, `keep-exactly`, `edit-exactly`, `undo-exactly`; `answer-exactly` for any of them). So two rows that hold are one refusal
+-- (`one-row`), and no row holds of what is taken (`never-both`).
 -- Assumes nothing.
 use mathlib.Core.Path.{_≡_, refl, sym, ap, _∙_, subst}
 use mathlib.Core.Logic.{_⊎_, inl, inr}
@@ -18,9 +19,10 @@ use Rattle.meaning.specs.Refusal.{Answer, good, refused, onCall, Exactly
 use Rattle.meaning.specs.Register.{Register, isFact, encode, readBuffer}
 use Rattle.meaning.specs.Bounds.{mostLinks, mostName, mostRole}
 use Rattle.meaning.specs.Session.{Edit, setFact, room, outOfRange, roleAbove, noPlace, Changed, openCall, editCall, undoCall, keepCall}
+use Rattle.meaning.specs.Session.{noSteps, counted, Session, Call, opens, edits, undoes, keeps, lastStep, answer}
 use Rattle.meaning.specs.Refusing.{Outside, Inside, RoleAbove, RoleFits, NoRoom, HasRoom, OpenTakes, OpenRow, unread, Counts, CountRow, badRegister, countAbove}
 use Rattle.meaning.specs.Refusing.{KeepTakes, KeepRow, EditTakes, EditRow, earlier, outside, badRole, logFull, noRoom}
-use Rattle.meaning.specs.Refusing.{UndoTakes, UndoRow, earlierOne, noStepLeft, stepOutside, noRoomBack}
+use Rattle.meaning.specs.Refusing.{CallTakes, CallRow, UndoTakes, UndoRow, earlierOne, noStepLeft, stepOutside, noRoomBack}
 use Rattle.meaning.proofs.Tests.{holds, is-true, is-false, is-eqb, true-false}
 use Rattle.meaning.proofs.Reading.{not-good, good-inj, pass, stop, stopped, took, below, not-below, at-most, not-le, le-of-not-below, lt-of-not-le}
 
@@ -49,6 +51,21 @@ one-row a Row Takes x f h p q = refused-inj (sym (x .refuses f .1 p) ∙ x .refu
 
 pub never-both : {A : Type 0} (a : Answer A) (Row : Refusal → Type 0) (Takes : Type 0) → Exactly a Row Takes → (f : Refusal) → Row f → Takes → ⊥
 never-both a Row Takes x f p t = not-good (sym (x .refuses f .1 p) ∙ x .takes .1 t .1)
+
+-- an answer that says less of what is good is refused alike
+pub carried : {A B : Type 0} (f : Answer A → Answer B) (g : A → B) → ((a : A) → f (good a) ≡ good (g a)) → ((r : Refusal) → f (refused r) ≡ refused r)
+    → (a : Answer A) (Row : Refusal → Type 0) (Takes : Type 0) → Exactly a Row Takes → Exactly (f a) Row Takes
+carried f g of-good of-refused (good x) Row Takes h = record {
+  refuses = λ r. ((λ e. absurd (not-good (sym e ∙ of-good x))), (λ p. absurd (not-good (sym (h .refuses r .1 p)))));
+  takes = ((λ y. h .takes .0 (x, refl)), (λ y. (g x, of-good x)));
+}
+carried f g of-good of-refused (refused q) Row Takes h = record {
+  refuses = λ r. (
+    (λ e. h .refuses r .0 (ap refused (refused-inj (sym (of-refused q) ∙ e)))),
+    (λ p. of-refused q ∙ ap refused (refused-inj (h .refuses r .1 p))),
+  );
+  takes = ((λ y. absurd (not-good (sym (of-refused q) ∙ y .1))), (λ y. absurd (not-good (h .takes .1 y .1))));
+}
 
 -- ---- tests, and what they say
 
@@ -308,3 +325,18 @@ module _ (s : List ℕ) (log count : ℕ) where
 
     pub undo-exactly : Exactly (undoCall s log count last) (UndoRow s log count last) (UndoTakes s log count last)
     undo-exactly = exactly _ _ _ undo-row (λ x. (_, undo-takes x)) undo-either
+
+-- ---- any call: the count that is handed back, or the refusal
+
+pub answer-exactly : (s : Session) (c : Call) → Exactly (answer s c) (CallRow s c) (CallTakes s c)
+unfolding answer noSteps counted
+answer-exactly s opens = carried noSteps (λ g. 0) (λ g. refl) (λ r. refl) (openCall (s .buffer)) _ _ (open-exactly (s .buffer))
+answer-exactly s (edits e) =
+    carried counted (λ c. c .count) (λ c. refl) (λ r. refl) (editCall (s .buffer) (length (s .log)) (s .count) e) _ _
+    (edit-exactly (s .buffer) (length (s .log)) (s .count) e)
+answer-exactly s undoes =
+    carried counted (λ c. c .count) (λ c. refl) (λ r. refl) (undoCall (s .buffer) (length (s .log)) (s .count) (lastStep s)) _ _
+    (undo-exactly (s .buffer) (length (s .log)) (s .count) (lastStep s))
+answer-exactly s keeps =
+    carried noSteps (λ u. 0) (λ u. refl) (λ r. refl) (keepCall (s .buffer) (length (s .log)) (s .count)) _ _
+    (keep-exactly (s .buffer) (length (s .log)) (s .count))

@@ -1,6 +1,6 @@
 -- Document 01's table for the calls of a session, row by row, in the document's own numbers: what each call takes, and what it refuses with which
 -- number. "A number is given exactly when its row holds and nothing earlier in the order below applies."
--- Nothing of Session.antt is used but what an edit is: that its calls give these rows and no others is proofs/Refusing.antt.
+-- Nothing of Session.antt is used but what is handed in: that its calls give these rows and no others is proofs/Refusing.antt.
 -- Assumes nothing.
 use mathlib.Core.Path.{_≡_}
 use mathlib.Core.Logic.{_⊎_}
@@ -14,7 +14,7 @@ use Rattle.meaning.specs.declared.Step.{Step}
 use Rattle.meaning.specs.declared.Refusal.{Refusal}
 use Rattle.meaning.specs.Refusal.{good, refused, onCall}
 use Rattle.meaning.specs.Register.{Register, isFact, encode, readBuffer}
-use Rattle.meaning.specs.Session.{Edit}
+use Rattle.meaning.specs.Session.{Edit, Session, Call, opens, edits, undoes, keeps, lastStep}
 
 -- ---- what a row says of a fact, and what it is not to break it
 
@@ -113,3 +113,17 @@ pub data UndoRow (s : List ℕ) (log count : ℕ) (last : Step) (f : Refusal) : 
       → f ≡ onCall 17 → UndoRow s log count last f
   noRoomBack : (x : Counts s log count) → 0 < count → Inside (length (x .register .names)) (last .fact) → RoleFits (last .fact)
       → NoRoom s (x .register) (last .was) (last .fact) → f ≡ onCall 20 → UndoRow s log count last f
+
+-- ---- any call of a session
+
+abbrev pub CallTakes : Session → Call → Type 0
+CallTakes s opens = OpenTakes (s .buffer)
+CallTakes s (edits e) = EditTakes (s .buffer) (length (s .log)) (s .count) e
+CallTakes s undoes = UndoTakes (s .buffer) (length (s .log)) (s .count) (lastStep s)
+CallTakes s keeps = KeepTakes (s .buffer) (length (s .log)) (s .count)
+
+abbrev pub CallRow : Session → Call → Refusal → Type 0
+CallRow s opens = OpenRow (s .buffer)
+CallRow s (edits e) = EditRow (s .buffer) (length (s .log)) (s .count) e
+CallRow s undoes = UndoRow (s .buffer) (length (s .log)) (s .count) (lastStep s)
+CallRow s keeps = KeepRow (s .buffer) (length (s .log)) (s .count)
