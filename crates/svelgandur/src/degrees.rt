@@ -1,15 +1,10 @@
 // The degree and the margin from C.
-use super::answer;
-use asking::Answered;
-use asking::Margin;
+use answers;
 ghost use mathlib.Core.Path.{_≡_};
-ghost use Prim.Native.Nat.{_≤_};
-ghost use lib.IntN.{natAbs};
 ghost use lib.ListN.{length};
 ghost use Rattle.meaning.specs.Calls.{degreeCall, afterDegree, marginCall};
 ghost use Rattle.asking.specs.Answers.{told};
-ghost use Rattle.meaning.specs.Bounds.{mostMargin};
-ghost use Rattle.svelgandur.specs.Numbers.{numbers, degreeNumbers, marginNumbers, belowZero};
+ghost use Rattle.answers.specs.Numbers.{numbers, degreeNumbers, marginNumbers};
 
 // The degree of an item in a plain requirement, in lowest terms, and its map.
 // Good: 1, numerator, denominator, places written. Refused: 0, side, number, place; the map is then untouched.
@@ -27,10 +22,7 @@ pub extern "C" fn svelgandur_degree(
         ≡ afterDegree (now (map .entry)) (degreeCall (now (image .entry)) (now (message .entry)) item (length (now (map .entry)))) ⌝ }
 {
     let r = asking::degree_of(image, message, item as usize, map);
-    match r {
-        Answered::Good { num, den, nodes } => answer::put(answer, 1, num, den, nodes as u64),
-        Answered::Refused { refusal } => answer::refuse(answer, refusal),
-    }
+    answers::of_degree(answer, r);
 }
 
 // The margin of an item's degree in a plain requirement against p/q.
@@ -47,31 +39,5 @@ pub extern "C" fn svelgandur_margin(
     ensures { λ _. ⌜ now (answer .exit) ≡ numbers marginNumbers (marginCall (now (image .entry)) (now (message .entry)) item p q) ⌝ }
 {
     let r = asking::margin_of(image, message, item as usize, p as usize, q as usize);
-    match r {
-        Margin::Good { margin, over } => {
-            answer::put(answer, 1, magnitude(margin), over, below_zero(margin));
-        }
-        Margin::Refused { refusal } => answer::refuse(answer, refusal),
-    }
-}
-
-// A margin without its sign.
-fn magnitude(margin: i64) -> u64
-    requires { ⌜ natAbs margin ≤ mostMargin ⌝ }
-    ensures { λ r. ⌜ r ≡ natAbs margin ⌝ }
-{
-    if margin < 0 {
-        return (0 - margin) as u64;
-    }
-    margin as u64
-}
-
-// Its sign: 1 below zero, else 0.
-fn below_zero(margin: i64) -> u64
-    ensures { λ r. ⌜ r ≡ belowZero margin ⌝ }
-{
-    if margin < 0 {
-        return 1;
-    }
-    0
+    answers::of_margin(answer, r);
 }

@@ -1,11 +1,10 @@
 // The yes/no call from C.
-use crate::answer;
-use deciding::Verdict;
+use answers;
 ghost use mathlib.Core.Path.{_≡_};
 ghost use lib.ListN.{length};
 ghost use Rattle.meaning.specs.Calls.{memberCall, afterMember};
 ghost use Rattle.deciding.specs.Answers.{said};
-ghost use Rattle.svelgandur.specs.Numbers.{numbers, verdicts};
+ghost use Rattle.answers.specs.Numbers.{numbers, verdicts};
 
 // Whether an item meets a requirement; a yes writes the map.
 // Yes: 1, places written, 0, 0. No: 2, 0, 0, 0. Refused: 0, side, number, place.
@@ -21,9 +20,5 @@ pub extern "C" fn svelgandur_member(
     ensures { λ _. ⌜ now (map .exit) ≡ afterMember (now (map .entry)) (memberCall (now (image .entry)) (now (message .entry)) item (length (now (map .entry)))) ⌝ }
 {
     let r = deciding::decide(image, message, item as usize, map);
-    match r {
-        Verdict::Yes { nodes } => answer::put(answer, 1, nodes as u64, 0, 0),
-        Verdict::No => answer::put(answer, 2, 0, 0, 0),
-        Verdict::Refused { refusal } => answer::refuse(answer, refusal),
-    }
+    answers::of_verdict(answer, r);
 }
