@@ -2,9 +2,6 @@
 // answer, then the whole buffer and the log in hex.
 use meaning::Fact;
 use session::Counted;
-
-mod calls;
-
 ghost use mathlib.Core.Path.{_≡_};
 ghost use Rattle.meaning.specs.Session.{play, countAfter};
 ghost use Rattle.session.specs.Calls.{paperCount};
@@ -83,24 +80,24 @@ fn call(
         to: c,
     };
     if kind == b'o' {
-        return calls::open(s, log, count);
+        return session::open(s);
     }
     if kind == b'n' {
-        return calls::edit(s, log, count, name, true);
+        return numbered::edit(s, log, count, name, true);
     }
     if kind == b'N' {
-        return calls::edit(s, log, count, name, false);
+        return numbered::edit(s, log, count, name, false);
     }
     if kind == b'l' {
-        return calls::edit(s, log, count, link, true);
+        return numbered::edit(s, log, count, link, true);
     }
     if kind == b'L' {
-        return calls::edit(s, log, count, link, false);
+        return numbered::edit(s, log, count, link, false);
     }
     if kind == b'u' {
-        return calls::undo(s, log, count);
+        return numbered::undo(s, log, count);
     }
-    calls::keep(s, log, count)
+    numbered::keep(s, log, count)
 }
 
 // Runs a history, four bytes for each call: its kind, a, b and c. What is lent afterwards is what the history makes of it.

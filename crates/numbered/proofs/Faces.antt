@@ -29,14 +29,14 @@ module _ (s log : List ℕ) (count : ℕ) (f : Fact) (v : Bool) where
   edited = editCall s (length log) count (anEdit f v)
 
   pub face-no : (x : Refusal) (r : Edited) (t : List ℕ) → r ≡ NotEdited x → paperEdit r ≡ wasBefore f edited → t ≡ bufferAfter s edited
-      → (paperCount (Refused x) ≡ counted edited) × ((t ≡ bufferAfter s edited) × (log ≡ numbersAfter log count f edited))
+      → (paperCount (Refused x) ≡ counted edited) × (t ≡ bufferAfter s edited) × (log ≡ numbersAfter log count f edited)
   unfolding counted
   face-no x r t e d b = go edited (sym (ap paperEdit e) ∙ d) b
     where
       go : (a : Answer Changed) → refused x ≡ wasBefore f a → t ≡ bufferAfter s a
-          → (refused x ≡ counted a) × ((t ≡ bufferAfter s a) × (log ≡ numbersAfter log count f a))
+          → (refused x ≡ counted a) × (t ≡ bufferAfter s a) × (log ≡ numbersAfter log count f a)
       go (good c) h b = let z : _≡_ {A = ℕ} 0 1 = cc in absurd (omega arith)
-      go (refused y) h b = (ap refused (refused-inj h), (b, refl))
+      go (refused y) h b = (ap refused (refused-inj h), b, refl)
 
   -- the step can be written, and coded
   pub face-room : (by : Bytes s) (was : Bool) (next : ℕ) (r : Edited) → r ≡ Accepted was next → paperEdit r ≡ wasBefore f edited → (count < length log) × Ranged mostItems f
@@ -52,10 +52,11 @@ module _ (s log : List ℕ) (count : ℕ) (f : Fact) (v : Bool) where
 
   pub face-done : (was : Bool) (next x : ℕ) (r : Edited) (t : List ℕ) → r ≡ Accepted was next → paperEdit r ≡ wasBefore f edited → t ≡ bufferAfter s edited
       → x ≡ codeOf (record { fact = f; was = was })
-      → (paperCount (Good next) ≡ counted edited) × ((t ≡ bufferAfter s edited) × (set log count x ≡ numbersAfter log count f edited))
+      → (paperCount (Good next) ≡ counted edited) × (t ≡ bufferAfter s edited) × (set log count x ≡ numbersAfter log count f edited)
   unfolding counted
   face-done was next x r t e d b i =
       let q = accepted f edited was next r e d in (
         ap good (q .3) ∙ sym (ap counted (q .1)),
-        (b, ap (set log count) (i ∙ ap (λ (z : Bool). codeOf (record { fact = f; was = z })) (q .2)) ∙ sym (ap (numbersAfter log count f) (q .1))),
+        b,
+        ap (set log count) (i ∙ ap (λ (z : Bool). codeOf (record { fact = f; was = z })) (q .2)) ∙ sym (ap (numbersAfter log count f) (q .1)),
       )

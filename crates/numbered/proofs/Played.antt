@@ -5,7 +5,6 @@
 use mathlib.Core.Path.{_≡_, refl, sym, ap, ap₂, _∙_}
 use mathlib.Core.List.{List, [], _∷_, map}
 use Prim.Native.Nat.{ℕ, _-_}
-use native.Mathlib.Omega.{arith}
 use lib.ListN.{length, getD, length-map}
 use Rattle.meaning.specs.declared.Step.{Step}
 use Rattle.meaning.specs.Refusal.{Answer, good}
@@ -13,13 +12,13 @@ use Rattle.meaning.specs.Register.{Register, isFact, readBuffer}
 use Rattle.meaning.specs.Session.{Edit, Changed, Call, opens, edits, undoes, keeps, editCall, undoCall, keepCall, noSteps, counted, bufferAfter, logAfter, imageOf}
 use Rattle.meaning.specs.Session.{Session, lastStep, answer, buffer, log, countAfter, next, play, keptIf, accepted, Standing, nothing, told, standing, standingFacts}
 use Rattle.meaning.specs.Demand3.{Shows}
-use Rattle.meaning.proofs.Reading.{good-inj}
 use Rattle.session.specs.declared.Counted.{Counted}
-use Rattle.session.specs.declared.Counted.the-variants.{Good, Refused}
+use Rattle.session.specs.declared.Counted.the-variants.{Good}
 use Rattle.numbered.specs.Coded.{decoded}
 use Rattle.session.specs.Calls.{paperCount}
 use Rattle.numbered.specs.Played.{Lent, lent, steps, Promised, Called, Result, Played, calls, taken}
-use Rattle.session.proofs.Answered.{counts-apart}
+use Rattle.register.proofs.Once.{once}
+use Rattle.session.proofs.Promise.{counts-apart}
 use Rattle.numbered.proofs.Codes.{last-decoded, log-decoded}
 use Rattle.session.proofs.Followed.{shows, edit-moved, undo-moved}
 
@@ -34,7 +33,7 @@ one-result s c r q t u h k = go c (h .promised) (k .promised)
   where
     same : {a : Answer ℕ} {b l : List ℕ} → paperCount r ≡ a → t .buffer ≡ b → t .log ≡ l → paperCount q ≡ a → u .buffer ≡ b → u .log ≡ l → (r ≡ q) × (t ≡ u)
     same a b l x y z =
-        let e = counts-apart r q (a ∙ sym x) in
+        let e = once paperCount counts-apart _ r q a x in
         let n = h .handed ∙ ap (λ (v : Counted). countAfter (s .count) (paperCount v)) e ∙ sym (k .handed) in
         (e, same-lent (b ∙ sym y) (l ∙ sym z) n)
 

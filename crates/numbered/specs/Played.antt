@@ -25,8 +25,7 @@ lent b l n = record { buffer = b; log = l; count = n }
 abbrev pub steps : Lent → Session
 steps s = record { buffer = s .buffer; log = map decoded (s .log); count = s .count }
 
--- The promise of each call, as src/lib.rt has it: r is what it handed back, t what is lent afterwards. What a call is lent for reading, or not at
--- all, stays. The crate history proves of each call that its contract says this.
+-- The promise of each call: r is what it handed back, t what is lent afterwards. What a call is lent for reading, or not at all, stays.
 abbrev pub Promised : Lent → Call → Counted → Lent → Type 0
 Promised s opens r t =
     (paperCount r ≡ noSteps (openCall (s .buffer)))
@@ -45,7 +44,7 @@ Promised s keeps r t =
     × (t .buffer ≡ s .buffer)
     × (t .log ≡ s .log)
 
--- A call of a buffer of bytes. "the count in use is handed over and handed back"; after a refusal "the step count stays".
+-- What the contracts of `edit`, `undo` and `keep` say, and with `session::open` that of an opening: a call of a buffer of bytes. "the count in use is handed over and handed back"; after a refusal "the step count stays".
 pub record Called (s : Lent) (c : Call) (r : Counted) (t : Lent) : Type 0 where
   pub bytes : Bytes (s .buffer)
   pub promised : Promised s c r t

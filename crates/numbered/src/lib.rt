@@ -5,13 +5,14 @@ use session::Counted;
 use session::Edited;
 ghost use mathlib.Core.Path.{_≡_};
 ghost use Prim.Native.Nat.{_+_, _*_, _-_, _<_};
-ghost use lib.ListN.{length, getD};
+ghost use lib.ListN.{getD};
 ghost use Rattle.meaning.specs.Bounds.{mostItems};
 ghost use Rattle.meaning.specs.declared.Step.{Step};
-ghost use Rattle.meaning.specs.Session.{editCall, undoCall, keepCall, noSteps, counted, bufferAfter};
+ghost use Rattle.meaning.specs.Session.{edits, undoes, keeps, countAfter};
 ghost use Rattle.setting.specs.Setting.{Ranged};
 ghost use Rattle.session.specs.Calls.{paperCount, anEdit};
-ghost use Rattle.numbered.specs.Coded.{bit, codeOf, decoded, numbersAfter};
+ghost use Rattle.numbered.specs.Coded.{bit, codeOf, decoded};
+ghost use Rattle.numbered.specs.Played.{lent, Called};
 
 // A step in one number, lowest first: whether the fact was there (2), a name or a link (2), then item (65536) and name, or to (65536), role (256)
 // and from. Every number is the code of one step.
@@ -60,9 +61,7 @@ fn decode(n: u64) -> Step
 }
 
 pub fn edit(s: &mut [u8], log: &mut [u64], count: usize, fact: Fact, adds: bool) -> Counted
-    ensures { λ r. ⌜ paperCount r ≡ counted (editCall (now (s .entry)) (length (now (log .entry))) count (anEdit fact adds)) ⌝ }
-    ensures { λ _. ⌜ now (s .exit) ≡ bufferAfter (now (s .entry)) (editCall (now (s .entry)) (length (now (log .entry))) count (anEdit fact adds)) ⌝ }
-    ensures { λ _. ⌜ now (log .exit) ≡ numbersAfter (now (log .entry)) count fact (editCall (now (s .entry)) (length (now (log .entry))) count (anEdit fact adds)) ⌝ }
+    ensures { λ r. ⌜ Called (lent (now (s .entry)) (now (log .entry)) count) (edits (anEdit fact adds)) r (lent (now (s .exit)) (now (log .exit)) (countAfter count (paperCount r))) ⌝ }
 {
     let r = session::edit_in(s, log.len(), count, fact, adds);
     match r {
@@ -92,15 +91,14 @@ fn last_number(log: &[u64], count: usize) -> u64
 }
 
 pub fn undo(s: &mut [u8], log: &[u64], count: usize) -> Counted
-    ensures { λ r. ⌜ paperCount r ≡ counted (undoCall (now (s .entry)) (length (now (log .entry))) count (decoded (getD (now (log .entry)) (count - 1) 0))) ⌝ }
-    ensures { λ _. ⌜ now (s .exit) ≡ bufferAfter (now (s .entry)) (undoCall (now (s .entry)) (length (now (log .entry))) count (decoded (getD (now (log .entry)) (count - 1) 0))) ⌝ }
+    ensures { λ r. ⌜ Called (lent (now (s .entry)) (now (log .entry)) count) undoes r (lent (now (s .exit)) (now (log .entry)) (countAfter count (paperCount r))) ⌝ }
 {
     let last = decode(last_number(log, count));
     session::undo_in(s, log.len(), count, last)
 }
 
 pub fn keep(s: &[u8], log: &[u64], count: usize) -> Counted
-    ensures { λ r. ⌜ paperCount r ≡ noSteps (keepCall (now (s .entry)) (length (now (log .entry))) count) ⌝ }
+    ensures { λ r. ⌜ Called (lent (now (s .entry)) (now (log .entry)) count) keeps r (lent (now (s .entry)) (now (log .entry)) (countAfter count (paperCount r))) ⌝ }
 {
     session::keep_in(s, log.len(), count)
 }

@@ -14,42 +14,33 @@ use Rattle.meaning.specs.Session.{Edit, Session, Call, opens, edits, undoes, ke
 use Rattle.meaning.specs.Session.{Standing, nothing, told, standing, standingFacts}
 use Rattle.meaning.specs.Demand3.{Shows}
 use Rattle.session.specs.declared.Counted.{Counted}
+use Rattle.recorded.specs.declared.held.Held.{Held}
 use Rattle.session.specs.declared.Counted.the-variants.{Good}
 use Rattle.session.specs.Calls.{paperCount}
-use Rattle.recorded.specs.Played.{Gives, Promised, Played, calls, taken}
+use Rattle.recorded.specs.Played.{session, Promised, Played, calls, taken}
 use Rattle.session.proofs.Followed.{shows, edit-moved, undo-moved}
-use Rattle.session.proofs.Answered.{counts-apart}
+use Rattle.register.proofs.Once.{once-left}
+use Rattle.session.proofs.Promise.{counts-apart}
 
-abbrev session : List ℕ → List Step → ℕ → Session
-session b l n = record { buffer = b; log = l; count = n }
-
--- a promise leaves one session
-left : (s : Session) (a : Answer ℕ) (b : List ℕ) (l : List Step) (r : Counted) (t : Session) → Gives s a b l r t → t ≡ session b l (countAfter (s .count) a)
-left s a b l r t p =
-    ap (λ (z : List ℕ). session z (t .log) (t .count)) (p .buffer) ∙ ap (λ (z : List Step). session b z (t .count)) (p .log)
-    ∙ ap (session b l) (p .count ∙ ap (countAfter (s .count)) (p .answered))
-
--- one call: its answer is meaning's, and so is what is lent afterwards
-pub one-call : (s : Session) (c : Call) (r : Counted) (t : Session) → Promised s c r t → (paperCount r ≡ answer s c) × (t ≡ next s c)
-unfolding answer buffer log next
-one-call s opens r t p = (p .answered, left s _ _ _ r t p)
-one-call s (edits e) r t p = (p .answered, left s _ _ _ r t p)
-one-call s undoes r t p = (p .answered, left s _ _ _ r t p)
-one-call s keeps r t p = (p .answered, left s _ _ _ r t p)
-
--- any two results that a promise allows are equal
+-- any two results that a promise allows are equal: what is handed back, and all that is lent afterwards
 pub one-result : (s : Session) (c : Call) (r q : Counted) (t u : Session) → Promised s c r t → Promised s c q u → (r ≡ q) × (t ≡ u)
-one-result s c r q t u h k =
-    let x = one-call s c r t h in
-    let y = one-call s c q u k in
-    (counts-apart r q (x .0 ∙ sym (y .0)), x .1 ∙ sym (y .1))
+one-result s c = once-left paperCount counts-apart (answer s c) (next s c)
+
+-- where the log is held by value, the log that is handed back among it
+pub one-held : (s : Session) (c : Call) (r q : Held) (t u : List ℕ) (m n : ℕ)
+    → Promised s c (r .answer) (session t (r .log) m) → Promised s c (q .answer) (session u (q .log) n) → (r ≡ q) × (t ≡ u)
+one-held s c r q t u m n h k =
+    let e = one-result s c (r .answer) (q .answer) (session t (r .log) m) (session u (q .log) n) h k in
+    let l : r .log ≡ q .log = ap (λ (z : Session). z .log) (e .1) in
+    let both : r ≡ q = ap₂ (λ (x : List Step) (y : Counted). record { log = x; answer = y }) l (e .0) in
+    (both, ap (λ (z : Session). z .buffer) (e .1))
 
 -- any calls: what they leave, and which were accepted
 pub follows : (s : Session) (hs : List (Call × Counted)) (t : Session) → Played s hs t → (t ≡ play s (calls hs)) × (taken hs ≡ accepted s (calls hs))
 unfolding Played taken play accepted
 follows s [] t p = (p, refl)
 follows s (h ∷ hs) t p =
-    let one = one-call s (h .0) (h .1) (p .0) (p .1) in
+    let one = p .1 in
     let rest = follows (p .0) hs t (p .2) in (
       rest .0 ∙ ap (λ (z : Session). play z (calls hs)) (one .1),
       ap₂ (λ (a : Answer ℕ) (cs : List Call). keptIf a (h .0) cs) (one .0) (rest .1 ∙ ap (λ (z : Session). accepted z (calls hs)) (one .1)),
@@ -75,11 +66,9 @@ module _ (s t : Session) (g : Register) (b : Bytes (s .buffer)) (r : readBuffer 
   pub edit-moves : (e : Edit) (n : ℕ) (u : Session) → Promised t (edits e) (Good n) u → imageOf (u .buffer) ≡ imageOf (t .buffer)
       → standingFacts stands (isFact g) (e .fact) ≡ e .adds
   edit-moves e n u h i =
-      let one = one-call t (edits e) (Good n) u h in
-      edit-moved s t g b r (calls hs) _ (follow .0) (follow .1) n u i e (one .0) (one .1)
+      edit-moved s t g b r (calls hs) _ (follow .0) (follow .1) n u i e (h .0) (h .1)
 
   pub undo-moves : (e : Edit) (es : List Edit) (n : ℕ) (u : Session) → stands .trial ≡ e ∷ es → Promised t undoes (Good n) u
       → imageOf (u .buffer) ≡ imageOf (t .buffer) → standingFacts (told stands undoes) (isFact g) (e .fact) ≡ e .adds
   undo-moves e es n u d h i =
-      let one = one-call t undoes (Good n) u h in
-      undo-moved s t g b r (calls hs) _ (follow .0) (follow .1) n u i e es d (one .0) (one .1)
+      undo-moved s t g b r (calls hs) _ (follow .0) (follow .1) n u i e es d (h .0) (h .1)

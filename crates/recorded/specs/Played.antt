@@ -4,32 +4,19 @@
 use mathlib.Core.Path.{_≡_}
 use mathlib.Core.List.{List, [], _∷_, map}
 use Prim.Native.Nat.{ℕ}
-use lib.ListN.{length}
 use Rattle.meaning.specs.declared.Step.{Step}
-use Rattle.meaning.specs.Refusal.{Answer}
-use Rattle.meaning.specs.Session.{openCall, editCall, undoCall, keepCall, noSteps, counted, bufferOpened, bufferAfter, logAfter}
-use Rattle.meaning.specs.Session.{Session, Call, opens, edits, undoes, keeps, lastStep, countAfter, keptIf}
+use Rattle.meaning.specs.Session.{Session, Call, answer, next, keptIf}
 use Rattle.session.specs.declared.Counted.{Counted}
 use Rattle.session.specs.Calls.{paperCount}
 
--- A call on s hands back r and leaves t: its promise names the answer, the bytes and the records. "the count in use is handed over and handed back";
--- after a refusal "the step count stays".
-pub record Gives (s : Session) (answer : Answer ℕ) (bytes : List ℕ) (steps : List Step) (r : Counted) (t : Session) : Type 0 where
-  pub answered : paperCount r ≡ answer
-  pub buffer : t .buffer ≡ bytes
-  pub log : t .log ≡ steps
-  pub count : t .count ≡ countAfter (s .count) (paperCount r)
+abbrev pub session : List ℕ → List Step → ℕ → Session
+session b l n = record { buffer = b; log = l; count = n }
 
--- the promises of `open`, `records::edit`, `records::undo` and `records::keep`; what a call is lent for reading, or not at all, stays
+-- What the contracts of `edit`, `undo` and `keep` say, on both faces, and with `session::open` that of an opening: a call on s hands back r, which is
+-- meaning's answer, and leaves t, which is what meaning says is next. What a call is lent for reading, or not at all, stays. "the count in use is
+-- handed over and handed back"; after a refusal "the step count stays".
 abbrev pub Promised : Session → Call → Counted → Session → Type 0
-Promised s opens = Gives s (noSteps (openCall (s .buffer))) (bufferOpened (s .buffer) (openCall (s .buffer))) (s .log)
-Promised s (edits e) =
-    Gives s (counted (editCall (s .buffer) (length (s .log)) (s .count) e)) (bufferAfter (s .buffer) (editCall (s .buffer) (length (s .log)) (s .count) e))
-    (logAfter (s .log) (s .count) (e .fact) (editCall (s .buffer) (length (s .log)) (s .count) e))
-Promised s undoes =
-    Gives s (counted (undoCall (s .buffer) (length (s .log)) (s .count) (lastStep s)))
-    (bufferAfter (s .buffer) (undoCall (s .buffer) (length (s .log)) (s .count) (lastStep s))) (s .log)
-Promised s keeps = Gives s (noSteps (keepCall (s .buffer) (length (s .log)) (s .count))) (s .buffer) (s .log)
+Promised s c r t = (paperCount r ≡ answer s c) × (t ≡ next s c)
 
 -- any calls, each with what it handed back, that keep the promises, from s to t
 unfoldable pub Played : Session → List (Call × Counted) → Session → Type 0

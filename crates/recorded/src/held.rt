@@ -3,11 +3,9 @@
 use meaning::Fact;
 use meaning::Step;
 use session::Counted;
-ghost use mathlib.Core.Path.{_≡_};
-ghost use Prim.Native.Nat.{_-_};
-ghost use lib.ListN.{getD};
-ghost use Rattle.meaning.specs.Session.{editCall, undoCall, keepCall, noSteps, counted, bufferAfter, logAfter, noStep};
+ghost use Rattle.meaning.specs.Session.{edits, undoes, keeps, countAfter};
 ghost use Rattle.session.specs.Calls.{paperCount, anEdit};
+ghost use Rattle.recorded.specs.Played.{session, Promised};
 
 // What an edit hands back: the log afterwards, and the answer.
 pub struct Held {
@@ -16,9 +14,7 @@ pub struct Held {
 }
 
 pub fn edit(s: &mut [u8], log: [Step; 64], count: usize, fact: Fact, adds: bool) -> Held
-    ensures { λ r. ⌜ paperCount (r .answer) ≡ counted (editCall (now (s .entry)) 64 count (anEdit fact adds)) ⌝ }
-    ensures { λ _. ⌜ now (s .exit) ≡ bufferAfter (now (s .entry)) (editCall (now (s .entry)) 64 count (anEdit fact adds)) ⌝ }
-    ensures { λ r. ⌜ r .log ≡ logAfter log count fact (editCall (now (s .entry)) 64 count (anEdit fact adds)) ⌝ }
+    ensures { λ r. ⌜ Promised (session (now (s .entry)) log count) (edits (anEdit fact adds)) (r .answer) (session (now (s .exit)) (r .log) (countAfter count (paperCount (r .answer)))) ⌝ }
 {
     let mut held = log;
     let answer = super::edit(s, &mut held, count, fact, adds);
@@ -26,14 +22,13 @@ pub fn edit(s: &mut [u8], log: [Step; 64], count: usize, fact: Fact, adds: bool)
 }
 
 pub fn undo(s: &mut [u8], log: [Step; 64], count: usize) -> Counted
-    ensures { λ r. ⌜ paperCount r ≡ counted (undoCall (now (s .entry)) 64 count (getD log (count - 1) noStep)) ⌝ }
-    ensures { λ _. ⌜ now (s .exit) ≡ bufferAfter (now (s .entry)) (undoCall (now (s .entry)) 64 count (getD log (count - 1) noStep)) ⌝ }
+    ensures { λ r. ⌜ Promised (session (now (s .entry)) log count) undoes r (session (now (s .exit)) log (countAfter count (paperCount r))) ⌝ }
 {
     super::undo(s, &log, count)
 }
 
 pub fn keep(s: &[u8], log: [Step; 64], count: usize) -> Counted
-    ensures { λ r. ⌜ paperCount r ≡ noSteps (keepCall (now (s .entry)) 64 count) ⌝ }
+    ensures { λ r. ⌜ Promised (session (now (s .entry)) log count) keeps r (session (now (s .entry)) log (countAfter count (paperCount r))) ⌝ }
 {
     super::keep(s, &log, count)
 }

@@ -8,14 +8,13 @@ use session::Counted;
 use session::Edited;
 ghost use mathlib.Core.Path.{_≡_};
 ghost use Prim.Native.Nat.{_-_};
-ghost use lib.ListN.{length, getD};
-ghost use Rattle.meaning.specs.Session.{editCall, undoCall, keepCall, noSteps, counted, bufferAfter, logAfter, noStep};
+ghost use lib.ListN.{getD};
+ghost use Rattle.meaning.specs.Session.{edits, undoes, keeps, countAfter, noStep};
 ghost use Rattle.session.specs.Calls.{paperCount, anEdit};
+ghost use Rattle.recorded.specs.Played.{session, Promised};
 
 pub fn edit(s: &mut [u8], log: &mut [Step], count: usize, fact: Fact, adds: bool) -> Counted
-    ensures { λ r. ⌜ paperCount r ≡ counted (editCall (now (s .entry)) (length (now (log .entry))) count (anEdit fact adds)) ⌝ }
-    ensures { λ _. ⌜ now (s .exit) ≡ bufferAfter (now (s .entry)) (editCall (now (s .entry)) (length (now (log .entry))) count (anEdit fact adds)) ⌝ }
-    ensures { λ _. ⌜ now (log .exit) ≡ logAfter (now (log .entry)) count fact (editCall (now (s .entry)) (length (now (log .entry))) count (anEdit fact adds)) ⌝ }
+    ensures { λ r. ⌜ Promised (session (now (s .entry)) (now (log .entry)) count) (edits (anEdit fact adds)) r (session (now (s .exit)) (now (log .exit)) (countAfter count (paperCount r))) ⌝ }
 {
     let r = session::edit_in(s, log.len(), count, fact, adds);
     match r {
@@ -51,15 +50,14 @@ fn record_at(log: &[Step], at: usize) -> Step
 }
 
 pub fn undo(s: &mut [u8], log: &[Step], count: usize) -> Counted
-    ensures { λ r. ⌜ paperCount r ≡ counted (undoCall (now (s .entry)) (length (now (log .entry))) count (getD (now (log .entry)) (count - 1) noStep)) ⌝ }
-    ensures { λ _. ⌜ now (s .exit) ≡ bufferAfter (now (s .entry)) (undoCall (now (s .entry)) (length (now (log .entry))) count (getD (now (log .entry)) (count - 1) noStep)) ⌝ }
+    ensures { λ r. ⌜ Promised (session (now (s .entry)) (now (log .entry)) count) undoes r (session (now (s .exit)) (now (log .entry)) (countAfter count (paperCount r))) ⌝ }
 {
     let last = record_at(log, last_place(count));
     session::undo_in(s, log.len(), count, last)
 }
 
 pub fn keep(s: &[u8], log: &[Step], count: usize) -> Counted
-    ensures { λ r. ⌜ paperCount r ≡ noSteps (keepCall (now (s .entry)) (length (now (log .entry))) count) ⌝ }
+    ensures { λ r. ⌜ Promised (session (now (s .entry)) (now (log .entry)) count) keeps r (session (now (s .entry)) (now (log .entry)) (countAfter count (paperCount r))) ⌝ }
 {
     session::keep_in(s, log.len(), count)
 }

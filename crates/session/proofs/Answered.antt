@@ -79,13 +79,6 @@ read-sizes s items links r e d =
 pub refused-inj : {A : Type 0} {x y : Refusal} → _≡_ {A = Answer A} (refused x) (refused y) → x ≡ y
 refused-inj e = cc
 
--- the document's words tell all results apart
-pub counts-apart : (r q : Counted) → paperCount r ≡ paperCount q → r ≡ q
-counts-apart (Good m) (Good n) e = ap Good (good-inj e)
-counts-apart (Good m) (Refused y) e = let z : _≡_ {A = ℕ} 0 1 = cc in absurd (omega arith)
-counts-apart (Refused x) (Good n) e = let z : _≡_ {A = ℕ} 0 1 = cc in absurd (omega arith)
-counts-apart (Refused x) (Refused y) e = ap Refused (refused-inj e)
-
 pub read-refused : (s : List ℕ) (x : Refusal) (r : Reading) → r ≡ RefusedReading x → paperReading r ≡ sized (readRegisterBy (wrongIn true) s) → readBuffer s ≡ refused x
 unfolding sized _>>=_
 read-refused s x r e d = go (readBuffer s) (sym (ap paperReading e) ∙ d)

@@ -1,3 +1,4 @@
 pub mod Clearing
 pub mod Answered
+pub mod Promise
 pub mod Followed

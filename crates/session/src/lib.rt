@@ -15,10 +15,9 @@ ghost use lib.ListN.{length, take};
 ghost use Rattle.meaning.specs.Bounds.{mostItems, mostLinks, mostSteps};
 ghost use Rattle.meaning.specs.Refusal.{onCall};
 ghost use Rattle.meaning.specs.Session.{zeros, outOfRange, roleAbove};
-ghost use Rattle.meaning.specs.Session.{openCall, editCall, undoCall, keepCall, noSteps, counted, bufferOpened, bufferAfter};
 ghost use Rattle.register.specs.Layout.{imageLength};
 ghost use Rattle.register.specs.Image.{Asked};
-ghost use Rattle.session.specs.Calls.{paperCount, paperEdit, wasBefore, anEdit};
+ghost use Rattle.session.specs.Calls.{anEdit, OpenPromise, EditPromise, UndoPromise, KeepPromise};
 
 // What a call hands back: the count of steps in use, or its refusal.
 pub enum Counted {
@@ -92,8 +91,7 @@ fn role_above(fact: Fact) -> bool
 
 // An edit of the image that the buffer begins with; the log has so many records, of which `count` are in use.
 pub fn edit_in(s: &mut [u8], log: usize, count: usize, fact: Fact, adds: bool) -> Edited
-    ensures { λ r. ⌜ paperEdit r ≡ wasBefore fact (editCall (now (s .entry)) log count (anEdit fact adds)) ⌝ }
-    ensures { λ _. ⌜ now (s .exit) ≡ bufferAfter (now (s .entry)) (editCall (now (s .entry)) log count (anEdit fact adds)) ⌝ }
+    ensures { λ r. ⌜ EditPromise (now (s .entry)) log count (anEdit fact adds) r (now (s .exit)) ⌝ }
 {
     let r = register::read(s, true);
     match r {
@@ -112,8 +110,7 @@ fn edit_read(
     adds: bool,
 ) -> Edited
     requires { ⌜ Asked (now s) (λ g. (items ≡ length (g .names)) × (links ≡ length (g .links))) ⌝ }
-    ensures { λ r. ⌜ paperEdit r ≡ wasBefore fact (editCall (now (s .entry)) log count (anEdit fact adds)) ⌝ }
-    ensures { λ _. ⌜ now (s .exit) ≡ bufferAfter (now (s .entry)) (editCall (now (s .entry)) log count (anEdit fact adds)) ⌝ }
+    ensures { λ r. ⌜ EditPromise (now (s .entry)) log count (anEdit fact adds) r (now (s .exit)) ⌝ }
 {
     if room(log) < count {
         return Edited::Refused {
@@ -149,8 +146,7 @@ fn edit_read(
 
 // An undo of the last step in use.
 pub fn undo_in(s: &mut [u8], log: usize, count: usize, last: Step) -> Counted
-    ensures { λ r. ⌜ paperCount r ≡ counted (undoCall (now (s .entry)) log count last) ⌝ }
-    ensures { λ _. ⌜ now (s .exit) ≡ bufferAfter (now (s .entry)) (undoCall (now (s .entry)) log count last) ⌝ }
+    ensures { λ r. ⌜ UndoPromise (now (s .entry)) log count last r (now (s .exit)) ⌝ }
 {
     let r = register::read(s, true);
     match r {
@@ -168,8 +164,7 @@ fn undo_read(
     last: Step,
 ) -> Counted
     requires { ⌜ Asked (now s) (λ g. (items ≡ length (g .names)) × (links ≡ length (g .links))) ⌝ }
-    ensures { λ r. ⌜ paperCount r ≡ counted (undoCall (now (s .entry)) log count last) ⌝ }
-    ensures { λ _. ⌜ now (s .exit) ≡ bufferAfter (now (s .entry)) (undoCall (now (s .entry)) log count last) ⌝ }
+    ensures { λ r. ⌜ UndoPromise (now (s .entry)) log count last r (now (s .exit)) ⌝ }
 {
     if room(log) < count {
         return Counted::Refused {
@@ -203,8 +198,7 @@ fn undo_read(
 
 // Opens the image that the buffer begins with: all behind it becomes zeros.
 pub fn open(s: &mut [u8]) -> Counted
-    ensures { λ r. ⌜ paperCount r ≡ noSteps (openCall (now (s .entry))) ⌝ }
-    ensures { λ _. ⌜ now (s .exit) ≡ bufferOpened (now (s .entry)) (openCall (now (s .entry))) ⌝ }
+    ensures { λ r. ⌜ OpenPromise (now (s .entry)) r (now (s .exit)) ⌝ }
 {
     let r = register::read(s, true);
     match r {
@@ -229,8 +223,7 @@ fn clear(s: &mut [u8], from: usize)
 fn open_read(s: &mut [u8], items: usize, links: usize) -> Counted
     requires { ⌜ Asked (now s) (λ g. (items ≡ length (g .names)) × (links ≡ length (g .links))) ⌝ }
     requires { ⌜ (items ≤ mostItems) × (links ≤ mostLinks) × (imageLength items links ≤ length (now s)) ⌝ }
-    ensures { λ r. ⌜ paperCount r ≡ noSteps (openCall (now (s .entry))) ⌝ }
-    ensures { λ _. ⌜ now (s .exit) ≡ bufferOpened (now (s .entry)) (openCall (now (s .entry))) ⌝ }
+    ensures { λ r. ⌜ OpenPromise (now (s .entry)) r (now (s .exit)) ⌝ }
 {
     clear(s, layout::image_len(items, links));
     Counted::Good { count: 0 }
@@ -238,7 +231,7 @@ fn open_read(s: &mut [u8], items: usize, links: usize) -> Counted
 
 // Keeps all edits: none can be taken back any more.
 pub fn keep_in(s: &[u8], log: usize, count: usize) -> Counted
-    ensures { λ r. ⌜ paperCount r ≡ noSteps (keepCall (now (s .entry)) log count) ⌝ }
+    ensures { λ r. ⌜ KeepPromise (now (s .entry)) log count r ⌝ }
 {
     let r = register::read(s, true);
     match r {

@@ -62,9 +62,9 @@ use Rattle.session.specs.declared.Counted.{Counted}
 use Rattle.session.specs.declared.Counted.the-variants.{Good, Refused}
 use Rattle.session.specs.declared.Edited.{Edited}
 use Rattle.session.specs.declared.Edited.the-variants.{Accepted, Refused as NotEdited}
-use Rattle.recorded.proofs.Walk.{hence, envAt, armAt, holds, both, shown}
+use Rattle.recorded.proofs.Walk.{hence, envAt, armAt, holds, shown}
 use Rattle.recorded.proofs.Log.{R, vals, val, fact-vals, fact-val, scaled, step-typed, fact-typed}
-use Rattle.recorded.proofs.Recorded.{step, edited, none-written, has-place, one-written}
+use Rattle.recorded.proofs.Recorded.{step, edited, none-written, has-place, one-written, edit-promised}
 use Rattle.session.proofs.Counted as O
 use Rattle.session.proofs.Counted.Laws as O′
 use Rattle.session.proofs.Edited as D
@@ -167,7 +167,7 @@ module _ {M : Type 1} (𝓤 : URA M) (H : Heap 𝓤) (A : Atoms 𝓤) (W : Given
       qed W (‵ (fobs γ′ (codedHoleys R .code (heres R ls))) ∷ ‵ (fbor κ′ (Held R (length ls) b′ o′ γ′)) ∷ ‵ (flft κ′ q′) ∷ (‵ (flft κ q) ⊛ ‵ ftrue) ∷ ‵ (finally u8 γ zs) ∷ []) ∵
       suffices ! _ (ends-at 𝓤 H A edit.ended stayed (edit.clauses 𝓤 H A mem run) W (((κ, (κ′, tt)), (q, (q′, tt)), tt, a, at), tt) (ans r) r (zs, (ls, (tt, (tt, (tt, tt)))))
       (l, (l′, (tt, (tt, (tt, tt)))))) $
-      shown ! (both 𝓤 (holds 𝓤 (search answer)) (both 𝓤 (holds 𝓤 (search buffer)) (holds 𝓤 (search log)))) $
+      shown ! (holds 𝓤 (edit-promised bs ys c f v r zs ls answer buffer log)) $
       -- the tokens
       move ! (3 ∷ []) $ split ! $ move ! (4 ∷ 1 ∷ []) $ join ! $ move ! (1 ∷ 0 ∷ []) $ join ! $ frame ! $
       -- [obs; the borrow; the buffer's last list]: what the log owns, and the parameters
@@ -214,15 +214,15 @@ module _ {M : Type 1} (𝓤 : URA M) (H : Heap 𝓤) (A : Atoms 𝓤) (W : Given
         use1 W (later (some (λ (r : Edited). ((‵ (flft κ q) ⊛ ‵ ftrue) ⊛ ‵ (D.the-row .own r (w ∷ []))) ⊛ raw
         (ensured 𝓤 H A edit-in.ended (edit-in.clauses 𝓤 H A mem run) (κ, tt) passed tt r)))) (id⊢ 𝓤 _) $
         await ! tt $ pick ! (λ r. split ! $ move ! (1 ∷ []) $
-        use1 W (some (λ (zs : List ℕ × (Unit {0} × (Unit {0} × (Unit {0} × (Unit {0} × Unit {0}))))). ‵ (lasts edit-in.ended (κ, tt) passed zs) ⊛ raw (fact 𝓤 (Answers r)) ⊛ raw
-        (fact 𝓤 (Leaves (zs .0))))) (id⊢ 𝓤 _) $ pick ! (λ zs.
-        split ! $ move ! (1 ∷ []) $ split ! $ heard ! (Answers r) (λ e. heard ! (Leaves (zs .0)) (λ e′. fsplit ! $ fsplit ! $ move ! (1 ∷ []) $ feqL ! (λ l.
+        use1 W (some (λ (zs : List ℕ × (Unit {0} × (Unit {0} × (Unit {0} × (Unit {0} × Unit {0}))))). ‵ (lasts edit-in.ended (κ, tt) passed zs) ⊛ raw
+        (fact 𝓤 (Answers r × Leaves (zs .0))))) (id⊢ 𝓤 _) $ pick ! (λ zs.
+        split ! $ move ! (1 ∷ []) $ heard ! (Answers r × Leaves (zs .0)) (λ e. fsplit ! $ fsplit ! $ move ! (1 ∷ []) $ feqL ! (λ l.
         -- [the buffer's last list; true; the token and the core's answer; the log's token; what log and the values own; _16; …]
         move ! (2 ∷ []) $ split ! $ move ! (1 ∷ []) $ peeks ! D.the-row (Is D.the-row) (shows 𝓤 H A D.the-row) r (w ∷ []) (λ is.
         let told = EL.tells D.the-type D′.the-laws r _ is in
         land ! (from ! (stop !)) (init ! 26 refl (core-typed r w is)) $ rewrite ! 26 (λ (z : Val). ‵ (fat fullShare D′.mir l₆ 0 z)) (ap only told) refl $ drop ! $
         -- [the token; the buffer's last list; true; the log's token; what log and the values own; _16; …]
-        first ! $ hence ! (Answers r × Is D.the-row r (core r ∷ [])) (e, subst (Is D.the-row r) told is) (
+        first ! $ hence ! (Answers r × Is D.the-row r (core r ∷ [])) (e .0, subst (Is D.the-row r) told is) (
         let E : Env 𝓤 H = envAt 𝓤 H (code.function .locals) (l₀ ∷ l₁ ∷ l₂ ∷ l₃ ∷ l₄ ∷ l₅ ∷ l₆ ∷ l₇ ∷ l₈ ∷ l₉ ∷ l₁₀ ∷ l₁₁ ∷ l₁₂ ∷ l₁₃ ∷ l₁₄ ∷ l₁₅ ∷ l₁₆ ∷ []) in
         elim r [
           | Accepted t n ↦ (λ h.
@@ -256,7 +256,7 @@ module _ {M : Type 1} (𝓤 : URA M) (H : Heap 𝓤) (A : Atoms 𝓤) (W : Given
               move ! (31 ∷ 32 ∷ []) $ free1 ! $ move ! (29 ∷ 30 ∷ []) $ free1 ! $ move ! (27 ∷ 28 ∷ []) $ free1 ! $ move ! (25 ∷ 26 ∷ []) $ free1 ! $ move ! (23 ∷ 24 ∷ []) $ free1 ! $
               move ! (21 ∷ 22 ∷ []) $ free1 ! $ move ! (19 ∷ 20 ∷ []) $ free1 ! $ move ! (17 ∷ 18 ∷ []) $ free1 ! $ move ! (15 ∷ 16 ∷ []) $ free1 ! $ move ! (13 ∷ 14 ∷ []) $ free1 ! $
               move ! (11 ∷ 12 ∷ []) $ free1 ! $ move ! (9 ∷ 10 ∷ []) $ free1 ! $ free0 ! $
-              keep ! (0 ∷ 1 ∷ 2 ∷ 6 ∷ 7 ∷ []) $ by ! (exits room (Good n) (zs .0) (set ys c (step f t)) good (wrote .0) e′ (wrote .1) l (length-set ys c (step f t)))))
+              keep ! (0 ∷ 1 ∷ 2 ∷ 6 ∷ 7 ∷ []) $ by ! (exits room (Good n) (zs .0) (set ys c (step f t)) good (wrote .0) (e .1) (wrote .1) l (length-set ys c (step f t)))))
           | NotEdited k ↦ (λ h.
               let refused : Is N (Refused k) (ans (Refused k) ∷ []) = refused-is k (h .1) in let wrote = none-written bs ys c f v k (h .0) in
               switches-on ! (load ! (from ! (vrt ! refl (fld ! refl (stop !)))) (look-tag ! 25 (whole !))) $ exec ! C Λ E (armAt mir.s-5 1) (Then E) $
@@ -273,8 +273,8 @@ module _ {M : Type 1} (𝓤 : URA M) (H : Heap 𝓤) (A : Atoms 𝓤) (W : Given
               move ! (17 ∷ 18 ∷ []) $ free1 ! $ move ! (15 ∷ 16 ∷ []) $ free1 ! $ move ! (13 ∷ 14 ∷ []) $ free1 ! $ move ! (11 ∷ 12 ∷ []) $ free1 ! $ move ! (9 ∷ 10 ∷ []) $ free1 ! $
               move ! (7 ∷ 8 ∷ []) $ free1 ! $ move ! (5 ∷ 6 ∷ []) $ free1 ! $ free0 ! $
               move ! (4 ∷ []) $ fsplit ! $ fsplit ! $ move ! (1 ∷ []) $ fsplit ! $ move ! (7 ∷ []) $ split ! $
-              keep ! (2 ∷ 3 ∷ 0 ∷ 6 ∷ 7 ∷ []) $ by ! (exits room (Refused k) (zs .0) ys refused (wrote .0) e′ (wrote .1) l refl))
-        ])))))))))))))))))))))))))
+              keep ! (2 ∷ 3 ∷ 0 ∷ 6 ∷ 7 ∷ []) $ by ! (exits room (Refused k) (zs .0) ys refused (wrote .0) (e .1) (wrote .1) l refl))
+        ]))))))))))))))))))))))))
 
 module _ {M : Type 1} (𝓤 : URA M) (H : Heap 𝓤) (A : Atoms 𝓤) (W : Given 𝓤 H A) (mem : Memory → SProp 𝓤) (run : Routine → Fun 𝓤) where
   edit-walks : (C : Calls 𝓤 H) (Λ : Loops 𝓤 H) → FmC 𝓤 H (W .laws) C → Triple 𝓤 (C #edit-in) (Edit 𝓤 H A mem run)

@@ -44,6 +44,7 @@ use Rattle.meaning.specs.declared.Step.{Step}
 use Rattle.session.specs.Calls.{paperCount}
 use Rattle.session.specs.declared.Counted.{Counted}
 use Rattle.recorded.proofs.Log.{R}
+use Rattle.recorded.proofs.Recorded.{keep-promised}
 use Rattle.session.proofs.Counted as O
 use Rattle.session.proofs.Counted.Laws as O′
 use Rattle.session.proofs.keep_in as keep-in
@@ -115,7 +116,7 @@ module _ {M : Type 1} (𝓤 : URA M) (H : Heap 𝓤) (A : Atoms 𝓤) (W : Given
   exits r w e =
       qed W ((‵ (flft κ q) ⊛ ‵ (flft κ′ q′) ⊛ ‵ ftrue) ∷ ‵ (owns (ShrSlice (named 0) κ u8 ∷ ShrSlice (named 1) κ′ R ∷ usize ∷ []) a at) ∷ ‵ (N .own r (w ∷ [])) ∷ []) ∵
       suffices ! _ (ends-at 𝓤 H A keeps.ended stayed (keeps.clauses 𝓤 H A mem run) W (((κ, (κ′, tt)), (q, (q′, tt)), tt, a, at), tt) w r (tt, (tt, (tt, tt))) (tt, (tt, (tt, tt)))) $
-      says ! e $ frame ! $ done !
+      says ! (keep-promised bs ys c r e) $ frame ! $ done !
 
   ans-typed : (r : Counted) (w : Val) → Is N r (w ∷ []) → Holds (hasTy O′.mir w) × WT w
   ans-typed r w is = EL.lawful O.the-type O′.the-laws 𝓤 H A W tt .typed r _ is .0

@@ -42,14 +42,15 @@ use denote.Triple.Table.{entered, cited}
 use denote.Triple.Walked.{Stays, stay-none, stay-none-slice, gave-slice, walkOf, goes-none, goes-none-slice, goes-gave-slice, Walks, ends-at, walked, walk-meets}
 use denote.Exit.{yes}
 use denote.Signature.{plain}
-use Rattle.meaning.specs.Session.{undoCall, counted, bufferAfter, noStep}
+use Rattle.meaning.specs.Session.{noStep}
 use Rattle.meaning.specs.declared.Step.{Step}
 use Rattle.meaning.proofs.Step as T
 use Rattle.meaning.proofs.Step.Laws as T′
-use Rattle.session.specs.Calls.{paperCount}
+use Rattle.session.specs.Calls.{UndoPromise}
 use Rattle.session.specs.declared.Counted.{Counted}
-use Rattle.recorded.proofs.Walk.{holds, both, shown}
+use Rattle.recorded.proofs.Walk.{holds, shown}
 use Rattle.recorded.proofs.Log.{R, vals, val}
+use Rattle.recorded.proofs.Recorded.{undo-promised}
 use Rattle.session.proofs.Counted as O
 use Rattle.session.proofs.Counted.Laws as O′
 use Rattle.recorded.proofs.last_place as last-place
@@ -126,11 +127,8 @@ module _ {M : Type 1} (𝓤 : URA M) (H : Heap 𝓤) (A : Atoms 𝓤) (W : Given
   Post = walkOf 𝓤 H A undo.ended stayed (undo.clauses 𝓤 H A mem run) .post (((κ, (κ′, tt)), (q, (q′, tt)), tt, a, at), tt)
 
   -- what `undo_in` ensures of its answer, and of the buffer's last list
-  abbrev Answers : Counted → Type 0
-  Answers r = paperCount r ≡ counted (undoCall bs (length ys) c elem)
-
-  abbrev Leaves : List ℕ → Type 0
-  Leaves zs = zs ≡ bufferAfter bs (undoCall bs (length ys) c elem)
+  abbrev Says : Counted → List ℕ → Type 0
+  Says r zs = UndoPromise bs (length ys) c elem r zs
 
   -- what each callee's triple binds outside, and that the caller has what it asks
   abbrev to-place : Place 𝓤 H A mem run .Ghost
@@ -164,12 +162,12 @@ module _ {M : Type 1} (𝓤 : URA M) (H : Heap 𝓤) (A : Atoms 𝓤) (W : Given
       owned ! usize (Is usize) (uint-makes 𝓤 H A W w64) (length ys) _ (refl, n-fits) $ fjoin ! $ move ! (2 ∷ 0 ∷ []) $ fjoin ! $
       nothing ! $ move ! (2 ∷ 0 ∷ []) $ join ! $ join ! $ frame ! $ done !
 
-  exits : (r : Counted) (w : Val) (zs : List ℕ) → Answers r → Leaves zs → length zs ≡ length bs
+  exits : (r : Counted) (w : Val) (zs : List ℕ) → Says r zs → length zs ≡ length bs
       → ent 𝓤 (⋆ 𝓤 H A ((‵ (flft κ q) ⊛ ‵ (flft κ′ q′) ⊛ ‵ ftrue) ∷ ‵ (finally u8 γ zs) ∷ ‵ (owns (ShrSlice (named 1) κ′ R ∷ usize ∷ []) (a .1) (at .1)) ∷ ‵ (N .own r (w ∷ [])) ∷ [])) (Post w)
-  exits r w zs e e′ l =
+  exits r w zs e l =
       qed W ((‵ (flft κ q) ⊛ ‵ (flft κ′ q′) ⊛ ‵ ftrue) ∷ ‵ (finally u8 γ zs) ∷ ‵ (owns (ShrSlice (named 1) κ′ R ∷ usize ∷ []) (a .1) (at .1)) ∷ ‵ (N .own r (w ∷ [])) ∷ []) ∵
       suffices ! _ (ends-at 𝓤 H A undo.ended stayed (undo.clauses 𝓤 H A mem run) W (((κ, (κ′, tt)), (q, (q′, tt)), tt, a, at), tt) w r (zs, (tt, (tt, tt))) (l, (tt, (tt, tt)))) $
-      shown ! (both 𝓤 (holds 𝓤 e) (holds 𝓤 e′)) $ frame ! $ fjoin ! $ done !
+      shown ! (holds 𝓤 (undo-promised bs ys c r zs e)) $ frame ! $ fjoin ! $ done !
 
   ans-typed : (r : Counted) (w : Val) → Is N r (w ∷ []) → Holds (hasTy O′.mir w) × WT w
   ans-typed r w is = EL.lawful O.the-type O′.the-laws 𝓤 H A W tt .typed r _ is .0
@@ -224,9 +222,9 @@ module _ {M : Type 1} (𝓤 : URA M) (H : Heap 𝓤) (A : Atoms 𝓤) (W : Given
         use1 W (later (some (λ (r : Counted). ((‵ (flft κ q) ⊛ ‵ ftrue) ⊛ ‵ (N .own r (u ∷ []))) ⊛ raw
         (ensured 𝓤 H A undo-in.ended (undo-in.clauses 𝓤 H A mem run) (κ, tt) passed tt r)))) (id⊢ 𝓤 _) $
         await ! tt $ pick ! (λ r. split ! $ move ! (1 ∷ []) $
-        use1 W (some (λ (ls : List ℕ × (Unit {0} × (Unit {0} × (Unit {0} × Unit {0})))). ‵ (lasts undo-in.ended (κ, tt) passed ls) ⊛ raw (fact 𝓤 (Answers r)) ⊛ raw
-        (fact 𝓤 (Leaves (ls .0))))) (id⊢ 𝓤 _) $ pick ! (λ ls.
-        split ! $ move ! (1 ∷ []) $ split ! $ heard ! (Answers r) (λ e. heard ! (Leaves (ls .0)) (λ e′. fsplit ! $ fsplit ! $ move ! (1 ∷ []) $ feqL ! (λ l.
+        use1 W (some (λ (ls : List ℕ × (Unit {0} × (Unit {0} × (Unit {0} × Unit {0})))). ‵ (lasts undo-in.ended (κ, tt) passed ls) ⊛ raw
+        (fact 𝓤 (Says r (ls .0))))) (id⊢ 𝓤 _) $ pick ! (λ ls.
+        split ! $ move ! (1 ∷ []) $ heard ! (Says r (ls .0)) (λ e. fsplit ! $ fsplit ! $ move ! (1 ∷ []) $ feqL ! (λ l.
         -- [the buffer's last list; true; the buffer's token and the answer; the log's token; true; log; count's; _7; …]
         move ! (2 ∷ []) $ split ! $ move ! (1 ∷ []) $ peeks ! N (Is N) (shows 𝓤 H A N) r (u ∷ []) (λ is″.
         land ! (from ! (stop !)) (init ! 22 refl (ans-typed r u is″)) $ returns ! (look ! 22 refl) $
@@ -234,7 +232,7 @@ module _ {M : Type 1} (𝓤 : URA M) (H : Heap 𝓤) (A : Atoms 𝓤) (W : Given
         move ! (22 ∷ 23 ∷ []) $ free1 ! $ move ! (20 ∷ 21 ∷ []) $ free1 ! $ move ! (18 ∷ 19 ∷ []) $ free1 ! $ move ! (16 ∷ 17 ∷ []) $ free1 ! $ move ! (14 ∷ 15 ∷ []) $ free1 ! $
         move ! (12 ∷ 13 ∷ []) $ free1 ! $ move ! (10 ∷ 11 ∷ []) $ free1 ! $ move ! (8 ∷ 9 ∷ []) $ free1 ! $ free0 ! $
         -- [the answer; the buffer's token; its last list; true; the log's token; true; log; count's]
-        move ! (1 ∷ []) $ split ! $ move ! (0 ∷ 5 ∷ []) $ join ! $ move ! (6 ∷ 7 ∷ []) $ fjoin ! $ keep ! (1 ∷ 4 ∷ 0 ∷ 3 ∷ []) $ by ! (exits r u (ls .0) e e′ l))))))))))))))))))))))))))
+        move ! (1 ∷ []) $ split ! $ move ! (0 ∷ 5 ∷ []) $ join ! $ move ! (6 ∷ 7 ∷ []) $ fjoin ! $ keep ! (1 ∷ 4 ∷ 0 ∷ 3 ∷ []) $ by ! (exits r u (ls .0) e l)))))))))))))))))))))))))
 
 module _ {M : Type 1} (𝓤 : URA M) (H : Heap 𝓤) (A : Atoms 𝓤) (W : Given 𝓤 H A) (mem : Memory → SProp 𝓤) (run : Routine → Fun 𝓤) where
   undo-walks : (C : Calls 𝓤 H) (Λ : Loops 𝓤 H) → FmC 𝓤 H (W .laws) C → Known 𝓤 H A mem run C → Walks 𝓤 H A undo.ended stayed (WpFn 𝓤 H C Λ code.function) (undo.clauses 𝓤 H A mem run)

@@ -1,7 +1,7 @@
 -- `recorded::held::edit` meets its contract: a walk of its MIR, by hand. The array that was passed by value is copied into a local, which is lent to
--- `records::edit` as a slice for a lifetime that is made for the call; it comes back, is read whole, and goes into the result. The buffer goes to
+-- `recorded::edit` as a slice for a lifetime that is made for the call; it comes back, is read whole, and goes into the result. The buffer goes to
 -- the call for good.
--- All that the proof knows of `records::edit` is that it meets its contract.
+-- All that the proof knows of `recorded::edit` is that it meets its contract.
 -- Assumes nothing.
 use mathlib.Core.Path.{_≡_, refl, sym, _∙_, ap, subst}
 use Prim.Native.Nat.{ℕ, _<_, _^_}
@@ -49,8 +49,7 @@ use denote.Triple.Table.{entered, cited}
 use denote.Triple.Walked.{Stays, stay-none, gave-slice, walkOf, goes-none, goes-gave-slice, Walks, ends-at, walked, walk-meets}
 use denote.Exit.{yes}
 use denote.Signature.{plain}
-use Rattle.meaning.specs.Refusal.{Answer}
-use Rattle.meaning.specs.Session.{Changed, editCall, counted, bufferAfter, logAfter}
+use Rattle.meaning.specs.Session.{edits, countAfter}
 use Rattle.meaning.specs.declared.Fact.{Fact}
 use Rattle.meaning.specs.declared.Step.{Step}
 use Rattle.meaning.proofs.Fact as F
@@ -59,7 +58,8 @@ use Rattle.meaning.proofs.Step as T
 use Rattle.meaning.proofs.Step.Laws as T′
 use Rattle.session.specs.Calls.{paperCount, anEdit}
 use Rattle.session.specs.declared.Counted.{Counted}
-use Rattle.recorded.proofs.Walk.{holds, both, shown}
+use Rattle.recorded.specs.Played.{session, Promised}
+use Rattle.recorded.proofs.Walk.{holds, shown}
 use Rattle.recorded.proofs.Local.{local-in, local-whole}
 use Rattle.recorded.proofs.Log.{R, vals, fact-vals, fact-val, arr, room-64, fact-typed, steps-typed, steps-own}
 use Rattle.recorded.proofs.held.Held as K
@@ -133,19 +133,9 @@ module _ {M : Type 1} (𝓤 : URA M) (H : Heap 𝓤) (A : Atoms 𝓤) (W : Given
   abbrev Post : Val → SProp 𝓤
   Post = walkOf 𝓤 H A edit-held.ended stayed (edit-held.clauses 𝓤 H A at-mem run) .post (((κ, tt), (q, tt), tt, a, at), tt)
 
-  -- the edit of a log of n records
-  abbrev edited : ℕ → Answer Changed
-  edited n = editCall bs n c (anEdit f v)
-
-  -- what `records::edit` ensures of its answer and of the last lists
-  abbrev Answers : Counted → Type 0
-  Answers r = paperCount r ≡ counted (edited (length ys))
-
-  abbrev Leaves : List ℕ → Type 0
-  Leaves zs = zs ≡ bufferAfter bs (edited (length ys))
-
-  abbrev Writes : List Step → Type 0
-  Writes ls = ls ≡ logAfter ys c f (edited (length ys))
+  -- what `recorded::edit` ensures of its answer and of the last lists
+  abbrev Says : Counted → List ℕ → List Step → Type 0
+  Says r zs ls = Promised (session bs ys c) (edits (anEdit f v)) r (session zs ls (countAfter c (paperCount r)))
 
   abbrev passed : ℕ → GName → RefT (List ℕ) × (RefT (List Step) × (ℕ × (Fact × (Bool × Unit {0}))))
   passed l δ = (x bs, (y l δ, (c, (f, (v, tt)))))
@@ -166,14 +156,13 @@ module _ {M : Type 1} (𝓤 : URA M) (H : Heap 𝓤) (A : Atoms 𝓤) (W : Given
   abbrev put-together : Val → Val → Val
   put-together z w = vstruct (vcons z (vcons w vnil))
 
-  exits : (r : Counted) (z w : Val) (zs : List ℕ) (ls : List Step) → Is D (record { log = ls; answer = r }) (put-together z w ∷ []) → Answers r → Leaves zs → Writes ls
+  exits : (r : Counted) (z w : Val) (zs : List ℕ) (ls : List Step) → Is D (record { log = ls; answer = r }) (put-together z w ∷ []) → Says r zs ls
       → length zs ≡ length bs → ent 𝓤 (⋆ 𝓤 H A (‵ (flft κ q) ∷ ‵ (finally u8 γ zs) ∷ [])) (Post (put-together z w))
-  exits r z w zs ls is e e′ e″ l =
+  exits r z w zs ls is e l =
       qed W (‵ (flft κ q) ∷ ‵ (finally u8 γ zs) ∷ []) ∵
       suffices ! _ (ends-at 𝓤 H A edit-held.ended stayed (edit-held.clauses 𝓤 H A at-mem run) W (((κ, tt), (q, tt), tt, a, at), tt) (put-together z w)
       (record { log = ls; answer = r }) (zs, (tt, (tt, (tt, (tt, tt))))) (l, (tt, (tt, (tt, (tt, tt)))))) $
-      shown ! (both 𝓤 (holds 𝓤 (e ∙ ap (λ (m : ℕ). counted (edited m)) long)) (both 𝓤 (holds 𝓤 (e′ ∙ ap (λ (m : ℕ). bufferAfter bs (edited m)) long))
-      (holds 𝓤 (e″ ∙ ap (λ (m : ℕ). logAfter ys c f (edited m)) long)))) $
+      shown ! (holds 𝓤 e) $
       nothing ! $ move ! (1 ∷ 0 ∷ []) $ join ! $ frame ! $
       nothing ! $ owned ! Boolean (Is Boolean) (bool-makes 𝓤 H A W) v _ refl $ fjoin ! $ owned ! F.the-row (Is F.the-row) (EL.makes F.the-type F′.the-plain 𝓤 H A) f _ f-is $
       fjoin ! $ owned ! usize (Is usize) (uint-makes 𝓤 H A W w64) c _ (refl, c-fits) $ fjoin ! $
@@ -219,9 +208,8 @@ module _ {M : Type 1} (𝓤 : URA M) (H : Heap 𝓤) (A : Atoms 𝓤) (W : Given
         use1 W (later (some (λ (r : Counted). ((‵ (flft κ q) ⊛ ‵ (flft (ν ∷ []) fullShare) ⊛ ‵ ftrue) ⊛ ‵ (N .own r (w ∷ []))) ⊛ raw
         (ensured 𝓤 H A edit.ended (edit.clauses 𝓤 H A at-mem run) (κ, (ν ∷ [], tt)) (passed l₆ δ) tt r)))) (id⊢ 𝓤 _) $ await ! tt $ pick ! (λ r.
         split ! $ move ! (1 ∷ []) $ use1 W (some (λ (zs : List ℕ × (List Step × (Unit {0} × (Unit {0} × (Unit {0} × Unit {0}))))). ‵ (lasts edit.ended (κ, (ν ∷ [], tt))
-        (passed l₆ δ) zs) ⊛ raw (fact 𝓤 (Answers r)) ⊛ raw (fact 𝓤 (Leaves (zs .0))) ⊛ raw (fact 𝓤 (Writes (zs .1 .0))))) (id⊢ 𝓤 _) $ pick ! (λ zs.
-        split ! $ move ! (1 ∷ []) $ split ! $ heard ! (Answers r) (λ e. split ! $
-        heard ! (Leaves (zs .0)) (λ e′. heard ! (Writes (zs .1 .0)) (λ e″. fsplit ! $ fsplit ! $ move ! (1 ∷ []) $
+        (passed l₆ δ) zs) ⊛ raw (fact 𝓤 (Says r (zs .0) (zs .1 .0))))) (id⊢ 𝓤 _) $ pick ! (λ zs.
+        split ! $ move ! (1 ∷ []) $ heard ! (Says r (zs .0) (zs .1 .0)) (λ e. fsplit ! $ fsplit ! $ move ! (1 ∷ []) $
         feqL ! (λ l. move ! (1 ∷ []) $ fsplit ! $ fsplit ! $ move ! (1 ∷ []) $ feqL ! (λ l′.
         -- [log's last list; true; buf's; the tokens and the answer; true; the others'; the lender's part; _12; …]
         move ! (3 ∷ []) $ split ! $ move ! (1 ∷ []) $ peeks ! N (Is N) (shows 𝓤 H A N) r (w ∷ []) (λ is.
@@ -242,7 +230,7 @@ module _ {M : Type 1} (𝓤 : URA M) (H : Heap 𝓤) (A : Atoms 𝓤) (W : Given
         move ! (31 ∷ 32 ∷ []) $ free1 ! $ move ! (29 ∷ 30 ∷ []) $ free1 ! $ move ! (27 ∷ 28 ∷ []) $ free1 ! $ move ! (25 ∷ 26 ∷ []) $ free1 ! $ move ! (23 ∷ 24 ∷ []) $ free1 ! $
         move ! (21 ∷ 22 ∷ []) $ free1 ! $ move ! (1 ∷ 20 ∷ []) $ free1 ! $ move ! (17 ∷ 18 ∷ []) $ free1 ! $ move ! (15 ∷ 16 ∷ []) $ free1 ! $ move ! (13 ∷ 14 ∷ []) $ free1 ! $
         move ! (11 ∷ 12 ∷ []) $ free1 ! $ move ! (9 ∷ 10 ∷ []) $ free1 ! $ move ! (7 ∷ 8 ∷ []) $ free1 ! $ free0 ! $
-        keep ! (2 ∷ 4 ∷ []) $ by ! (exits r z w (zs .0) (zs .1 .0) (held-is (zs .1 .0) r z w all′ is) e e′ e″ l)))))))))))))))))))))))))))
+        keep ! (2 ∷ 4 ∷ []) $ by ! (exits r z w (zs .0) (zs .1 .0) (held-is (zs .1 .0) r z w all′ is) e l)))))))))))))))))))))))))
 
 module _ {M : Type 1} (𝓤 : URA M) (H : Heap 𝓤) (A : Atoms 𝓤) (W : Given 𝓤 H A) (mem : Memory → SProp 𝓤) (run : Routine → Fun 𝓤) where
   edit-walks : (C : Calls 𝓤 H) (Λ : Loops 𝓤 H) → FmC 𝓤 H (W .laws) C → Triple 𝓤 (C #edit) (Edit 𝓤 H A mem run)

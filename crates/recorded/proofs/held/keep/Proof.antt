@@ -1,7 +1,7 @@
 -- `recorded::held::keep` meets its contract: a walk of its MIR, by hand. The array that was passed by value is copied into a local, which is lent to
--- `records::keep` as a `&[Step]` for a lifetime that is made for the call; then it is freed. Of what the buffer owns, which can be had twice, one copy
+-- `recorded::keep` as a `&[Step]` for a lifetime that is made for the call; then it is freed. Of what the buffer owns, which can be had twice, one copy
 -- goes to the call.
--- All that the proof knows of `records::keep` is that it meets its contract.
+-- All that the proof knows of `recorded::keep` is that it meets its contract.
 -- Assumes nothing.
 use mathlib.Core.Path.{_≡_, refl, sym, ap, subst, _∙_}
 use Prim.Native.Nat.{ℕ, _<_, _^_}
@@ -47,12 +47,13 @@ use denote.Triple.Table.{entered, cited}
 use denote.Triple.Walked.{says, Stays, stay-none, stay-none-slice, walkOf, goes-none, goes-none-slice, Walks, ends-at, walked, walk-meets}
 use denote.Exit.{yes}
 use denote.Signature.{plain}
-use Rattle.meaning.specs.Session.{keepCall, noSteps}
+use Rattle.meaning.specs.Session.{keeps as keepsAll, countAfter}
 use Rattle.meaning.specs.declared.Step.{Step}
 use Rattle.meaning.proofs.Step as T
 use Rattle.meaning.proofs.Step.Laws as T′
 use Rattle.session.specs.Calls.{paperCount}
 use Rattle.session.specs.declared.Counted.{Counted}
+use Rattle.recorded.specs.Played.{session, Promised}
 use Rattle.recorded.proofs.Local.{parts-in, parts-out}
 use Rattle.recorded.proofs.Log.{R, vals, arr, room-64, steps-typed, steps-own}
 use Rattle.session.proofs.Counted as O
@@ -110,9 +111,9 @@ module _ {M : Type 1} (𝓤 : URA M) (H : Heap 𝓤) (A : Atoms 𝓤) (W : Given
   abbrev Post : Val → SProp 𝓤
   Post = walkOf 𝓤 H A keep-held.ended stayed (keep-held.clauses 𝓤 H A at-mem run) .post (((κ, tt), (q, tt), tt, a, at), tt)
 
-  -- what `records::keep` ensures of its answer
+  -- what `recorded::keep` ensures of its answer
   abbrev Answers : Counted → Type 0
-  Answers r = paperCount r ≡ noSteps (keepCall bs (length ys) c)
+  Answers r = Promised (session bs ys c) keepsAll r (session bs ys (countAfter c (paperCount r)))
 
   abbrev passed : ℕ → GName → RefT (List ℕ) × (RefT (List Step) × (ℕ × Unit {0}))
   passed l δ = (x, (y l δ, (c, tt)))
@@ -136,7 +137,7 @@ module _ {M : Type 1} (𝓤 : URA M) (H : Heap 𝓤) (A : Atoms 𝓤) (W : Given
   exits r w e =
       qed W (‵ (flft κ q) ∷ ‵ (owns (ShrSlice (named 0) κ u8 ∷ Array R 64 ∷ usize ∷ []) a at) ∷ ‵ (N .own r (w ∷ [])) ∷ []) ∵
       suffices ! _ (ends-at 𝓤 H A keep-held.ended stayed (keep-held.clauses 𝓤 H A at-mem run) W (((κ, tt), (q, tt), tt, a, at), tt) w r (tt, (tt, (tt, tt))) (tt, (tt, (tt, tt)))) $
-      says ! (e ∙ ap (λ (m : ℕ). noSteps (keepCall bs m c)) long) $ nothing ! $ move ! (1 ∷ 0 ∷ []) $ join ! $ frame ! $ done !
+      says ! e $ nothing ! $ move ! (1 ∷ 0 ∷ []) $ join ! $ frame ! $ done !
 
   ans-typed : (r : Counted) (w : Val) → Is N r (w ∷ []) → Holds (hasTy O′.mir w) × WT w
   ans-typed r w is = EL.lawful O.the-type O′.the-laws 𝓤 H A W tt .typed r _ is .0
@@ -167,7 +168,7 @@ module _ {M : Type 1} (𝓤 : URA M) (H : Heap 𝓤) (A : Atoms 𝓤) (W : Given
         use1 W (‵ (ShrSlice (named 0) κ u8 .own x (sx ∷ [])) ⊛ ‵ (ShrSlice (named 0) κ u8 .own x (sx ∷ []))) (shr-slice-copy 𝓤 H A W (named 0) κ u8 .twice x (sx ∷ [])) $ split ! $
         move ! (19 ∷ []) $ split ! $ move ! (2 ∷ 5 ∷ []) $ join ! $ move ! (1 ∷ 6 ∷ []) $ join ! $
         use2 W (raw (Keep 𝓤 H A at-mem run .pre (to-keep ν l₄ δ))) (goes-keep ν l₄ δ) $
-        -- [what `records::keep` asks; true; buf's copy; the others'; the lender's part; _6; …; that _4 dies; _3; …]
+        -- [what `recorded::keep` asks; true; buf's copy; the others'; the lender's part; _6; …; that _4 dies; _3; …]
         calls-at ! fm (Keep 𝓤 H A at-mem run) known (to-keep ν l₄ δ)
         (and-then ! (load ! (from ! (stop !)) (look ! 14 refl)) (and-then ! (load ! (from ! (stop !)) (look ! 5 refl)) (and-then ! (load ! (from ! (stop !)) (look ! 10 refl)) (no-more !)))) (λ w.
         use1 W (later (some (λ (r : Counted). ((‵ (flft κ q) ⊛ ‵ (flft (ν ∷ []) fullShare) ⊛ ‵ ftrue) ⊛ ‵ (N .own r (w ∷ [])))

@@ -1,6 +1,6 @@
 -- `recorded::held::undo` meets its contract: a walk of its MIR, by hand. The array that was passed by value is copied into a local, which is lent to
--- `records::undo` as a `&[Step]` for a lifetime that is made for the call; then it is freed. The buffer goes to the call for good.
--- All that the proof knows of `records::undo` is that it meets its contract.
+-- `recorded::undo` as a `&[Step]` for a lifetime that is made for the call; then it is freed. The buffer goes to the call for good.
+-- All that the proof knows of `recorded::undo` is that it meets its contract.
 -- Assumes nothing.
 use mathlib.Core.Path.{_≡_, refl, sym, ap, subst, _∙_}
 use Prim.Native.Nat.{ℕ, _<_, _^_, _-_}
@@ -46,14 +46,14 @@ use denote.Triple.Table.{entered, cited}
 use denote.Triple.Walked.{Stays, stay-none, gave-slice, walkOf, goes-none, goes-gave-slice, Walks, ends-at, walked, walk-meets}
 use denote.Exit.{yes}
 use denote.Signature.{plain}
-use Rattle.meaning.specs.Refusal.{Answer}
-use Rattle.meaning.specs.Session.{Changed, undoCall, counted, bufferAfter, noStep}
+use Rattle.meaning.specs.Session.{undoes, countAfter}
 use Rattle.meaning.specs.declared.Step.{Step}
 use Rattle.meaning.proofs.Step as T
 use Rattle.meaning.proofs.Step.Laws as T′
 use Rattle.session.specs.Calls.{paperCount}
 use Rattle.session.specs.declared.Counted.{Counted}
-use Rattle.recorded.proofs.Walk.{holds, both, shown}
+use Rattle.recorded.specs.Played.{session, Promised}
+use Rattle.recorded.proofs.Walk.{holds, shown}
 use Rattle.recorded.proofs.Local.{parts-in, parts-out}
 use Rattle.recorded.proofs.Log.{R, vals, arr, room-64, steps-typed, steps-own}
 use Rattle.session.proofs.Counted as O
@@ -111,16 +111,9 @@ module _ {M : Type 1} (𝓤 : URA M) (H : Heap 𝓤) (A : Atoms 𝓤) (W : Given
   abbrev Post : Val → SProp 𝓤
   Post = walkOf 𝓤 H A undo-held.ended stayed (undo-held.clauses 𝓤 H A at-mem run) .post (((κ, tt), (q, tt), tt, a, at), tt)
 
-  -- the undo with a log of n records
-  abbrev undone : ℕ → Answer Changed
-  undone n = undoCall bs n c (getD ys (c - 1) noStep)
-
-  -- what `records::undo` ensures of its answer and of the buffer's last list
-  abbrev Answers : Counted → Type 0
-  Answers r = paperCount r ≡ counted (undone (length ys))
-
-  abbrev Leaves : List ℕ → Type 0
-  Leaves zs = zs ≡ bufferAfter bs (undone (length ys))
+  -- what `recorded::undo` ensures of its answer and of the buffer's last list
+  abbrev Says : Counted → List ℕ → Type 0
+  Says r zs = Promised (session bs ys c) undoes r (session zs ys (countAfter c (paperCount r)))
 
   abbrev passed : ℕ → GName → RefT (List ℕ) × (RefT (List Step) × (ℕ × Unit {0}))
   passed l δ = (x, (y l δ, (c, tt)))
@@ -139,12 +132,12 @@ module _ {M : Type 1} (𝓤 : URA M) (H : Heap 𝓤) (A : Atoms 𝓤) (W : Given
       move ! (3 ∷ 0 ∷ []) $ fjoin ! $ move ! (2 ∷ 0 ∷ []) $ fjoin ! $ move ! (1 ∷ []) $ split ! $ nothing ! $ move ! (2 ∷ 0 ∷ []) $ join ! $ move ! (1 ∷ 0 ∷ []) $ join ! $
       join ! $ frame ! $ done !
 
-  exits : (r : Counted) (w : Val) (zs : List ℕ) → Answers r → Leaves zs → length zs ≡ length bs
+  exits : (r : Counted) (w : Val) (zs : List ℕ) → Says r zs → length zs ≡ length bs
       → ent 𝓤 (⋆ 𝓤 H A (‵ (flft κ q) ∷ ‵ (finally u8 γ zs) ∷ ‵ (N .own r (w ∷ [])) ∷ [])) (Post w)
-  exits r w zs e e′ l =
+  exits r w zs e l =
       qed W (‵ (flft κ q) ∷ ‵ (finally u8 γ zs) ∷ ‵ (N .own r (w ∷ [])) ∷ []) ∵
       suffices ! _ (ends-at 𝓤 H A undo-held.ended stayed (undo-held.clauses 𝓤 H A at-mem run) W (((κ, tt), (q, tt), tt, a, at), tt) w r (zs, (tt, (tt, tt))) (l, (tt, (tt, tt)))) $
-      shown ! (both 𝓤 (holds 𝓤 (e ∙ ap (λ (m : ℕ). counted (undone m)) long)) (holds 𝓤 (e′ ∙ ap (λ (m : ℕ). bufferAfter bs (undone m)) long))) $
+      shown ! (holds 𝓤 e) $
       nothing ! $ move ! (1 ∷ 0 ∷ []) $ join ! $ frame ! $
       nothing ! $ owned ! usize (Is usize) (uint-makes 𝓤 H A W w64) c _ (refl, c-fits) $ fjoin ! $
       use0 W (‵ (Array R 64 .own ys (arr ys ∷ []))) (steps-own 𝓤 H A W ys all) $ fjoin ! $ move ! (1 ∷ 0 ∷ []) $ fjoin ! $ done !
@@ -180,14 +173,14 @@ module _ {M : Type 1} (𝓤 : URA M) (H : Heap 𝓤) (A : Atoms 𝓤) (W : Given
         -- [log; the lender's part; ν's token; _8; …; the token; what the parameters own]
         move ! (21 ∷ []) $ fsplit ! $ move ! (22 ∷ []) $ split ! $ move ! (2 ∷ 4 ∷ []) $ join ! $ move ! (1 ∷ 5 ∷ []) $ join ! $
         use2 W (raw (Undo 𝓤 H A at-mem run .pre (to-undo ν l₄ δ))) (goes-undo ν l₄ δ) $
-        -- [what `records::undo` asks; true; the others'; the lender's part; _8; …; that _4 dies; _3; …]
+        -- [what `recorded::undo` asks; true; the others'; the lender's part; _8; …; that _4 dies; _3; …]
         calls-at ! fm (Undo 𝓤 H A at-mem run) known (to-undo ν l₄ δ)
         (and-then ! (load ! (from ! (stop !)) (look ! 8 refl)) (and-then ! (load ! (from ! (stop !)) (look ! 4 refl)) (and-then ! (load ! (from ! (stop !)) (look ! 13 refl)) (no-more !)))) (λ w.
         use1 W (later (some (λ (r : Counted). ((‵ (flft κ q) ⊛ ‵ (flft (ν ∷ []) fullShare) ⊛ ‵ ftrue) ⊛ ‵ (N .own r (w ∷ [])))
         ⊛ raw (ensured 𝓤 H A undo.ended (undo.clauses 𝓤 H A at-mem run) (κ, (ν ∷ [], tt)) (passed l₄ δ) tt r)))) (id⊢ 𝓤 _) $ await ! tt $ pick ! (λ r. split ! $ move ! (1 ∷ []) $
-        use1 W (some (λ (zs : List ℕ × (Unit {0} × (Unit {0} × Unit {0}))). ‵ (lasts undo.ended (κ, (ν ∷ [], tt)) (passed l₄ δ) zs) ⊛ raw (fact 𝓤 (Answers r)) ⊛ raw
-        (fact 𝓤 (Leaves (zs .0))))) (id⊢ 𝓤 _) $
-        pick ! (λ zs. split ! $ move ! (1 ∷ []) $ split ! $ heard ! (Answers r) (λ e. heard ! (Leaves (zs .0)) (λ e′. fsplit ! $ fsplit ! $ move ! (1 ∷ []) $ feqL ! (λ l.
+        use1 W (some (λ (zs : List ℕ × (Unit {0} × (Unit {0} × Unit {0}))). ‵ (lasts undo.ended (κ, (ν ∷ [], tt)) (passed l₄ δ) zs) ⊛ raw
+        (fact 𝓤 (Says r (zs .0))))) (id⊢ 𝓤 _) $
+        pick ! (λ zs. split ! $ move ! (1 ∷ []) $ heard ! (Says r (zs .0)) (λ e. fsplit ! $ fsplit ! $ move ! (1 ∷ []) $ feqL ! (λ l.
         -- [buf's last list; true; the tokens and the answer; true; the others'; the lender's part; _8; …]
         move ! (2 ∷ []) $ split ! $ move ! (1 ∷ []) $ peeks ! N (Is N) (shows 𝓤 H A N) r (w ∷ []) (λ is.
         land ! (from ! (stop !)) (init ! 22 refl (ans-typed r w is)) $
@@ -200,7 +193,7 @@ module _ {M : Type 1} (𝓤 : URA M) (H : Heap 𝓤) (A : Atoms 𝓤) (W : Given
         forget ! 8 refl $ forget ! 10 refl $ forget ! 12 refl $ forget ! 14 refl $ forget ! 17 refl $ forget ! 19 refl $ forget ! 21 refl $ forget ! 23 refl $
         move ! (23 ∷ 24 ∷ []) $ free1 ! $ move ! (21 ∷ 22 ∷ []) $ free1 ! $ move ! (19 ∷ 20 ∷ []) $ free1 ! $ move ! (17 ∷ 18 ∷ []) $ free1 ! $ move ! (0 ∷ 16 ∷ []) $ free1 ! $
         move ! (13 ∷ 14 ∷ []) $ free1 ! $ move ! (11 ∷ 12 ∷ []) $ free1 ! $ move ! (9 ∷ 10 ∷ []) $ free1 ! $ move ! (7 ∷ 8 ∷ []) $ free1 ! $ free0 ! $
-        keep ! (1 ∷ 3 ∷ 2 ∷ []) $ by ! (exits r w (zs .0) e e′ l)))))))))))))))))))
+        keep ! (1 ∷ 3 ∷ 2 ∷ []) $ by ! (exits r w (zs .0) e l))))))))))))))))))
 
 module _ {M : Type 1} (𝓤 : URA M) (H : Heap 𝓤) (A : Atoms 𝓤) (W : Given 𝓤 H A) (mem : Memory → SProp 𝓤) (run : Routine → Fun 𝓤) where
   undo-walks : (C : Calls 𝓤 H) (Λ : Loops 𝓤 H) → FmC 𝓤 H (W .laws) C → Triple 𝓤 (C #undo) (Undo 𝓤 H A mem run)

@@ -14,7 +14,7 @@ of-count-requires c κs = search needs
 
 returns : tie.Need-returns
 returns c =
-    c .of-count .ensures ∙ ap (numbers inUse) (c .before .before .keep .ensures)
+    c .of-count .ensures ∙ ap (numbers inUse) (c .before .before .keep .ensures .promised .0)
 
 pub svelgandur-keep-spec : {M : Type 1} → statement M
 svelgandur-keep-spec =

@@ -17,7 +17,8 @@ same-length c = search needs
 
 returns : tie.Need-returns
 returns c =
-    (c .of-count .ensures ∙ ap (numbers inUse) (c .before .before .before .before .undo .ensures .0), c .before .before .before .before .undo .ensures .1)
+    let d = c .before .before .before .before .undo .ensures .promised in
+    (c .of-count .ensures ∙ ap (numbers inUse) (d .0), d .1)
 
 pub svelgandur-undo-spec : {M : Type 1} → statement M
 svelgandur-undo-spec =
