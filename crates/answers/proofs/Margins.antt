@@ -12,9 +12,9 @@ use mir.Syntax.{w64}
 use mir.Val.{Fits, SFits, toZ, ofZ}
 use mir.Facts.{toZ-ofZ}
 use Rattle.meaning.proofs.Tests.{holds, true-false}
-use Rattle.degree.specs.declared.call.Margin.{Margin}
-use Rattle.degree.specs.declared.call.Margin.the-variants.{Good as GoodMargin, Refused as RefusedMargin}
-use Rattle.degree.specs.Answers.{paperMargin}
+use Rattle.asking.specs.declared.Margin.{Margin}
+use Rattle.asking.specs.declared.Margin.the-variants.{Good as GoodMargin, Refused as RefusedMargin}
+use Rattle.asking.specs.Answers.{paperMargin}
 use Rattle.meaning.specs.Bounds.{mostMargin}
 use Rattle.answers.specs.Numbers.{four, numbers, belowZero, marginNumbers, Small}
 

@@ -14,11 +14,11 @@ use Rattle.meaning.specs.Requirement.{Requirement as RequirementTree}
 use Rattle.meaning.specs.Message.{Part}
 use Rattle.meaning.specs.Tree.{nodes}
 use Rattle.answers.specs.Numbers.{four, sideNumber, refusalNumbers, numbers, counts, written, inUse, verdicts, degreeNumbers, belowZero, marginNumbers}
-use Rattle.member.specs.Call.{Said, yes, no}
+use Rattle.deciding.specs.Answers.{Said, yes, no}
 use lib.IntN.{ℤ, pos, negsuc, natAbs}
 use Rattle.meaning.specs.Fraction.{_//_}
 use Rattle.meaning.specs.Calls.{Against}
-use Rattle.degree.specs.Answers.{Told}
+use Rattle.asking.specs.Answers.{Told}
 
 -- the k-th of the four
 pub nth : (k : ℕ) {x y : List ℕ} → x ≡ y → getD x k 0 ≡ getD y k 0

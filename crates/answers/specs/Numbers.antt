@@ -16,13 +16,13 @@ use Rattle.register.specs.Reading.{Counts}
 use Rattle.requirement.specs.declared.Place.{Place}
 use Rattle.requirement.specs.declared.Message.{Message}
 use Rattle.requirement.specs.declared.Message.the-variants.{Good as GoodMessage, Refused as RefusedMessage}
-use Rattle.member.specs.Call.{Said, yes, no}
+use Rattle.deciding.specs.Answers.{Said, yes, no}
 use lib.IntN.{ℤ, pos, negsuc, natAbs}
 use Rattle.meaning.specs.Calls.{Against}
 use Rattle.meaning.specs.Bounds.{mostMargin}
-use Rattle.degree.specs.declared.call.Margin.{Margin}
-use Rattle.degree.specs.declared.call.Margin.the-variants.{Good as GoodMargin, Refused as RefusedMargin}
-use Rattle.degree.specs.Answers.{Told}
+use Rattle.asking.specs.declared.Margin.{Margin}
+use Rattle.asking.specs.declared.Margin.the-variants.{Good as GoodMargin, Refused as RefusedMargin}
+use Rattle.asking.specs.Answers.{Told}
 
 abbrev pub four : ℕ → ℕ → ℕ → ℕ → List ℕ
 four kind a b c = kind ∷ a ∷ b ∷ c ∷ []

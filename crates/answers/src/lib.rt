@@ -1,9 +1,9 @@
 // The four numbers of an answer: the kind, then three numbers that go with the kind (specs/Numbers.antt). What each call hands back, as these numbers.
-use degree::call::Answered;
-use degree::call::Margin;
+use asking::Answered;
+use asking::Margin;
+use deciding::Verdict;
 use meaning::Refusal;
 use meaning::Side;
-use member::call::Verdict;
 use register::Reading;
 use requirement::Message;
 use requirement::Place;
@@ -12,10 +12,10 @@ ghost use mathlib.Core.Path.{_≡_};
 ghost use Prim.Native.Nat.{_≤_};
 ghost use lib.IntN.{natAbs};
 ghost use Rattle.meaning.specs.Bounds.{mostMargin};
-ghost use Rattle.register.specs.Reading.{paper as paperReading};
-ghost use Rattle.degree.specs.Answers.{paper as paperDegree, paperMargin};
-ghost use Rattle.member.specs.Call.{paper as paperVerdict};
-ghost use Rattle.session.specs.Calls.{paper as paperCount};
+ghost use Rattle.register.specs.Reading.{paperReading};
+ghost use Rattle.asking.specs.Answers.{paperDegree, paperMargin};
+ghost use Rattle.deciding.specs.Answers.{paperVerdict};
+ghost use Rattle.session.specs.Calls.{paperCount};
 ghost use Rattle.answers.specs.Numbers.{four, sideNumber, refusalNumbers, numbers, counts, messageNumbers, placeNumbers, inUse, verdicts, degreeNumbers, marginNumbers, belowZero, Small};
 
 // Writes the four numbers.

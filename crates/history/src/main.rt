@@ -7,8 +7,8 @@ mod calls;
 
 ghost use mathlib.Core.Path.{_≡_};
 ghost use Rattle.meaning.specs.Session.{play, countAfter};
-ghost use Rattle.session.specs.Calls.{paper};
-ghost use Rattle.session.specs.Played.{lent, steps, Called};
+ghost use Rattle.session.specs.Calls.{paperCount};
+ghost use Rattle.numbered.specs.Played.{lent, steps, Called};
 ghost use Rattle.history.specs.Histories.{callOf, callsOf};
 
 fn write_byte(b: u8) {
@@ -45,7 +45,7 @@ fn print_log(log: &[u64]) {
 
 // Prints an answer. The count for the next call is the one that was handed back, and after a refusal that of this call.
 fn print_answer(r: Counted, count: usize) -> usize
-    ensures { λ n. ⌜ n ≡ countAfter count (paper r) ⌝ }
+    ensures { λ n. ⌜ n ≡ countAfter count (paperCount r) ⌝ }
 {
     match r {
         Counted::Good { count: handed } => {
@@ -74,7 +74,7 @@ fn call(
     b: usize,
     c: usize,
 ) -> Counted
-    ensures { λ r. ⌜ Called (lent (now (s .entry)) (now (log .entry)) count) (callOf kind a b c) r (lent (now (s .exit)) (now (log .exit)) (countAfter count (paper r))) ⌝ }
+    ensures { λ r. ⌜ Called (lent (now (s .entry)) (now (log .entry)) count) (callOf kind a b c) r (lent (now (s .exit)) (now (log .exit)) (countAfter count (paperCount r))) ⌝ }
 {
     let name = Fact::Name { item: a, name: b };
     let link = Fact::Link {

@@ -28,19 +28,17 @@ use Rattle.meaning.proofs.YesShown.{yes-shows}
 use Rattle.fields.specs.Head.{wrongIn}
 use Rattle.register.specs.declared.Reading.{Reading}
 use Rattle.register.specs.declared.Reading.the-variants.{Good as GoodReading, Refused as RefusedReading}
-use Rattle.register.specs.Reading.{counted}
-use Rattle.register.specs.Reading.{paper as paperReading}
+use Rattle.register.specs.Reading.{counted, paperReading}
 use Rattle.requirement.specs.declared.Message.{Message}
 use Rattle.requirement.specs.declared.Message.the-variants.{Good as GoodMessage, Refused as RefusedMessage}
 use Rattle.requirement.specs.Reading.{Arrays, MessageOutcome, MessageDone}
-use Rattle.member.proofs.Answered.{imaged, image-refused}
-use Rattle.degree.specs.declared.call.Answered.{Answered}
-use Rattle.degree.specs.declared.call.Answered.the-variants.{Good as GoodDegree, Refused as RefusedDegree}
-use Rattle.degree.specs.Answers.{Told, paper, told}
-use Rattle.member.specs.declared.call.Verdict.{Verdict}
-use Rattle.member.specs.declared.call.Verdict.the-variants.{Yes, No, Refused}
-use Rattle.member.specs.Call.{Said, yes, no, said}
-use Rattle.member.specs.Call.{paper as paperYes}
+use Rattle.deciding.proofs.Answered.{imaged, image-refused}
+use Rattle.asking.specs.declared.Answered.{Answered}
+use Rattle.asking.specs.declared.Answered.the-variants.{Good as GoodDegree, Refused as RefusedDegree}
+use Rattle.asking.specs.Answers.{Told, paperDegree, told}
+use Rattle.deciding.specs.declared.Verdict.{Verdict}
+use Rattle.deciding.specs.declared.Verdict.the-variants.{Yes, No, Refused}
+use Rattle.deciding.specs.Answers.{Said, yes, no, said, paperVerdict}
 use Rattle.lines.specs.Lines.{degreeLine, yesLine, noLine, refusalLine}
 use Rattle.listing.specs.Listing.{lines, degreeRow, memberRow, degreeHead, memberHead}
 use Rattle.listing.specs.Listing.{degreeRows, memberRows, listed, listedItems, listingOf, printed, registerEnd, tooLong, mostInput, listing}
@@ -66,29 +64,30 @@ found-fits image message item room a e =
 
 -- a good answer gives the item's line
 pub degree-good : (i num den k : ℕ) (r : Answered) (D : Answer Found) (old new : List ℕ) → ((a : Found) → D ≡ good a → length (a .map) ≤ length old)
-    → r ≡ GoodDegree num den k → paper r ≡ told D → new ≡ afterDegree old D
+    → r ≡ GoodDegree num den k → paperDegree r ≡ told D → new ≡ afterDegree old D
     → (degreeRow i D ≡ degreeLine i (num // den) (take k new)) × (k ≤ length new) × (k ≤ length old) × (k ≡ length (take k new))
 unfolding told _>>=_
 degree-good i num den k r (good a) old new fits e p w =
     let mine : Told = record { degree = num // den; places = k } in
     let its : Told = record { degree = a .degree; places = length (a .map) } in
-    let q : good mine ≡ good its = sym (ap paper e) ∙ p in
+    let q : good mine ≡ good its = sym (ap paperDegree e) ∙ p in
     let same : mine ≡ its = good-inj q in
     let long : length (a .map) ≡ k = sym (ap (λ (z : Told). z .places) same) in
     let l : k ≤ length old = omega (arith, long, fits a refl) in
     let shown : take k new ≡ a .map = ap (λ (z : List ℕ). take k z) w ∙ front old (a .map) k long l in
-    (ap₂ (λ (d : Frac) (m : List ℕ). degreeLine i d m) (sym (ap (λ (z : Told). z .degree) same)) (sym shown), omega (arith, l, ap length w ∙ length-sets old 0 (a .map)), l, sym (ap length shown ∙ long))
-degree-good i num den k r (refused f) old new fits e p w = absurd (not-good (sym p ∙ ap paper e))
+    let line = ap₂ (λ (d : Frac) (m : List ℕ). degreeLine i d m) (sym (ap (λ (z : Told). z .degree) same)) (sym shown) in
+    (line, omega (arith, l, ap length w ∙ length-sets old 0 (a .map)), l, sym (ap length shown ∙ long))
+degree-good i num den k r (refused f) old new fits e p w = absurd (not-good (sym p ∙ ap paperDegree e))
 
-pub degree-refused : (i : ℕ) (f : Refusal) (r : Answered) (D : Answer Found) → r ≡ RefusedDegree f → paper r ≡ told D → degreeRow i D ≡ refusalLine f
+pub degree-refused : (i : ℕ) (f : Refusal) (r : Answered) (D : Answer Found) → r ≡ RefusedDegree f → paperDegree r ≡ told D → degreeRow i D ≡ refusalLine f
 unfolding told _>>=_
-degree-refused i f r (good a) e p = absurd (not-good (sym (ap paper e) ∙ p))
+degree-refused i f r (good a) e p = absurd (not-good (sym (ap paperDegree e) ∙ p))
 degree-refused i f r (refused g) e p =
-    let z : _≡_ {A = Answer Told} (refused f) (refused g) = sym (ap paper e) ∙ p in
+    let z : _≡_ {A = Answer Told} (refused f) (refused g) = sym (ap paperDegree e) ∙ p in
     let same : f ≡ g = cc in
     ap refusalLine (sym same)
 
-module _ (image message : List ℕ) (i : ℕ) (r : Answered) (new : List ℕ) (p : paper r ≡ told (degreeCall image message i mostNodes))
+module _ (image message : List ℕ) (i : ℕ) (r : Answered) (new : List ℕ) (p : paperDegree r ≡ told (degreeCall image message i mostNodes))
     (w : new ≡ afterDegree emptyMap (degreeCall image message i mostNodes)) where
   pub degree-row-good : (num den k : ℕ) → r ≡ GoodDegree num den k
       → (degreeRow i (degreeCall image message i mostNodes) ≡ degreeLine i (num // den) (take k new)) × (k ≤ length new) × (k ≤ mostNodes) × (k ≡ length (take k new))
@@ -116,32 +115,32 @@ met-fits image message item room m e =
     decided false m n e = let z : _≡_ {A = ℕ} 0 1 = cc in absurd (omega arith)
 
 pub member-yes : (i k : ℕ) (r : Verdict) (D : Answer Decision) (old new : List ℕ) → ((m : List ℕ) → D ≡ good (met m) → length m ≤ length old)
-    → r ≡ Yes k → paperYes r ≡ said D → new ≡ afterMember old D
+    → r ≡ Yes k → paperVerdict r ≡ said D → new ≡ afterMember old D
     → (memberRow i D ≡ yesLine i (take k new)) × (k ≤ length new) × (k ≤ length old) × (k ≡ length (take k new))
 member-yes i k r (good (met m)) old new fits e p w =
-    let z : _≡_ {A = Answer Said} (good (yes k)) (good (yes (length m))) = sym (ap paperYes e) ∙ p in
+    let z : _≡_ {A = Answer Said} (good (yes k)) (good (yes (length m))) = sym (ap paperVerdict e) ∙ p in
     let long : length m ≡ k = cc in
     let l : k ≤ length old = omega (arith, long, fits m refl) in
     let shown : take k new ≡ m = ap (λ (z : List ℕ). take k z) w ∙ front old m k long l in
     (ap (yesLine i) (sym shown), omega (arith, l, ap length w ∙ length-sets old 0 m), l, sym (ap length shown ∙ long))
 member-yes i k r (good unmet) old new fits e p w =
-    let z : _≡_ {A = Answer Said} (good (yes k)) (good no) = sym (ap paperYes e) ∙ p in let y : _≡_ {A = ℕ} 0 1 = cc in absurd (omega arith)
-member-yes i k r (refused f) old new fits e p w = absurd (not-good (sym p ∙ ap paperYes e))
+    let z : _≡_ {A = Answer Said} (good (yes k)) (good no) = sym (ap paperVerdict e) ∙ p in let y : _≡_ {A = ℕ} 0 1 = cc in absurd (omega arith)
+member-yes i k r (refused f) old new fits e p w = absurd (not-good (sym p ∙ ap paperVerdict e))
 
-pub member-no : (i : ℕ) (r : Verdict) (D : Answer Decision) → r ≡ No → paperYes r ≡ said D → memberRow i D ≡ noLine i
+pub member-no : (i : ℕ) (r : Verdict) (D : Answer Decision) → r ≡ No → paperVerdict r ≡ said D → memberRow i D ≡ noLine i
 member-no i r (good (met m)) e p =
-    let z : _≡_ {A = Answer Said} (good no) (good (yes (length m))) = sym (ap paperYes e) ∙ p in let y : _≡_ {A = ℕ} 0 1 = cc in absurd (omega arith)
+    let z : _≡_ {A = Answer Said} (good no) (good (yes (length m))) = sym (ap paperVerdict e) ∙ p in let y : _≡_ {A = ℕ} 0 1 = cc in absurd (omega arith)
 member-no i r (good unmet) e p = refl
-member-no i r (refused f) e p = absurd (not-good (sym p ∙ ap paperYes e))
+member-no i r (refused f) e p = absurd (not-good (sym p ∙ ap paperVerdict e))
 
-pub member-refused : (i : ℕ) (f : Refusal) (r : Verdict) (D : Answer Decision) → r ≡ Refused f → paperYes r ≡ said D → memberRow i D ≡ refusalLine f
-member-refused i f r (good d) e p = absurd (not-good (sym (ap paperYes e) ∙ p))
+pub member-refused : (i : ℕ) (f : Refusal) (r : Verdict) (D : Answer Decision) → r ≡ Refused f → paperVerdict r ≡ said D → memberRow i D ≡ refusalLine f
+member-refused i f r (good d) e p = absurd (not-good (sym (ap paperVerdict e) ∙ p))
 member-refused i f r (refused g) e p =
-    let z : _≡_ {A = Answer Said} (refused f) (refused g) = sym (ap paperYes e) ∙ p in
+    let z : _≡_ {A = Answer Said} (refused f) (refused g) = sym (ap paperVerdict e) ∙ p in
     let same : f ≡ g = cc in
     ap refusalLine (sym same)
 
-module _ (image message : List ℕ) (i : ℕ) (r : Verdict) (new : List ℕ) (p : paperYes r ≡ said (memberCall image message i mostNodes))
+module _ (image message : List ℕ) (i : ℕ) (r : Verdict) (new : List ℕ) (p : paperVerdict r ≡ said (memberCall image message i mostNodes))
     (w : new ≡ afterMember emptyMap (memberCall image message i mostNodes)) where
   pub member-row-yes : (k : ℕ) → r ≡ Yes k → (memberRow i (memberCall image message i mostNodes) ≡ yesLine i (take k new)) × (k ≤ length new) × (k ≤ mostNodes) × (k ≡ length (take k new))
   member-row-yes k e =
@@ -167,22 +166,22 @@ same-lines f h (suc n) all = ap₂ (λ (x y : List ℕ). x ++ y) (same-lines f h
 -- ---- the listing, by what was read
 
 pub listed-degrees : (image message : List ℕ) (n num den k : ℕ) (r : Answered) → r ≡ GoodDegree num den k
-    → paper r ≡ told (degreeCall image message 0 mostNodes) → printed (listed image message n []) ≡ degreeHead ++ degreeRows image message n
+    → paperDegree r ≡ told (degreeCall image message 0 mostNodes) → printed (listed image message n []) ≡ degreeHead ++ degreeRows image message n
 unfolding listed told _>>=_
 listed-degrees image message n num den k r e p = go (degreeCall image message 0 mostNodes) p
   where
-    go : (D : Answer Found) → paper r ≡ told D → printed (D >>= λ _. good (degreeHead ++ degreeRows image message n)) ≡ degreeHead ++ degreeRows image message n
+    go : (D : Answer Found) → paperDegree r ≡ told D → printed (D >>= λ _. good (degreeHead ++ degreeRows image message n)) ≡ degreeHead ++ degreeRows image message n
     go (good a) q = refl
-    go (refused f) q = absurd (not-good (sym q ∙ ap paper e))
+    go (refused f) q = absurd (not-good (sym q ∙ ap paperDegree e))
 
 pub listed-refused : (image message : List ℕ) (n : ℕ) (f : Refusal) (r : Answered) → r ≡ RefusedDegree f
-    → paper r ≡ told (degreeCall image message 0 mostNodes) → printed (listed image message n []) ≡ refusalLine f
+    → paperDegree r ≡ told (degreeCall image message 0 mostNodes) → printed (listed image message n []) ≡ refusalLine f
 unfolding listed told _>>=_
 listed-refused image message n f r e p = go (degreeCall image message 0 mostNodes) p
   where
-    go : (D : Answer Found) → paper r ≡ told D → printed (D >>= λ _. good (degreeHead ++ degreeRows image message n)) ≡ refusalLine f
-    go (good a) q = absurd (not-good (sym (ap paper e) ∙ q))
-    go (refused g) q = let z : _≡_ {A = Answer Told} (refused f) (refused g) = sym (ap paper e) ∙ q in let same : f ≡ g = cc in ap refusalLine (sym same)
+    go : (D : Answer Found) → paperDegree r ≡ told D → printed (D >>= λ _. good (degreeHead ++ degreeRows image message n)) ≡ refusalLine f
+    go (good a) q = absurd (not-good (sym (ap paperDegree e) ∙ q))
+    go (refused g) q = let z : _≡_ {A = Answer Told} (refused f) (refused g) = sym (ap paperDegree e) ∙ q in let same : f ≡ g = cc in ap refusalLine (sym same)
 
 pub listed-members : (image message : List ℕ) (n : ℕ) (p : Part) (ps : List Part) → printed (listed image message n (p ∷ ps)) ≡ memberHead ++ memberRows image message n
 unfolding listed

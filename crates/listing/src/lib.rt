@@ -1,14 +1,12 @@
 // The listing of a register against a requirement, piece by piece: what comes first, and then a row for each item that is to be listed.
 // Each piece is text at the front of a lent buffer. Put one after the other they are the listing (specs/Pieces.antt).
-use degree::call;
-use degree::call::Answered;
+use asking::Answered;
+use deciding::Verdict;
 use fields;
 use lines;
 use lines::text::put_word;
 use meaning;
 use meaning::Refusal;
-use member::call as yes_no;
-use member::call::Verdict;
 use register::Reading;
 use requirement::Message;
 ghost use mathlib.Core.Path.{_≡_};
@@ -38,7 +36,7 @@ fn degree_row(line: &mut [u8], image: &[u8], message: &[u8], item: usize) -> usi
     ensures { λ r. ⌜ Begins (now (line .exit)) (degreeRow item (degreeCall (now (image .entry)) (now (message .entry)) item mostNodes)) r ⌝ }
 {
     let mut map = [0u16; meaning::MOST_NODES];
-    let a = call::degree_of(image, message, item, &mut map);
+    let a = asking::degree_of(image, message, item, &mut map);
     match a {
         Answered::Good { num, den, nodes } => {
             lines::put_degree_line(line, item, num, den, &map[..nodes])
@@ -53,7 +51,7 @@ fn member_row(line: &mut [u8], image: &[u8], message: &[u8], item: usize) -> usi
     ensures { λ r. ⌜ Begins (now (line .exit)) (memberRow item (memberCall (now (image .entry)) (now (message .entry)) item mostNodes)) r ⌝ }
 {
     let mut map = [0u16; meaning::MOST_NODES];
-    let v = yes_no::decide(image, message, item, &mut map);
+    let v = deciding::decide(image, message, item, &mut map);
     match v {
         Verdict::Yes { nodes } => lines::put_yes_line(line, item, &map[..nodes]),
         Verdict::No => lines::put_no_line(line, item),
@@ -92,7 +90,7 @@ fn plan_degrees(line: &mut [u8], image: &[u8], message: &[u8], items: usize) -> 
     ensures { λ r. ⌜ Opens (now (image .entry)) (now (message .entry)) (printed (listed (now (image .entry)) (now (message .entry)) items [])) (now (line .exit)) r ⌝ }
 {
     let mut map = [0u16; meaning::MOST_NODES];
-    let a = call::degree_of(image, message, 0, &mut map);
+    let a = asking::degree_of(image, message, 0, &mut map);
     match a {
         Answered::Good {
             num: _,

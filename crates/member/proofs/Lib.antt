@@ -4,11 +4,3 @@ pub mod Inside
 pub mod Children
 pub mod Trail
 pub mod Cases
-pub mod Owners
-pub mod Messages
-pub mod Compare
-pub mod Inner
-pub mod Ready
-pub mod Decided
-pub mod Answered
-pub mod Promise

@@ -1,4 +1,2 @@
 pub mod Table
 pub mod Case
-pub mod Call
-pub mod Promise

@@ -1,14 +1,13 @@
 // Which items meet a requirement that is held as rows, over a register image that was read, and the map shown for a yes.
 // Each written node has a row in a table of 64 bits for each item; the rows are filled from the leaves up.
-pub mod call;
-
 use fields::bits;
 ghost use mathlib.Core.Path.{_≡_};
 ghost use mathlib.Core.Bool.{_&&_};
-ghost use Prim.Native.Nat.{_+_, _*_, _≤_, _<_};
+ghost use Prim.Native.Nat.{_+_, _≤_, _<_};
 ghost use lib.Dec.{eqb};
 ghost use lib.ListN.{length, getD};
 ghost use lib.Seq.{sets};
+ghost use Rattle.meaning.specs.Bounds.{mostQ};
 ghost use Rattle.meaning.specs.Names.{within};
 ghost use Rattle.meaning.specs.Fraction.{_//_, compares};
 ghost use Rattle.meaning.specs.Message.{comparison};
@@ -262,25 +261,6 @@ pub fn walk(
     }
 }
 
-// Whether number / scale satisfies a comparison with p / q, by cross-multiplication: 0 is <, 1 is ≤, 2 is >, 3 is ≥.
-fn satisfies(how: u8, number: u64, scale: u64, p: u64, q: u64) -> bool
-    requires { ⌜ (number < 4294967296) × (scale < 4294967296) × (p ≤ 1000) × (q ≤ 1000) ⌝ }
-    ensures { λ r. ⌜ r ≡ compares (comparison how) (number // scale) (p // q) ⌝ }
-{
-    let own = number * q;
-    let limit = p * scale;
-    if how == 0 {
-        return own < limit;
-    }
-    if how == 1 {
-        return own <= limit;
-    }
-    if how == 2 {
-        return limit < own;
-    }
-    limit <= own
-}
-
 // The row of the k-th threshold, from the degrees of all items in its inner concept.
 pub fn judge(
     items: usize,
@@ -292,7 +272,7 @@ pub fn judge(
     k: usize,
     table: &mut [u64],
 )
-    requires { ⌜ (items ≤ length (now values)) × (items ≤ length (now table)) × (k < 64) × (scale < 4294967296) × (p ≤ 1000) × (q ≤ 1000) ⌝ }
+    requires { ⌜ (items ≤ length (now values)) × (items ≤ length (now table)) × (k < 64) × (scale < 4294967296) × (p ≤ mostQ) × (q ≤ mostQ) ⌝ }
     ensures { λ _. ⌜ Rowed (λ x. compares (comparison how) (getD (now (values .entry)) x 0 // scale) (p // q)) k (now (table .entry)) (now (table .exit)) items ⌝ }
 {
     let mut i = 0;
@@ -300,7 +280,7 @@ pub fn judge(
         table[i] = bits::marked(
             table[i],
             k,
-            satisfies(how, fields::quad(values[i]), scale, p, q),
+            fractions::satisfies(how, fields::quad(values[i]), scale, p, q),
         );
         i += 1;
     }

@@ -1,9 +1,7 @@
 -- What the calls answer, in the document's words.
 -- Assumes nothing.
 use mathlib.Core.Bool.{Bool}
-use mathlib.Core.List.{List}
 use Prim.Native.Nat.{ℕ}
-use lib.ListN.{set}
 use Rattle.meaning.specs.declared.Fact.{Fact}
 use Rattle.meaning.specs.Refusal.{Answer, good, refused}
 use Rattle.meaning.specs.Register.{isFact}
@@ -12,11 +10,10 @@ use Rattle.session.specs.declared.Counted.{Counted}
 use Rattle.session.specs.declared.Counted.the-variants.{Good, Refused}
 use Rattle.session.specs.declared.Edited.{Edited}
 use Rattle.session.specs.declared.Edited.the-variants.{Accepted, Refused as NotEdited}
-use Rattle.session.specs.Coded.{codeOf}
 
-abbrev pub paper : Counted → Answer ℕ
-paper (Good n) = good n
-paper (Refused r) = refused r
+abbrev pub paperCount : Counted → Answer ℕ
+paperCount (Good n) = good n
+paperCount (Refused r) = refused r
 
 -- whether the fact was there before an edit, and the count
 pub record Was : Type 0 where
@@ -33,8 +30,3 @@ wasBefore f (refused r) = refused r
 
 abbrev pub anEdit : Fact → Bool → Edit
 anEdit f v = record { fact = f; adds = v }
-
--- the numbers of the log after an edit
-abbrev pub numbersAfter : List ℕ → ℕ → Fact → Answer Changed → List ℕ
-numbersAfter log count f (good c) = set log count (codeOf (record { fact = f; was = isFact (c .before) f }))
-numbersAfter log count f (refused r) = log

@@ -5,8 +5,8 @@ use Rattle.answers.proofs.of_margin.Statement.{statement}
 use Rattle.answers.proofs.of_margin.Tie as tie
 use mathlib.Core.Path.{sym, _∙_, ap}
 use lib.IntN.{natAbs}
-use Rattle.degree.specs.declared.call.Margin.{Margin}
-use Rattle.degree.specs.Answers.{paperMargin}
+use Rattle.asking.specs.declared.Margin.{Margin}
+use Rattle.asking.specs.Answers.{paperMargin}
 use Rattle.answers.specs.Numbers.{numbers, belowZero, marginNumbers}
 use Rattle.answers.proofs.Margins.{small, read-back, small-again, margin-told}
 

@@ -5,7 +5,7 @@ use Rattle.answers.proofs.of_reading.Statement.{statement}
 use Rattle.answers.proofs.of_reading.Tie as tie
 use mathlib.Core.Path.{_≡_, sym, _∙_, ap}
 use Rattle.register.specs.declared.Reading.{Reading}
-use Rattle.register.specs.Reading.{paper}
+use Rattle.register.specs.Reading.{paperReading}
 use Rattle.answers.specs.Numbers.{four, numbers, counts}
 use Rattle.answers.proofs.Numbers.{four-same}
 use native.Mathlib.Omega.{arith}
@@ -26,11 +26,11 @@ returns : tie.Need-returns
 returns c =
     let at-r = c .before .before .before in
     let written : _ ≡ four 1 (at-r .r .given .0 .0) (at-r .r .given .0 .1 .0) 0 = c .put .ensures ∙ four-same (omega arith) (omega arith) (omega arith) (omega arith) in
-    written ∙ ap (λ (x : Reading). numbers counts (paper x)) (sym (at-r .r .given .1))
+    written ∙ ap (λ (x : Reading). numbers counts (paperReading x)) (sym (at-r .r .given .1))
 
 returns-2 : tie.Need-returns-2
 returns-2 c =
-    c .refuse .ensures ∙ ap (λ (x : Reading). numbers counts (paper x)) (sym (c .before .before .before .r2 .given .1))
+    c .refuse .ensures ∙ ap (λ (x : Reading). numbers counts (paperReading x)) (sym (c .before .before .before .r2 .given .1))
 
 pub of-reading-spec : {M : Type 1} → statement M
 of-reading-spec =

@@ -4,7 +4,7 @@ use borrow.Author.Needs.{needs}
 use Rattle.svelgandur.proofs.degrees.svelgandur_margin.Statement.{statement}
 use Rattle.svelgandur.proofs.degrees.svelgandur_margin.Tie as tie
 use mathlib.Core.Path.{_∙_, ap}
-use Rattle.degree.proofs.Promise.{margin-within}
+use Rattle.asking.proofs.Promise.{margin-within}
 use Rattle.answers.specs.Numbers.{numbers, marginNumbers}
 use Rattle.answers.proofs.Margins.{small-enough}
 

@@ -1,0 +1,4 @@
+pub mod Answers
+pub mod Thresholds
+pub mod BothRead
+pub mod Refusing

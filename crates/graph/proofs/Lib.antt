@@ -1,0 +1,11 @@
+pub mod Digits
+pub mod Members
+pub mod Empty
+pub mod Spans
+pub mod Rising
+pub mod Runs
+pub mod Ranges
+pub mod Index
+pub mod Spreading
+pub mod Same
+pub mod Use

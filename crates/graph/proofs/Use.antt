@@ -1,0 +1,44 @@
+-- What a caller makes of the record of a graph: what the other functions ask, and that successors are items.
+-- Assumes nothing.
+use mathlib.Core.Path.{_≡_, sym, _∙_, subst}
+use mathlib.Core.Logic.{_⊎_, inl, inr}
+use mathlib.Core.List.{List, [], _∷_, List·Memᴰ, List·Memᴰ·cases-cons}
+use mathlib.Core.Option.{Option, some}
+use mathlib.Core.Option.{none as nowhere}
+use Prim.Native.Nat.{ℕ, _≤_, _<_}
+use native.Mathlib.Omega.{arith}
+use lib.Dec.{T}
+use lib.ListN.{length}
+use Rattle.meaning.specs.Bytes.{Bytes}
+use Rattle.meaning.specs.Refusal.{good}
+use Rattle.meaning.specs.Register.{Link, Register, linksOf, judged, readBuffer}
+use Rattle.meaning.proofs.Links.{targets-links, link}
+use Rattle.meaning.proofs.Image.{right, image-fits}
+use Rattle.register.specs.Image.{Asked}
+use Rattle.graph.specs.Judged.{Judged}
+
+module _ {s : List ℕ} {items : ℕ} {index : List ℕ} (j : Judged s items index) where
+  pub one-register : (g : Register) → readBuffer s ≡ good g → j .register ≡ g
+  one-register g h = let z : good (j .register) ≡ good g = sym (j .read) ∙ h in cc
+
+  pub asked-names : {item : ℕ} → item < items → Asked s (λ g. item < length (g .names))
+  asked-names l = record { register = j .register; read = j .read; holds = omega (arith, l, j .items-are) }
+
+  pub asked-end : {k : ℕ} → k < length (j .register .links) → Asked s (λ g. (items ≡ length (g .names)) × (k < length (g .links)))
+  asked-end l = record { register = j .register; read = j .read; holds = (j .items-are, l) }
+
+  pub asked-links : {end : ℕ} → end ≤ length (j .register .links) → Asked s (λ g. (items ≡ length (g .names)) × (end ≤ length (g .links)))
+  asked-links l = record { register = j .register; read = j .read; holds = (j .items-are, l) }
+
+  link-inside : (n : ℕ) (before : Option Link) (ls : List Link) (l : Link) → T (linksOf n before ls) → List·Memᴰ l ls → l .to < n
+  link-inside n before [] l w m = elim m [ ]
+  link-inside n before (x ∷ ls) l w m = go (List·Memᴰ·cases-cons m) (λ k. link-inside n (some x) ls l (right n before x ls w .1) k)
+    where
+      go : (l ≡ x) ⊎ List·Memᴰ l ls → (List·Memᴰ l ls → l .to < n) → l .to < n
+      go (inl e) h = subst (λ (z : Link). z .to < n) (sym e) (right n before x ls w .0 .to)
+      go (inr k) h = h k
+
+  pub next-inside : Bytes s → (x r y : ℕ) → List·Memᴰ y (judged (j .register) .next x r) → y < items
+  next-inside b x r y m =
+      let g = j .register in
+      rw (j .items-are) (link-inside (length (g .names)) nowhere (g .links) (link x r y) (image-fits s g b (j .read) .0 .rising) (targets-links (g .links) x r y .0 m))

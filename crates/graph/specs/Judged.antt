@@ -1,0 +1,77 @@
+-- The graph that is judged, of an image that was read: where the links of each item begin, and the run of links that leads to an item's
+-- successors under a role.
+-- Assumes nothing.
+use mathlib.Core.Path.{_≡_}
+use mathlib.Core.List.{List, [], _∷_}
+use Prim.Native.Nat.{ℕ, zero, suc, _+_, _-_, _≤_, _<_, max}
+use lib.ListN.{length, getD}
+use Rattle.meaning.specs.Bounds.{mostItems}
+use Rattle.meaning.specs.Refusal.{good}
+use Rattle.meaning.specs.Register.{Register, judged, readBuffer}
+use Rattle.register.specs.Image.{linkNo, Begins}
+
+-- the register that the bytes begin with, of so many items, and an index that says where the links of each of them begin and end
+pub record Judged (s : List ℕ) (items : ℕ) (index : List ℕ) : Type 0 where
+  pub register : Register
+  pub read : readBuffer s ≡ good register
+  pub items-are : items ≡ length (register .names)
+  pub most : items ≤ mostItems
+  pub room : items < length index
+  pub indexed : (k : ℕ) → k ≤ items → Begins (register .links) k (getD index k 0)
+
+-- where the k-th link leads from and to
+abbrev pub startNo : Register → ℕ → ℕ
+startNo g k = linkNo g k .from
+
+abbrev pub endNo : Register → ℕ → ℕ
+endNo g k = linkNo g k .to
+
+-- f of k, of k + 1 .., n of them
+unfoldable pub valuesFrom : (ℕ → ℕ) → ℕ → ℕ → List ℕ
+valuesFrom f k zero = []
+valuesFrom f k (suc n) = f k ∷ valuesFrom f (k + 1) n
+
+-- f of each number from `first` up to `end`
+abbrev pub spanned : (ℕ → ℕ) → ℕ → ℕ → List ℕ
+spanned f first end = valuesFrom f first (end - first)
+
+-- the successors of an item under a role are the ends of the links from `first` up to `end`, and these lead from the item
+pub record Runs (g : Register) (item role first end : ℕ) : Type 0 where
+  pub next : judged g .next item role ≡ spanned (endNo g) first end
+  pub own : (k : ℕ) → first ≤ k → k < end → startNo g k ≡ item
+  pub order : first ≤ end
+  pub within : end ≤ length (g .links)
+
+-- ---- how a run is found
+
+abbrev pub roleNo : Register → ℕ → ℕ
+roleNo g k = linkNo g k .role
+
+-- of the links from `first` up to `end`, those before r are of lower roles, and the one at r is not
+pub record Lower (g : Register) (role first end r : ℕ) : Type 0 where
+  pub behind : first ≤ r
+  pub within : r ≤ end
+  pub lower : (k : ℕ) → first ≤ k → k < r → roleNo g k < role
+  pub here : r < end → role ≤ roleNo g r
+
+-- those from r on are of higher roles, and the one before r is not
+pub record Higher (g : Register) (role first end r : ℕ) : Type 0 where
+  pub behind : first ≤ r
+  pub within : r ≤ end
+  pub higher : (k : ℕ) → r ≤ k → k < end → role < roleNo g k
+  pub here : first < r → roleNo g (r - 1) ≤ role
+
+-- ---- how the index is filled
+
+-- e is the place behind the last of the first n links that leads from the item, or 0 where none of them does
+pub record Ends (g : Register) (n item e : ℕ) : Type 0 where
+  pub within : e ≤ n
+  pub all : (k : ℕ) → k < n → startNo g k ≡ item → k < e
+  pub last : 0 < e → startNo g (e - 1) ≡ item
+
+-- each of the first n places behind the first has become the greater of itself and of what the place before it has become
+pub record Risen (n : ℕ) (old new : List ℕ) : Type 0 where
+  pub size : length new ≡ length old
+  pub first : getD new 0 0 ≡ getD old 0 0
+  pub done : (k : ℕ) → k < n → getD new (k + 1) 0 ≡ max (getD new k 0) (getD old (k + 1) 0)
+  pub rest : (k : ℕ) → n < k → getD new k 0 ≡ getD old k 0

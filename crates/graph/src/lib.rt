@@ -1,0 +1,155 @@
+// The graph that is judged, of a register image that was read: names of an item, and successors under a role.
+pub mod sets; // sets.rt: sets of up to 512 items
+
+ghost use mathlib.Core.Path.{_≡_};
+ghost use Prim.Native.Nat.{ℕ, _+_, _≤_, _<_, max};
+ghost use lib.ListN.{length, getD};
+ghost use Rattle.meaning.specs.Bounds.{mostItems};
+ghost use Rattle.meaning.specs.Register.{judged};
+ghost use Rattle.register.specs.Image.{Asked, Image};
+ghost use Rattle.graph.specs.Judged.{Judged, endNo, Runs, Lower, Higher, Ends, Risen};
+ghost use Rattle.graph.specs.Sets.{Among, Spread, Gathered};
+
+// A run of links: from `first` up to `end`.
+pub struct Span {
+    pub first: usize,
+    pub end: usize,
+}
+
+// The names of an item.
+pub fn names(s: &[u8], item: usize) -> u64
+    requires { ⌜ Asked (now s) (λ g. item < length (g .names)) ⌝ }
+    ensures { λ r. ⌜ Image (now (s .entry)) (λ g. r ≡ judged g .names item) ⌝ }
+{
+    register::names_of(s, item)
+}
+
+// Where the k-th link leads to, among so many items.
+pub fn end_of(s: &[u8], items: usize, k: usize) -> usize
+    requires { ⌜ Asked (now s) (λ g. (items ≡ length (g .names)) × (k < length (g .links))) ⌝ }
+    ensures { λ r. ⌜ Image (now (s .entry)) (λ g. r ≡ endNo g k) ⌝ }
+    ensures { λ r. ⌜ r < items ⌝ }
+{
+    register::to_of(s, items, k)
+}
+
+// Fills an index that is all zeros: at place k stands where the links of item k begin.
+pub fn fill_index(s: &[u8], items: usize, links: usize, index: &mut [u16])
+    requires { ⌜ Asked (now s) (λ g. (items ≡ length (g .names)) × (links ≡ length (g .links))) ⌝ }
+    requires { ⌜ (items < length (now index)) × ((k : ℕ) → getD (now index) k 0 ≡ 0) ⌝ }
+    ensures { λ _. ⌜ Judged (now (s .entry)) items (now (index .exit)) ⌝ }
+{
+    note_ends(s, items, links, index);
+    raise(items, index);
+}
+
+// Behind the place of each item that links lead from: where its last one ends.
+fn note_ends(s: &[u8], items: usize, links: usize, index: &mut [u16])
+    requires { ⌜ Asked (now s) (λ g. (items ≡ length (g .names)) × (links ≡ length (g .links))) ⌝ }
+    requires { ⌜ (items < length (now index)) × ((k : ℕ) → getD (now index) k 0 ≡ 0) ⌝ }
+    ensures { λ _. ⌜ Image (now (s .entry)) (λ g. (x : ℕ) → x < items → Ends g links x (getD (now (index .exit)) (x + 1) 0)) ⌝ }
+    ensures { λ _. ⌜ getD (now (index .exit)) 0 0 ≡ 0 ⌝ }
+{
+    let mut k = 0;
+    while k < links {
+        let at = register::from_of(s, items, k) + 1;
+        k += 1;
+        index[at] = k as u16;
+    }
+}
+
+// Each place becomes at least what stands before it.
+fn raise(items: usize, index: &mut [u16])
+    requires { ⌜ items < length (now index) ⌝ }
+    ensures { λ _. ⌜ Risen items (now (index .entry)) (now (index .exit)) ⌝ }
+{
+    let mut i = 0;
+    while i < items {
+        let before = index[i];
+        i += 1;
+        index[i] = greater(before, index[i]);
+    }
+}
+
+fn greater(a: u16, b: u16) -> u16
+    ensures { λ r. ⌜ r ≡ max a b ⌝ }
+{
+    if a < b {
+        return b;
+    }
+    a
+}
+
+// The successors of an item under a role, as a run of links: an item's links stand in the order of their roles.
+pub fn run(s: &[u8], items: usize, index: &[u16], item: usize, role: usize) -> Span
+    requires { ⌜ Judged (now s) items (now index) ⌝ }
+    requires { ⌜ item < items ⌝ }
+    ensures { λ r. ⌜ ((j : Judged (now (s .entry)) items (now (index .entry))) → Runs (j .register) item role (r .first) (r .end)) ⌝ }
+{
+    let begin = fields::pair(index[item]);
+    let stop = fields::pair(index[item + 1]);
+    let first = skip_lower(s, items, role, begin, stop);
+    let end = skip_higher(s, items, role, first, stop);
+    Span { first, end }
+}
+
+// The first of some links whose role is not lower.
+fn skip_lower(s: &[u8], items: usize, role: usize, first: usize, end: usize) -> usize
+    requires { ⌜ Asked (now s) (λ g. (items ≡ length (g .names)) × (end ≤ length (g .links))) ⌝ }
+    requires { ⌜ first ≤ end ⌝ }
+    ensures { λ r. ⌜ Image (now (s .entry)) (λ g. Lower g role first end r) ⌝ }
+{
+    let mut k = first;
+    while k < end {
+        if role <= register::role_of(s, items, k) {
+            return k;
+        }
+        k += 1;
+    }
+    k
+}
+
+// Behind the last of some links whose role is not higher.
+fn skip_higher(s: &[u8], items: usize, role: usize, first: usize, end: usize) -> usize
+    requires { ⌜ Asked (now s) (λ g. (items ≡ length (g .names)) × (end ≤ length (g .links))) ⌝ }
+    requires { ⌜ first ≤ end ⌝ }
+    ensures { λ r. ⌜ Image (now (s .entry)) (λ g. Higher g role first end r) ⌝ }
+{
+    let mut e = end;
+    while first < e {
+        if register::role_of(s, items, e - 1) <= role {
+            return e;
+        }
+        e -= 1;
+    }
+    e
+}
+
+// Puts every successor under a role of the items of a set into another.
+pub fn spread(s: &[u8], items: usize, index: &[u16], set: &[u64], role: usize, below: &mut [u64])
+    requires { ⌜ Judged (now s) items (now index) ⌝ }
+    requires { ⌜ (length (now set) ≡ 8) × Among items (now set) ⌝ }
+    requires { ⌜ (length (now below) ≡ 8) × Among items (now below) ⌝ }
+    ensures { λ _. ⌜ ((j : Judged (now (s .entry)) items (now (index .entry)))
+        → Spread (judged (j .register)) items (now (set .entry)) role (now (below .exit))) ⌝ }
+{
+    let mut x = sets::next_in(set, 0);
+    while x < meaning::MOST_ITEMS {
+        let r = run(s, items, index, x, role);
+        gather(s, items, r.first, r.end, below);
+        x = sets::next_in(set, x + 1);
+    }
+}
+
+// Puts the ends of some links into a set.
+fn gather(s: &[u8], items: usize, first: usize, end: usize, set: &mut [u64])
+    requires { ⌜ Asked (now s) (λ g. (items ≡ length (g .names)) × (end ≤ length (g .links))) ⌝ }
+    requires { ⌜ (length (now set) ≡ 8) × (items ≤ mostItems) × Among items (now set) ⌝ }
+    ensures { λ _. ⌜ Image (now (s .entry)) (λ g. Gathered (endNo g) first end items (now (set .entry)) (now (set .exit))) ⌝ }
+{
+    let mut k = first;
+    while k < end {
+        sets::include(set, end_of(s, items, k));
+        k += 1;
+    }
+}
