@@ -28,8 +28,7 @@ use Rattle.meaning.proofs.YesShown.{yes-shows}
 use Rattle.fields.specs.Head.{wrongIn}
 use Rattle.register.specs.declared.Reading.{Reading}
 use Rattle.register.specs.declared.Reading.the-variants.{Good as GoodReading, Refused as RefusedReading}
-use Rattle.register.specs.Reading.{counted}
-use Rattle.register.specs.Reading.{paperReading}
+use Rattle.register.specs.Reading.{counted, paperReading}
 use Rattle.requirement.specs.declared.Message.{Message}
 use Rattle.requirement.specs.declared.Message.the-variants.{Good as GoodMessage, Refused as RefusedMessage}
 use Rattle.requirement.specs.Reading.{Arrays, MessageOutcome, MessageDone}
@@ -76,7 +75,8 @@ degree-good i num den k r (good a) old new fits e p w =
     let long : length (a .map) ≡ k = sym (ap (λ (z : Told). z .places) same) in
     let l : k ≤ length old = omega (arith, long, fits a refl) in
     let shown : take k new ≡ a .map = ap (λ (z : List ℕ). take k z) w ∙ front old (a .map) k long l in
-    (ap₂ (λ (d : Frac) (m : List ℕ). degreeLine i d m) (sym (ap (λ (z : Told). z .degree) same)) (sym shown), omega (arith, l, ap length w ∙ length-sets old 0 (a .map)), l, sym (ap length shown ∙ long))
+    let line = ap₂ (λ (d : Frac) (m : List ℕ). degreeLine i d m) (sym (ap (λ (z : Told). z .degree) same)) (sym shown) in
+    (line, omega (arith, l, ap length w ∙ length-sets old 0 (a .map)), l, sym (ap length shown ∙ long))
 degree-good i num den k r (refused f) old new fits e p w = absurd (not-good (sym p ∙ ap paperDegree e))
 
 pub degree-refused : (i : ℕ) (f : Refusal) (r : Answered) (D : Answer Found) → r ≡ RefusedDegree f → paperDegree r ≡ told D → degreeRow i D ≡ refusalLine f

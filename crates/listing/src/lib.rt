@@ -1,8 +1,6 @@
 // The listing of a register against a requirement, piece by piece: what comes first, and then a row for each item that is to be listed.
 // Each piece is text at the front of a lent buffer. Put one after the other they are the listing (specs/Pieces.antt).
-use asking;
 use asking::Answered;
-use deciding;
 use deciding::Verdict;
 use fields;
 use lines;

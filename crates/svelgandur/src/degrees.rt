@@ -1,10 +1,6 @@
 // The degree and the margin from C.
 use answers;
-ghost use mathlib.Core.Path.{_≡_};
-ghost use lib.ListN.{length};
-ghost use Rattle.meaning.specs.Calls.{degreeCall, afterDegree, marginCall};
-ghost use Rattle.asking.specs.Answers.{told};
-ghost use Rattle.answers.specs.Numbers.{numbers, degreeNumbers, marginNumbers};
+ghost use Rattle.svelgandur.specs.Promises.{DegreePromise, MarginPromise};
 
 // The degree of an item in a plain requirement, in lowest terms, and its map.
 // Good: 1, numerator, denominator, places written. Refused: 0, side, number, place; the map is then untouched.
@@ -16,10 +12,7 @@ pub extern "C" fn svelgandur_degree(
     map: &mut [u16],
     answer: &mut [u64; 4],
 )
-    ensures { λ _. ⌜ now (answer .exit)
-        ≡ numbers degreeNumbers (told (degreeCall (now (image .entry)) (now (message .entry)) item (length (now (map .entry))))) ⌝ }
-    ensures { λ _. ⌜ now (map .exit)
-        ≡ afterDegree (now (map .entry)) (degreeCall (now (image .entry)) (now (message .entry)) item (length (now (map .entry)))) ⌝ }
+    ensures { λ _. ⌜ DegreePromise (now (image .entry)) (now (message .entry)) item (now (map .entry)) (now (map .exit)) (now (answer .exit)) ⌝ }
 {
     let r = asking::degree_of(image, message, item as usize, map);
     answers::of_degree(answer, r);
@@ -36,7 +29,7 @@ pub extern "C" fn svelgandur_margin(
     q: u64,
     answer: &mut [u64; 4],
 )
-    ensures { λ _. ⌜ now (answer .exit) ≡ numbers marginNumbers (marginCall (now (image .entry)) (now (message .entry)) item p q) ⌝ }
+    ensures { λ _. ⌜ MarginPromise (now (image .entry)) (now (message .entry)) item p q (now (answer .exit)) ⌝ }
 {
     let r = asking::margin_of(image, message, item as usize, p as usize, q as usize);
     answers::of_margin(answer, r);

@@ -2,20 +2,14 @@
 // Each call answers 1, the count of steps in use, 0, 0; or, refused, 0, side, number, place. A refused call changes neither buffer nor log.
 use answers;
 use meaning::Fact;
-ghost use mathlib.Core.Path.{_≡_};
-ghost use Prim.Native.Nat.{_-_};
-ghost use lib.ListN.{length, getD};
 ghost use Rattle.meaning.specs.declared.Fact.{Fact};
-ghost use Rattle.meaning.specs.Session.{openCall, editCall, undoCall, keepCall, noSteps, counted, bufferOpened, bufferAfter};
-ghost use Rattle.session.specs.Calls.{anEdit};
-ghost use Rattle.numbered.specs.Coded.{decoded, numbersAfter};
-ghost use Rattle.answers.specs.Numbers.{numbers, inUse, isAdding};
+ghost use Rattle.answers.specs.Numbers.{isAdding};
+ghost use Rattle.svelgandur.specs.Promises.{OpenPromise, EditPromise, UndoPromise, KeepPromise};
 
 // Opens the image that the buffer begins with: all behind it becomes zeros. The count is 0.
 #[no_mangle]
 pub extern "C" fn svelgandur_open(buffer: &mut [u8], answer: &mut [u64; 4])
-    ensures { λ _. ⌜ now (answer .exit) ≡ numbers inUse (noSteps (openCall (now (buffer .entry)))) ⌝ }
-    ensures { λ _. ⌜ now (buffer .exit) ≡ bufferOpened (now (buffer .entry)) (openCall (now (buffer .entry))) ⌝ }
+    ensures { λ _. ⌜ OpenPromise (now (buffer .entry)) (now (buffer .exit)) (now (answer .exit)) ⌝ }
 {
     let r = session::open(buffer);
     answers::of_count(answer, r);
@@ -32,9 +26,8 @@ pub extern "C" fn svelgandur_edit_name(
     name: u64,
     answer: &mut [u64; 4],
 )
-    ensures { λ _. ⌜ now (answer .exit) ≡ numbers inUse (counted (editCall (now (buffer .entry)) (length (now (log .entry))) count (anEdit (Fact.Name item name) (isAdding adds)))) ⌝ }
-    ensures { λ _. ⌜ now (buffer .exit) ≡ bufferAfter (now (buffer .entry)) (editCall (now (buffer .entry)) (length (now (log .entry))) count (anEdit (Fact.Name item name) (isAdding adds))) ⌝ }
-    ensures { λ _. ⌜ now (log .exit) ≡ numbersAfter (now (log .entry)) count (Fact.Name item name) (editCall (now (buffer .entry)) (length (now (log .entry))) count (anEdit (Fact.Name item name) (isAdding adds))) ⌝ }
+    ensures { λ _. ⌜ EditPromise (now (buffer .entry)) (now (log .entry)) count (Fact.Name item name) (isAdding adds)
+        (now (buffer .exit)) (now (log .exit)) (now (answer .exit)) ⌝ }
 {
     let named = Fact::Name {
         item: item as usize,
@@ -56,9 +49,8 @@ pub extern "C" fn svelgandur_edit_link(
     to: u64,
     answer: &mut [u64; 4],
 )
-    ensures { λ _. ⌜ now (answer .exit) ≡ numbers inUse (counted (editCall (now (buffer .entry)) (length (now (log .entry))) count (anEdit (Fact.Link from role to) (isAdding adds)))) ⌝ }
-    ensures { λ _. ⌜ now (buffer .exit) ≡ bufferAfter (now (buffer .entry)) (editCall (now (buffer .entry)) (length (now (log .entry))) count (anEdit (Fact.Link from role to) (isAdding adds))) ⌝ }
-    ensures { λ _. ⌜ now (log .exit) ≡ numbersAfter (now (log .entry)) count (Fact.Link from role to) (editCall (now (buffer .entry)) (length (now (log .entry))) count (anEdit (Fact.Link from role to) (isAdding adds))) ⌝ }
+    ensures { λ _. ⌜ EditPromise (now (buffer .entry)) (now (log .entry)) count (Fact.Link from role to) (isAdding adds)
+        (now (buffer .exit)) (now (log .exit)) (now (answer .exit)) ⌝ }
 {
     let linked = Fact::Link {
         from: from as usize,
@@ -72,8 +64,7 @@ pub extern "C" fn svelgandur_edit_link(
 // Takes the last step in use back.
 #[no_mangle]
 pub extern "C" fn svelgandur_undo(buffer: &mut [u8], log: &[u64], count: u64, answer: &mut [u64; 4])
-    ensures { λ _. ⌜ now (answer .exit) ≡ numbers inUse (counted (undoCall (now (buffer .entry)) (length (now (log .entry))) count (decoded (getD (now (log .entry)) (count - 1) 0)))) ⌝ }
-    ensures { λ _. ⌜ now (buffer .exit) ≡ bufferAfter (now (buffer .entry)) (undoCall (now (buffer .entry)) (length (now (log .entry))) count (decoded (getD (now (log .entry)) (count - 1) 0))) ⌝ }
+    ensures { λ _. ⌜ UndoPromise (now (buffer .entry)) (now (log .entry)) count (now (buffer .exit)) (now (answer .exit)) ⌝ }
 {
     let r = numbered::undo(buffer, log, count as usize);
     answers::of_count(answer, r);
@@ -82,7 +73,7 @@ pub extern "C" fn svelgandur_undo(buffer: &mut [u8], log: &[u64], count: u64, an
 // Keeps all edits: none can be taken back any more. The count is 0.
 #[no_mangle]
 pub extern "C" fn svelgandur_keep(buffer: &[u8], log: &[u64], count: u64, answer: &mut [u64; 4])
-    ensures { λ _. ⌜ now (answer .exit) ≡ numbers inUse (noSteps (keepCall (now (buffer .entry)) (length (now (log .entry))) count)) ⌝ }
+    ensures { λ _. ⌜ KeepPromise (now (buffer .entry)) (now (log .entry)) count (now (answer .exit)) ⌝ }
 {
     let r = numbered::keep(buffer, log, count as usize);
     answers::of_count(answer, r);

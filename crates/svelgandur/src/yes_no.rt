@@ -1,10 +1,6 @@
 // The yes/no call from C.
 use answers;
-ghost use mathlib.Core.Path.{_≡_};
-ghost use lib.ListN.{length};
-ghost use Rattle.meaning.specs.Calls.{memberCall, afterMember};
-ghost use Rattle.deciding.specs.Answers.{said};
-ghost use Rattle.answers.specs.Numbers.{numbers, verdicts};
+ghost use Rattle.svelgandur.specs.Promises.{MemberPromise};
 
 // Whether an item meets a requirement; a yes writes the map.
 // Yes: 1, places written, 0, 0. No: 2, 0, 0, 0. Refused: 0, side, number, place.
@@ -16,8 +12,7 @@ pub extern "C" fn svelgandur_member(
     map: &mut [u16],
     answer: &mut [u64; 4],
 )
-    ensures { λ _. ⌜ now (answer .exit) ≡ numbers verdicts (said (memberCall (now (image .entry)) (now (message .entry)) item (length (now (map .entry))))) ⌝ }
-    ensures { λ _. ⌜ now (map .exit) ≡ afterMember (now (map .entry)) (memberCall (now (image .entry)) (now (message .entry)) item (length (now (map .entry)))) ⌝ }
+    ensures { λ _. ⌜ MemberPromise (now (image .entry)) (now (message .entry)) item (now (map .entry)) (now (map .exit)) (now (answer .exit)) ⌝ }
 {
     let r = deciding::decide(image, message, item as usize, map);
     answers::of_verdict(answer, r);

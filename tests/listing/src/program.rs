@@ -12,7 +12,7 @@ pub struct Program {
 }
 
 /// The stack that the program is given, in KiB.
-pub const STACK: usize = 160;
+pub const STACK: usize = 192;
 
 /// How the input comes.
 #[derive(Clone, Copy, PartialEq, Eq, Debug)]

@@ -17,7 +17,8 @@ put-requires c κs = search needs
 returns : tie.Need-returns
 returns c =
     let refusal = c .before .before .before .args .refusal in
-    let written : _ ≡ four 0 (sideNumber (refusal .side)) (refusal .number) (refusal .place) = c .put .ensures ∙ four-same (omega arith) (c .before .side-number .ensures) (omega arith) (omega arith) in
+    let written : _ ≡ four 0 (sideNumber (refusal .side)) (refusal .number) (refusal .place) =
+    c .put .ensures ∙ four-same (omega arith) (c .before .side-number .ensures) (omega arith) (omega arith) in
     written
 
 pub refuse-spec : {M : Type 1} → statement M

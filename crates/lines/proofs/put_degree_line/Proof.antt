@@ -40,7 +40,8 @@ put-byte-requires-4 c κs =
     let at-put-byte = at-put-number2 .before .before .before .before in
     let at-put-number = at-put-byte .before .before .before .before in
     let start = at-put-number .before .before .before .before in
-    let said = wrote-more (wrote-more (wrote-more (at-put-number .put-number .ensures .0) (at-put-byte .put-byte .ensures)) (at-put-number2 .put-number2 .ensures .0)) (at-put-byte2 .put-byte2 .ensures) in
+    let item = wrote-more (at-put-number .put-number .ensures .0) (at-put-byte .put-byte .ensures) in
+    let said = wrote-more (wrote-more item (at-put-number2 .put-number2 .ensures .0)) (at-put-byte2 .put-byte2 .ensures) in
     let whole = wrote-more (wrote-more (wrote-more said (at-put-number3 .put-number3 .ensures .0)) (at-put-byte3 .put-byte3 .ensures)) (at-put-map .put-map .ensures .0) in
     let near : (at-put-byte3 .put-byte3 .result) ≤ 63 =
     omega (

@@ -2,9 +2,6 @@
 -- Assumes nothing.
 use Rattle.listing.proofs.register_end.Statement.{statement}
 use Rattle.listing.proofs.register_end.Tie as tie
-use Rattle.listing.proofs.register_end.Reads as reads
-use Rattle.listing.proofs.register_end.Lts as lts
-use Rattle.fields.proofs.two.Reads as two-reads
 use native.Mathlib.Omega.{arith}
 use native.Mathlib.Nat.{min-eq-left, min-eq-right}
 use mathlib.Core.Path.{_∙_, sym, ap}
@@ -29,7 +26,10 @@ returns-2 c =
 
 returns-3 : tie.Need-returns-3
 returns-3 c =
-    (sym (end-long _ (c .before .before .if1 .left) ∙ min-eq-right (omega (arith, c .if2 .left, c .before .two .ensures .0)) ∙ ap (λ (z : ℕ). 3 + z) (sym (c .before .two .ensures .0))), omega (arith, c .if2 .left))
+    let two = c .before .two .ensures .0 in (
+      sym (end-long _ (c .before .before .if1 .left) ∙ min-eq-right (omega (arith, c .if2 .left, two)) ∙ ap (λ (z : ℕ). 3 + z) (sym two)),
+      omega (arith, c .if2 .left),
+    )
 
 pub register-end-spec : {M : Type 1} → statement M
 register-end-spec = tie.close (tie.spec returns two-requires add-end returns-2 returns-3)

@@ -82,7 +82,9 @@ put-digits-returns-2 : (t : ℕ) → put-digits-lts.Need-returns-2 (
   put-digits.Post,
 ) (put-digits-at t) put-digits.Post
 put-digits-returns-2 t c =
-    as-text (digits-one _ _ (c .before .before .before .before .before .before .if1 .left) (c .before .before .before .before .before .if2 .taken)) (as-text (ap (λ (z : ℕ). z ∷ []) (sym (c .before .before .before .digit .ensures))) (c .before .before .put-byte .ensures))
+    let at-if2 = c .before .before .before .before .before in
+    let byte = as-text (ap (λ (z : ℕ). z ∷ []) (sym (c .before .before .before .digit .ensures))) (c .before .before .put-byte .ensures) in
+    as-text (digits-one _ _ (at-if2 .before .if1 .left) (at-if2 .if2 .taken)) byte
 
 put-digits-sub-put-digits : (t : ℕ) → put-digits-lts.Need-sub-put-digits (
   digit-reads.Asked,
@@ -103,7 +105,9 @@ put-digits-put-digits-requires : (t : ℕ) → put-digits-lts.Need-put-digits-re
   put-digits.Post,
 ) (put-digits-at t) put-digits.Post
 put-digits-put-digits-requires t c κs =
-    (omega (arith, c .before .before .before .before .pre .0, c .before .before .if1 .left), omega (arith, c .before .before .before .before .pre .1, more-length _ _ (c .before .before .if1 .left) (c .before .if2 .left)))
+    let start = c .before .before .before .before in
+    let some = c .before .before .if1 .left in
+    (omega (arith, start .pre .0, some), omega (arith, start .pre .1, more-length _ _ some (c .before .if2 .left)))
 
 put-digits-digit-requires-2 : (t : ℕ) → put-digits-lts.Need-digit-requires-2 (
   digit-reads.Asked,
@@ -124,7 +128,10 @@ put-digits-put-byte-requires-2 : (t : ℕ) → put-digits-lts.Need-put-byte-requ
   put-digits.Post,
 ) (put-digits-at t) put-digits.Post
 put-digits-put-byte-requires-2 t c κs =
-    omega (arith, c .before .before .before .before .before .before .before .before .before .pre .1, more-length _ _ (c .before .before .before .before .before .before .before .if1 .left) (c .before .before .before .before .before .before .if2 .left), c .before .before .before .before .put-digits .ensures .next, wrote-length (c .before .before .before .before .put-digits .ensures))
+    let front = c .before .before .before .before .put-digits .ensures in
+    let at-if2 = c .before .before .before .before .before .before in
+    let start = at-if2 .before .before .before in
+    omega (arith, start .pre .1, more-length _ _ (at-if2 .before .if1 .left) (at-if2 .if2 .left), front .next, wrote-length front)
 
 put-digits-same-length-2 : (t : ℕ) → put-digits-lts.Need-same-length-2 (
   digit-reads.Asked,
@@ -146,7 +153,10 @@ put-digits-returns-3 : (t : ℕ) → put-digits-lts.Need-returns-3 (
   put-digits.Post,
 ) (put-digits-at t) put-digits.Post
 put-digits-returns-3 t c =
-    as-text (digits-more _ _ (c .before .before .before .before .before .before .before .before .before .before .if1 .left) (c .before .before .before .before .before .before .before .before .before .if2 .left)) (wrote-more (c .before .before .before .before .before .before .before .put-digits .ensures) (as-text (ap (λ (z : ℕ). z ∷ []) (sym (c .before .before .before .digit2 .ensures))) (c .before .before .put-byte2 .ensures)))
+    let at-front = c .before .before .before .before .before .before .before in
+    let at-if2 = at-front .before .before in
+    let byte = as-text (ap (λ (z : ℕ). z ∷ []) (sym (c .before .before .before .digit2 .ensures))) (c .before .before .put-byte2 .ensures) in
+    as-text (digits-more _ _ (at-if2 .before .if1 .left) (at-if2 .if2 .left)) (wrote-more (at-front .put-digits .ensures) byte)
 
 pub +put-digits-spec : {M : Type 1} → statement M
 +put-digits-spec = close μ-put-digits λ t. put-digits-lts.spec (

@@ -2,8 +2,6 @@
 -- Assumes nothing.
 use Rattle.lines.proofs.text.put_word.Statement.{statement}
 use Rattle.lines.proofs.text.put_word.Tie as tie
-use Rattle.lines.proofs.text.put_word.Reads as reads
-use Rattle.lines.proofs.text.put_word.Lts as lts
 use Prim.Native.Nat.{_+_, _-_, _≤_}
 use native.Mathlib.Omega.{arith}
 use lib.ListN.{length, take}
