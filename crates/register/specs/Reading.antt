@@ -11,7 +11,7 @@ use lib.ListN.{length}
 use Rattle.meaning.specs.declared.Side.the-variants.{Register as register}
 use Rattle.meaning.specs.Refusal.{Answer, good, refused, at, refuseIf, _>>=_, _>>_}
 use Rattle.meaning.specs.Bounds.{mostRole}
-use Rattle.meaning.specs.Register.{Link, Register, readLinks, readRegisterBy}
+use Rattle.meaning.specs.Register.{Link, Register, readLink, readLinks, readRegisterBy}
 use Rattle.fields.specs.Head.{wrongIn}
 use Rattle.register.specs.declared.Reading.{Reading}
 use Rattle.register.specs.declared.Reading.the-variants.{Good, Refused}
@@ -71,6 +71,10 @@ keyed a = a >>= λ l. good (key l + 1)
 abbrev pub Passed : ℕ → ℕ → Linked → Type 0
 Passed p end (GoodLink f) = p + 5 ≤ end
 Passed p end (RefusedLink k q) = Unit {0}
+
+-- so is one that was read by its number alone: f is the least number that the next one may have
+abbrev pub Quick : List ℕ → ℕ → ℕ → ℕ → ℕ → ℕ → Type 0
+Quick s end n p floor f = (p + 5 ≤ end) × ((before : Option Link) → Floor before floor → good f ≡ keyed (readLink s end n before p))
 
 -- the first field of a link that does not fit into so much room
 abbrev pub cutAt : ℕ → ℕ → Linked

@@ -11,7 +11,7 @@ ghost use lib.ListN.{length, getD};
 ghost use Rattle.meaning.specs.Register.{Link, linkAt, readLink, readBody};
 ghost use Rattle.meaning.specs.Bounds.{mostItems, mostLinks, mostRole};
 ghost use Rattle.register.specs.Image.{Asked, Image, linkNo, Begins};
-ghost use Rattle.register.specs.Reading.{ReadPromise, paperReading, counted, linksAnswer, refusedAt, key, Floor, paperLink, keyed, Passed, cutAt};
+ghost use Rattle.register.specs.Reading.{ReadPromise, paperReading, counted, linksAnswer, refusedAt, key, Floor, paperLink, keyed, Passed, Quick, cutAt};
 
 // An image: how many items and links it has, or its refusal.
 pub enum Reading {
@@ -79,17 +79,24 @@ fn read_body(s: &[u8], end: usize) -> Reading
 
 // The links, and that nothing is left behind them.
 fn read_links(s: &[u8], end: usize, items: usize, links: usize, start: usize) -> Reading
-    requires { ⌜ (start ≤ end) × (end ≤ length (now s)) × (items ≤ mostItems) × (links ≤ mostLinks) ⌝ }
+    requires { ⌜ (3 ≤ start) × (start ≤ end) × (end ≤ length (now s)) × (items ≤ mostItems) × (links ≤ mostLinks) ⌝ }
     ensures { λ r. ⌜ paperReading r ≡ linksAnswer (now (s .entry)) end items links start ⌝ }
 {
     let mut i = 0;
     let mut at = start;
     let mut floor = 0;
     while i < links {
+        let next = quick_link(s, end, items, at, floor);
+        if 0 < next {
+            floor = next;
+            i += 1;
+            at += 5;
+            continue;
+        }
         let l = read_link(s, end, items, at, floor);
         match l {
-            Linked::Good { floor: next } => {
-                floor = next;
+            Linked::Good { floor: least } => {
+                floor = least;
             }
             Linked::Refused { number, place } => {
                 return refused(number, place);
@@ -104,7 +111,39 @@ fn read_links(s: &[u8], end: usize, items: usize, links: usize, start: usize) ->
     Reading::Good { items, links }
 }
 
-// One link, whose number must be at least `floor`. A link's number is that of its five bytes, and so rises with (from, role, to).
+// The number of the link at a place, that of its five bytes: it rises with (from, role, to). It is read in one load, with the three bytes before.
+fn key_at(s: &[u8], at: usize) -> usize
+    requires { ⌜ (3 ≤ at) × (at + 5 ≤ length (now s)) ⌝ }
+    ensures { λ r. ⌜ r ≡ key (linkAt (now (s .entry)) at) ⌝ }
+{
+    (fields::eight(s, at - 3) % 1099511627776) as usize
+}
+
+// One link, by its number alone: the least number that the next one may have; or 0 where something is wrong.
+fn quick_link(s: &[u8], end: usize, items: usize, at: usize, floor: usize) -> usize
+    requires { ⌜ (3 ≤ at) × (at ≤ end) × (end ≤ length (now s)) × (items ≤ mostItems) ⌝ }
+    ensures { λ r. ⌜ (0 < r → Quick (now (s .entry)) end items at floor r) ⌝ }
+{
+    if end - at < 5 {
+        return 0;
+    }
+    let number = key_at(s, at);
+    if number < floor {
+        return 0;
+    }
+    if items * 16777216 <= number {
+        return 0;
+    }
+    if items <= number % 65536 {
+        return 0;
+    }
+    if meaning::MOST_ROLE < number / 65536 % 256 {
+        return 0;
+    }
+    number + 1
+}
+
+// One link, whose number must be at least `floor`: its number and place where something is wrong.
 fn read_link(s: &[u8], end: usize, items: usize, at: usize, floor: usize) -> Linked
     requires { ⌜ (at ≤ end) × (end ≤ length (now s)) × (items ≤ mostItems) ⌝ }
     ensures { λ r. ⌜ ((before : Option Link) → Floor before floor → paperLink r ≡ keyed (readLink (now (s .entry)) end items before at)) ⌝ }
@@ -197,14 +236,6 @@ pub fn to_of(s: &[u8], items: usize, k: usize) -> usize
     ensures { λ r. ⌜ Image (now (s .entry)) (λ g. (r ≡ linkNo g k .to) × (r < length (g .names))) ⌝ }
 {
     fields::two(s, layout::link_at(items, k) + 3)
-}
-
-// The number of the link at a place, that of its five bytes: it rises with (from, role, to).
-fn key_at(s: &[u8], at: usize) -> usize
-    requires { ⌜ at + 5 ≤ length (now s) ⌝ }
-    ensures { λ r. ⌜ r ≡ key (linkAt (now (s .entry)) at) ⌝ }
-{
-    (fields::two(s, at) * 256 + fields::one(s, at + 2)) * 65536 + fields::two(s, at + 3)
 }
 
 // The number of its k-th link.

@@ -1,38 +1,22 @@
 use borrow.Author.Needs.{needs}
 use Rattle.register.proofs.key_at.Statement.{statement}
 use Rattle.register.proofs.key_at.Tie as tie
+use mathlib.Core.Path.{ap, _∙_}
+use Prim.Native.Nat.{ℕ, _%_}
 use native.Mathlib.Omega.{arith}
+use Rattle.fields.proofs.Known.{bytes-known}
+use Rattle.register.proofs.OneLink.{low-five}
 
-two-requires : tie.Need-two-requires
-two-requires c κs = search needs
+sub-eight : tie.Need-sub-eight
+sub-eight c = search needs
 
-mul-result : tie.Need-mul-result
-mul-result c = search needs
-
-add-one : tie.Need-add-one
-add-one c = search needs
-
-one-requires : tie.Need-one-requires
-one-requires c κs = search needs
-
-add-result : tie.Need-add-result
-add-result c = search needs
-
-mul-result-2 : tie.Need-mul-result-2
-mul-result-2 c = search needs
-
-add-two : tie.Need-add-two
-add-two c = search needs
-
-two-requires-2 : tie.Need-two-requires-2
-two-requires-2 c κs = search needs
-
-add-result-2 : tie.Need-add-result-2
-add-result-2 c = search needs
+eight-requires : tie.Need-eight-requires
+eight-requires c κs = search needs
 
 returns : tie.Need-returns
 returns c =
-    omega (arith, c .before .before .two .ensures .0, c .before .one .ensures .0, c .two2 .ensures .0)
+    let a = c .before .before .args in
+    ap (λ (z : ℕ). z % 1099511627776) (c .eight .ensures) ∙ low-five (a .s .now) (bytes-known (a .s .now) (c .before .shared-slice-known .given)) _ (a .at) (omega arith)
 
 pub key-at-spec : {M : Type 1} → statement M
-key-at-spec = tie.close (tie.spec two-requires mul-result add-one one-requires add-result mul-result-2 add-two two-requires-2 add-result-2 returns)
+key-at-spec = tie.close (tie.spec sub-eight eight-requires returns)

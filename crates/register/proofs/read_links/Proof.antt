@@ -19,6 +19,26 @@ loop-holds : tie.Need-loop-holds Inv-loop μ-loop
 loop-holds c =
     (omega arith, omega arith, omega arith, going-none _ _ _ _ _)
 
+quick-link-requires : tie.Need-quick-link-requires Inv-loop μ-loop
+quick-link-requires c κs = search needs
+
+add-i : tie.Need-add-i Inv-loop μ-loop
+add-i c = search needs
+
+add-at : tie.Need-add-at Inv-loop μ-loop
+add-at c =
+    let fit = c .before .quick-link .ensures (c .if1 .taken) .0 in
+    omega arith
+
+loop-less : tie.Need-loop-less Inv-loop μ-loop
+loop-less c = search needs
+
+loop-again : tie.Need-loop-again Inv-loop μ-loop
+loop-again c =
+    let w = c .before .before .before .loop .inv .3 in
+    let q = c .before .quick-link .ensures (c .if1 .taken) in
+    (omega arith, omega arith, q .0, going-more _ _ _ _ _ _ _ _ w _ (omega arith) (omega arith) (q .1 (w .before) (w .floor)))
+
 read-link-requires : tie.Need-read-link-requires Inv-loop μ-loop
 read-link-requires c κs = search needs
 
@@ -33,25 +53,26 @@ refused-requires c κs = search needs
 
 returns : tie.Need-returns Inv-loop μ-loop
 returns c =
-    let w = c .before .before .before .before .before .before .loop .inv .3 in
+    let w = c .before .before .before .before .before .before .before .before .loop .inv .3 in
     ap paperReading (c .refused .ensures)
-    ∙ sym (going-stop _ _ _ _ _ _ _ _ w _ _ (omega arith) (ap paperLink (sym (c .before .before .l2 .given .1)) ∙ c .before .before .before .before .read-link .ensures .0 (w .before) (w .floor)))
+    ∙ sym (going-stop _ _ _ _ _ _ _ _ w _ _ (omega arith)
+    (ap paperLink (sym (c .before .before .l2 .given .1)) ∙ c .before .before .before .before .read-link .ensures .0 (w .before) (w .floor)))
 
-add-i : tie.Need-add-i Inv-loop μ-loop
-add-i c = search needs
+add-i-2 : tie.Need-add-i-2 Inv-loop μ-loop
+add-i-2 c = search needs
 
-add-at : tie.Need-add-at Inv-loop μ-loop
-add-at c =
-    let fit = subst (λ z. Passed (c .before .before .before .before .before .loop .at) (c .before .before .before .before .before .before .before .args .end) z) (c .before .l .given .1) (c .before .before .before .read-link .ensures .1) in
+add-at-2 : tie.Need-add-at-2 Inv-loop μ-loop
+add-at-2 c =
+    let fit = subst (λ z. Passed (c .before .before .before .before .before .before .before .loop .at) (c .before .before .before .before .before .before .before .before .before .args .end) z) (c .before .l .given .1) (c .before .before .before .read-link .ensures .1) in
     omega arith
 
-loop-less : tie.Need-loop-less Inv-loop μ-loop
-loop-less c = search needs
+loop-less-2 : tie.Need-loop-less-2 Inv-loop μ-loop
+loop-less-2 c = search needs
 
-loop-again : tie.Need-loop-again Inv-loop μ-loop
-loop-again c =
-    let fit = subst (λ z. Passed (c .before .before .before .before .before .loop .at) (c .before .before .before .before .before .before .before .args .end) z) (c .before .l .given .1) (c .before .before .before .read-link .ensures .1) in
-    let w = c .before .before .before .before .before .loop .inv .3 in (
+loop-again-2 : tie.Need-loop-again-2 Inv-loop μ-loop
+loop-again-2 c =
+    let fit = subst (λ z. Passed (c .before .before .before .before .before .before .before .loop .at) (c .before .before .before .before .before .before .before .before .before .args .end) z) (c .before .l .given .1) (c .before .before .before .read-link .ensures .1) in
+    let w = c .before .before .before .before .before .before .before .loop .inv .3 in (
       omega arith,
       omega arith,
       fit,
@@ -76,15 +97,20 @@ read-links-spec =
     Inv-loop
     μ-loop
     loop-holds
+    quick-link-requires
+    add-i
+    add-at
+    loop-less
+    loop-again
     read-link-requires
     enum-known-l
     enum-known-l-2
     refused-requires
     returns
-    add-i
-    add-at
-    loop-less
-    loop-again
+    add-i-2
+    add-at-2
+    loop-less-2
+    loop-again-2
     refused-requires-2
     returns-2
     returns-3)
