@@ -2,9 +2,10 @@ pub mod Same
 pub mod Outcomes
 pub mod Nodes
 pub mod Thresholds
+pub mod Places
+pub mod Holding
 pub mod Cycle
 pub mod Bare
 pub mod Whole
-pub mod Inner
-pub mod Concept
 pub mod Turns
+pub mod Filling

@@ -1,15 +1,13 @@
 -- Reading thresholds and their inner concepts: each end, as the code comes to it.
 -- Assumes nothing.
-use mathlib.Core.Path.{_≡_, refl, sym, ap, _∙_}
+use mathlib.Core.Path.{_≡_, refl, sym, ap, _∙_, subst}
 use mathlib.Core.Bool.{Bool, true, false, _&&_, not, cond}
 use mathlib.Core.List.{List, [], _∷_, _++_}
 use Prim.Native.Nat.{ℕ, zero, suc, _+_, _-_, _≤_, _<_}
 use native.Mathlib.Decide.{decLt}
 use native.Mathlib.Omega.{arith}
-use lib.Dec.{ltb, leb}
-use lib.ListN.{length, getD, set, length-append}
-use lib.ListN.{List·getD-append as getD-append}
-use lib.Seq.{getD-set-same, getD-set-other, getD-append-seam}
+use lib.Dec.{T, T-not, ltb, leb}
+use lib.ListN.{length}
 use Rattle.meaning.specs.declared.Side.the-variants.{Requirement as requirement}
 use Rattle.meaning.specs.declared.Refusal.{Refusal}
 use Rattle.meaning.specs.Refusal.{Answer, good, refused, at, refuseIf, _>>=_, _>>_}
@@ -20,8 +18,10 @@ use Rattle.meaning.specs.Reduce.{reduce, size}
 use Rattle.meaning.specs.Bounds.{mostSize}
 use Rattle.meaning.specs.Requirement.{Threshold}
 use Rattle.meaning.specs.Message.{Part, Spot, lawful, comparison, readInner, readThreshold, readThresholds}
+use Rattle.meaning.proofs.Tests.{is-true, is-false, of-not}
 use Rattle.meaning.proofs.Reading.{pass, stop, stopped, halted, took, below, not-below, at-most, not-le, fitted}
-use Rattle.requirement.specs.Reading.{spot, parted, noPart, PartsHeld, nodeIn, wholeInner}
+use Rattle.requirement.specs.Reading.{spot, nodeIn, wholeInner}
+use Rattle.requirement.specs.Fixed.{lawfulAt}
 
 -- ---- one after the other
 
@@ -126,28 +126,25 @@ module _ (s : List ℕ) (end owner p n : ℕ) (ps : List Part) where
       whole : {B : Type 0} (k : Answer B) → (fields requirement end (1 ∷ 2 ∷ 2 ∷ []) p >> k) ≡ k
       whole k = fitted requirement end (1 ∷ 2 ∷ 2 ∷ []) p k (omega arith)
 
-      abbrev rule : Bool
-      rule = leb (number s p 1) 3 && lawful (number s (p + 1) 2) (number s (p + 3) 2)
-
-      pub threshold-rule : rule ≡ false → readThreshold s end owner w ≡ refused (at requirement 13 p)
+      pub threshold-rule : lawfulAt s p ≡ false → readThreshold s end owner w ≡ refused (at requirement 13 p)
       unfolding readThreshold
-      threshold-rule e = open-room _ ∙ whole _ ∙ stop (not rule) _ _ (ap not e)
+      threshold-rule e = open-room _ ∙ whole _ ∙ stop (not (lawfulAt s p)) _ _ (ap not e)
 
-      module _ (kept : rule ≡ true) where
+      module _ (kept : lawfulAt s p ≡ true) where
         abbrev len : ℕ
         len = number s (p + 5) 2
 
         pub threshold-length-cut : end < p + 7 → readThreshold s end owner w ≡ refused (at requirement 1 (p + 5))
         unfolding readThreshold fields
         threshold-length-cut h =
-            open-room _ ∙ whole _ ∙ pass (not rule) _ _ (ap not kept)
+            open-room _ ∙ whole _ ∙ pass (not (lawfulAt s p)) _ _ (ap not kept)
             ∙ halted (fields requirement end (2 ∷ []) (p + 5)) _ _ (stop (ltb end (p + 5 + 2)) _ _ (below end (p + 5 + 2) (omega arith)))
 
         module _ (long : p + 7 ≤ end) where
           pub threshold-past : end < p + 7 + len → readThreshold s end owner w ≡ refused (at requirement 1 (p + 5))
           unfolding readThreshold
           threshold-past h =
-              open-room _ ∙ whole _ ∙ pass (not rule) _ _ (ap not kept) ∙ fitted requirement end (2 ∷ []) (p + 5) _ (omega arith)
+              open-room _ ∙ whole _ ∙ pass (not (lawfulAt s p)) _ _ (ap not kept) ∙ fitted requirement end (2 ∷ []) (p + 5) _ (omega arith)
               ∙ stop (ltb end (p + 7 + len)) _ _ (below end (p + 7 + len) h)
 
           module _ (inside : p + 7 + len ≤ end) where
@@ -160,7 +157,7 @@ module _ (s : List ℕ) (end owner p n : ℕ) (ps : List Part) where
             to-inner : readThreshold s end owner w ≡ (wholeInner s (p + 7 + len) (p + 7) >>= λ x. good (threshold (x .0), after))
             unfolding readThreshold wholeInner
             to-inner =
-                open-room _ ∙ whole _ ∙ pass (not rule) _ _ (ap not kept) ∙ fitted requirement end (2 ∷ []) (p + 5) _ (omega arith)
+                open-room _ ∙ whole _ ∙ pass (not (lawfulAt s p)) _ _ (ap not kept) ∙ fitted requirement end (2 ∷ []) (p + 5) _ (omega arith)
                 ∙ pass (ltb end (p + 7 + len)) _ _ (not-below end (p + 7 + len) inside) ∙ regroup (readInner s (p + 7 + len) (p + 7)) (p + 7 + len) (p + 7) (λ t. (threshold t, after))
 
             pub threshold-inner : (r : Refusal) → wholeInner s (p + 7 + len) (p + 7) ≡ refused r → readThreshold s end owner w ≡ refused r
@@ -169,23 +166,19 @@ module _ (s : List ℕ) (end owner p n : ℕ) (ps : List Part) where
             pub threshold-good : (x : Concept × Spot) → wholeInner s (p + 7 + len) (p + 7) ≡ good x → readThreshold s end owner w ≡ good (threshold (x .0), after)
             threshold-good x e = to-inner ∙ took (wholeInner s (p + 7 + len) (p + 7)) _ x e
 
--- ---- what the rows hold
+-- ---- the comparison, p and q as code tests them
 
--- one threshold more, in either array
-one-more : (g : Part → ℕ) (L : List ℕ) (ps : List Part) (x : Part) → length ps < length L → ((k : ℕ) → k < length ps → getD L k 0 ≡ g (getD ps k noPart))
-    → (k : ℕ) → k < length (ps ++ (x ∷ [])) → getD (set L (length ps) (g x)) k 0 ≡ g (getD (ps ++ (x ∷ [])) k noPart)
-one-more g L ps x a h k l = go (decLt k (length ps))
-  where
-    go : Dec (k < length ps) → getD (set L (length ps) (g x)) k 0 ≡ g (getD (ps ++ (x ∷ [])) k noPart)
-    go (yes m) =
-        getD-set-other L (length ps) k (g x) 0 (λ e. let z : k ≡ length ps = e in omega arith) ∙ h k m ∙ ap g (sym (getD-append ps (x ∷ []) noPart k m))
-    go (no m) =
-        let e : k ≡ length ps = omega (arith, length-append ps (x ∷ [])) in
-        rw e (getD-set-same L (length ps) (g x) 0 a ∙ ap g (sym (getD-append-seam ps x [] noPart)))
+module _ (s : List ℕ) (p x y : ℕ) (ok : Bool) (ex : x ≡ number s (p + 1) 2) (ey : y ≡ number s (p + 3) 2) (is : ok ≡ lawful x y) (small : number s p 1 ≤ 3) where
+  whole-rule : lawfulAt s p ≡ ok
+  whole-rule =
+      let law : ok ≡ lawful (number s (p + 1) 2) (number s (p + 3) 2) = rw (ex, ey) at is in
+      ap (λ (b : Bool). b && lawful (number s (p + 1) 2) (number s (p + 3) 2)) (at-most (number s p 1) 3 small) ∙ sym law
 
-pub parts-more : (O F : List ℕ) (ps : List Part) (x : Part) → length ps < length O → length ps < length F → PartsHeld (parted O F) ps
-    → PartsHeld (parted (set O (length ps) (x .owner)) (set F (length ps) (x .first))) (ps ++ (x ∷ []))
-parts-more O F ps x a b h = record {
-  owner = one-more (λ y. y .owner) O ps x a (h .owner);
-  first = one-more (λ y. y .first) F ps x b (h .first);
-}
+  pub rule-kept : not ok ≡ false → lawfulAt s p ≡ true
+  rule-kept e = whole-rule ∙ is-true ok (of-not ok e)
+
+  pub rule-broken : not ok ≡ true → lawfulAt s p ≡ false
+  rule-broken e = whole-rule ∙ is-false ok (T-not ok (subst T (sym e) tt))
+
+pub rule-above : (s : List ℕ) (p : ℕ) → 3 < number s p 1 → lawfulAt s p ≡ false
+rule-above s p h = ap (λ (b : Bool). b && lawful (number s (p + 1) 2) (number s (p + 3) 2)) (not-le (number s p 1) 3 h)

@@ -1,1 +1,4 @@
+pub mod Rows
 pub mod Reading
+pub mod Fixed
+pub mod Message

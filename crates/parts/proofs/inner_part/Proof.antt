@@ -1,9 +1,9 @@
 use borrow.Author.Needs.{needs}
-use Rattle.requirement.proofs.inner_part.Statement.{statement}
-use Rattle.requirement.proofs.inner_part.Tie as tie
-use Rattle.requirement.proofs.inner_part.Reads as reads
-use Rattle.requirement.proofs.inner_part.Lts as lts
-use Rattle.requirement.proofs.find_inner.Reads as find-inner-reads
+use Rattle.parts.proofs.inner_part.Statement.{statement}
+use Rattle.parts.proofs.inner_part.Tie as tie
+use Rattle.parts.proofs.inner_part.Reads as reads
+use Rattle.parts.proofs.inner_part.Lts as lts
+use Rattle.parts.proofs.find_inner.Reads as find-inner-reads
 use mathlib.Core.Path.{_≡_, _∙_, ap, subst}
 use Prim.Native.Nat.{ℕ, _-_}
 use mathlib.Core.List.{List}
@@ -11,9 +11,9 @@ use native.Mathlib.Nat.{add-sub-cancel-left}
 use native.Mathlib.Omega.{arith}
 use lib.ListN.{take, drop}
 use Rattle.meaning.specs.Message.{readRequirement}
-use Rattle.requirement.specs.declared.Place.{Place}
-use Rattle.requirement.specs.Reading.{placeOf}
-use Rattle.requirement.proofs.Inner.{inner-bytes}
+use Rattle.parts.specs.declared.Place.{Place}
+use Rattle.parts.specs.Inner.{innerPlace}
+use Rattle.parts.proofs.Standing.{inner-bytes}
 
 -- src/lib.rt:86:9
 find-inner-requires : tie.Need-find-inner-requires
@@ -36,8 +36,8 @@ part-result-end : tie.Need-part-result-end
 part-result-end c = search needs
 
 -- the inner concept that was found is the one asked for: an equation of numbers
-asked-for : {p : Place} (s : List ℕ) {j : ℕ} (k : ℕ) → p ≡ placeOf j (readRequirement s) → j ≡ k → p ≡ placeOf k (readRequirement s)
-asked-for {p} s k e n = subst (λ (z : ℕ). p ≡ placeOf z (readRequirement s)) n e
+asked-for : {p : Place} (s : List ℕ) {j : ℕ} (k : ℕ) → p ≡ innerPlace j (readRequirement s) → j ≡ k → p ≡ innerPlace k (readRequirement s)
+asked-for {p} s k e n = subst (λ (z : ℕ). p ≡ innerPlace z (readRequirement s)) n e
 
 -- src/lib.rt:83:1
 returns : tie.Need-returns
