@@ -23,7 +23,8 @@ use Rattle.requirement.specs.declared.fixed.NodeFields.the-variants.{Ref
 use Rattle.requirement.specs.declared.fixed.EdgeFields.the-variants.{Refused as RefusedEdge}
 use Rattle.requirement.specs.declared.fixed.ThresholdFields.the-variants.{Refused as RefusedThreshold}
 use Rattle.requirement.specs.Rows.{namesIn, rolesIn, endsIn}
-use Rattle.requirement.specs.Reading.{spot, Start, PartsHeld, RowsKept, refusalOf, nodeIn, childrenIn, ReadGood, Outcome, NodeHeld, NodeDone, ForestHeld, ChildrenDone, PartsGood, PartsOutcome, ThresholdsDone, ThresholdDone, InnerOutcome, InnerDone}
+use Rattle.requirement.specs.Reading.{spot, Start, PartsHeld, RowsKept, refusalOf, nodeIn, childrenIn, ReadGood, Outcome}
+use Rattle.requirement.specs.Reading.{NodeHeld, NodeDone, ForestHeld, ChildrenDone, PartsGood, PartsOutcome, ThresholdsDone, ThresholdDone, InnerOutcome, InnerDone}
 use Rattle.requirement.specs.Fixed.{NodeOpen, NodeFixed, EdgeOpen, EdgeFixed, ThresholdOpen, ThresholdFixed}
 use Rattle.reduction.specs.Held.{Held, ForTree}
 use Rattle.requirement.proofs.Outcomes.{outcome-refused, outcome-good, is-refused, is-good, parts-refused, parts-good, parts-is-refused, parts-is-good}

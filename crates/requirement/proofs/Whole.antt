@@ -105,7 +105,8 @@ module _ (s : List ℕ) (B : List ℕ) where
       unfolding readRequirement
       whole-good l =
           let n : y .0 .1 .next ≡ i = ap (λ (z : Spot). z .next) spots ∙ x .3 in
-          let held = subst (λ (t : Concept). Holds (namesIn B) (rolesIn B) (endsIn B) t 17 0 j) (ap (λ (z : Concept × Spot). z .0) (sym same)) (subst (λ (k : ℕ). Holds (namesIn B) (rolesIn B) (endsIn B) (x .0 .0) 17 0 k) (x .4) (x .2 .held .tree)) in
+          let tree′ = subst (λ (k : ℕ). Holds (namesIn B) (rolesIn B) (endsIn B) (x .0 .0) 17 0 k) (x .4) (x .2 .held .tree) in
+          let held = subst (λ (t : Concept). Holds (namesIn B) (rolesIn B) (endsIn B) t 17 0 j) (ap (λ (z : Concept × Spot). z .0) (sym same)) tree′ in
           let rows : j ≡ nodes (y .0 .0) = tree-rows (namesIn B) (rolesIn B) (endsIn B) (bare (y .0 .0)) 17 0 j held ∙ omega (arith, bare-nodes (y .0 .0)) in
           let ps : y .0 .1 .parts ≡ x .0 .1 .parts = ap (λ (z : Spot). z .parts) spots in
           subst (λ a. MessageOutcome B a (GoodMessage j m))

@@ -35,13 +35,15 @@ firsts-requires c κs = search needs
 
 mul-pair : tie.Need-mul-pair
 mul-pair c =
-    let f = found (c .before .before .before .before .before .before .before .before .before .before .args .s .now) _ _ _ _ (c .before .before .before .before .before .before .before .read-message .ensures) (c .before .before .before .before .m .given .1) in
+    let c₁ = c .before .before .before .before .before .before in
+    let f = found (c₁ .before .before .before .before .args .s .now) _ _ _ _ (c₁ .before .read-message .ensures) (c .before .before .before .before .m .given .1) in
     let z = c .before .before .if1 .left in
     omega (arith, f .few, z)
 
 array-read-pair : tie.Need-array-read-pair
 array-read-pair c =
-    let f = found (c .before .before .before .before .before .before .before .before .before .before .args .s .now) _ _ _ _ (c .before .before .before .before .before .before .before .read-message .ensures) (c .before .before .before .before .m .given .1) in
+    let c₁ = c .before .before .before .before .before .before in
+    let f = found (c₁ .before .before .before .before .args .s .now) _ _ _ _ (c₁ .before .read-message .ensures) (c .before .before .before .before .m .given .1) in
     let z = c .before .before .if1 .left in
     omega (arith, f .few, z)
 
@@ -96,7 +98,25 @@ returns-2 c =
 
 returns-3 : tie.Need-returns-3
 returns-3 c =
-    found-refused (c .before .before .before .before .before .before .args .s .now) _ _ (c .before .before .before .before .before .before .args .k) (c .before .before .before .read-message .ensures) (c .enum-told .given .1)
+    let c₁ = c .before .before .before .before .before .before in
+    found-refused (c₁ .args .s .now) _ _ (c₁ .args .k) (c .before .before .before .read-message .ensures) (c .enum-told .given .1)
 
 pub find-inner-spec : {M : Type 1} → statement M
-find-inner-spec = tie.close (tie.spec slice-aggregate-read-message read-message-requires enum-known-m returns slice-aggregate-firsts firsts-requires mul-pair array-read-pair pair-requires add-two two-requires add-t16 enum-told returns-2 returns-3)
+find-inner-spec =
+    tie.close
+    (tie.spec
+    slice-aggregate-read-message
+    read-message-requires
+    enum-known-m
+    returns
+    slice-aggregate-firsts
+    firsts-requires
+    mul-pair
+    array-read-pair
+    pair-requires
+    add-two
+    two-requires
+    add-t16
+    enum-told
+    returns-2
+    returns-3)

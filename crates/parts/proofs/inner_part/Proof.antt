@@ -42,8 +42,11 @@ asked-for {p} s k e n = subst (λ (z : ℕ). p ≡ innerPlace z (readRequirement
 -- src/lib.rt:83:1
 returns : tie.Need-returns
 returns c =
-    ap (λ (n : ℕ). take n (drop (c .before .before .find-inner .result .start) (c .before .before .before .before .args .s .now))) (add-sub-cancel-left (c .before .before .find-inner .result .start) (c .before .before .find-inner .result .len))
-    ∙ ap (λ (p : Place). take (p .len) (drop (p .start) (c .before .before .before .before .args .s .now))) (asked-for (c .before .before .before .before .args .s .now) (c .before .before .before .before .args .k) (c .before .before .find-inner .ensures .0) (omega arith)) ∙ inner-bytes (c .before .before .before .before .args .s .now) (c .before .before .before .before .args .k)
+    let c₁ = c .before .before .before in
+    ap (λ (n : ℕ). take n (drop (c .before .before .find-inner .result .start) (c₁ .before .args .s .now)))
+    (add-sub-cancel-left (c .before .before .find-inner .result .start) (c .before .before .find-inner .result .len))
+    ∙ ap (λ (p : Place). take (p .len) (drop (p .start) (c₁ .before .args .s .now)))
+    (asked-for (c₁ .before .args .s .now) (c₁ .before .args .k) (c .before .before .find-inner .ensures .0) (omega arith)) ∙ inner-bytes (c₁ .before .args .s .now) (c₁ .before .args .k)
 
 pub inner-part-spec : {M : Type 1} → statement M
 inner-part-spec =

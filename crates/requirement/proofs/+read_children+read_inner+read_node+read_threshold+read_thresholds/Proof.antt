@@ -31,7 +31,9 @@ use native.Mathlib.Omega.{arith}
 use lib.ListN.{length-set}
 use Rattle.requirement.specs.Fixed.{NodeFixed, EdgeFixed, ThresholdFixed}
 use Rattle.requirement.proofs.Turns.{Children, child-read, children-begun, Thresholds, threshold-read, thresholds-begun}
-use Rattle.requirement.proofs.Cycle.{children-empty, edge-stops, child-stops, fixed-stops, node-stops, children-here, children-stop, children-end, node-then, thresholds-empty, first-stops, fields-stop, inner-stops, threshold-then, inner-first, inner-short, inner-rows, inner-big, inner-whole}
+use Rattle.requirement.proofs.Cycle.{children-empty, edge-stops, child-stops, fixed-stops, node-stops, children-here, children-stop}
+use Rattle.requirement.proofs.Cycle.{children-end, node-then, thresholds-empty, first-stops, fields-stop, inner-stops, threshold-then}
+use Rattle.requirement.proofs.Cycle.{inner-first, inner-short, inner-rows, inner-big, inner-whole}
 use borrow.Author.Needs.{needs}
 
 abbrev μ-read-children : Measures 2 read-children-kinds.ps ℕ
@@ -113,6 +115,11 @@ read-thresholds-below t =
     (falls 2 read-thresholds-kinds.ps _<_ μ-read-thresholds t)
     read-thresholds.Pre
 
+-- ---- read_children
+
+abbrev read-children-claims : ℕ → read-children-lts.Claims
+read-children-claims t = (edge-reads.Asked, edge-reads.Learnt, read-node-below t, read-node.Post)
+
 abbrev read-children-Inv-loop : read-children-lts.InvT-loop
 read-children-Inv-loop s end at left inner count n parts rows₀ here₀ written₀ found₀ k₀ rows here written found k =
     Children inner s end left count at n parts rows₀ k here written found rows
@@ -121,48 +128,19 @@ abbrev read-children-μ-loop : read-children-lts.MeasureT-loop
 read-children-μ-loop s end at left inner count n parts rows₀ here₀ written₀ found₀ k₀ rows here written found k =
     k
 
-read-children-loop-holds : (t : ℕ) → read-children-lts.Need-loop-holds (
-  edge-reads.Asked,
-  edge-reads.Learnt,
-  read-node-below t,
-  read-node.Post,
-) (read-children-at t) read-children.Post read-children-Inv-loop read-children-μ-loop
-read-children-loop-holds t c =
-    children-begun _ _ _ _ _ _ _ _ _ (c .before .before .pre .1)
+read-children-loop-holds : (t : ℕ) → read-children-lts.Need-loop-holds (read-children-claims t) (read-children-at t) read-children.Post read-children-Inv-loop read-children-μ-loop
+read-children-loop-holds t c = children-begun _ _ _ _ _ _ _ _ _ (c .before .before .pre .1)
 
-read-children-edge-requires : (t : ℕ) → read-children-lts.Need-edge-requires (
-  edge-reads.Asked,
-  edge-reads.Learnt,
-  read-node-below t,
-  read-node.Post,
-) (read-children-at t) read-children.Post read-children-Inv-loop read-children-μ-loop
-read-children-edge-requires t c κs =
-    c .before .loop .inv .start .here
+read-children-edge-requires : (t : ℕ) → read-children-lts.Need-edge-requires (read-children-claims t) (read-children-at t) read-children.Post read-children-Inv-loop read-children-μ-loop
+read-children-edge-requires t c κs = c .before .loop .inv .start .here
 
-read-children-enum-known-e : (t : ℕ) → read-children-lts.Need-enum-known-e (
-  edge-reads.Asked,
-  edge-reads.Learnt,
-  read-node-below t,
-  read-node.Post,
-) (read-children-at t) read-children.Post read-children-Inv-loop read-children-μ-loop
-read-children-enum-known-e t c = search needs
-
-read-children-add-read-node : (t : ℕ) → read-children-lts.Need-add-read-node (
-  edge-reads.Asked,
-  edge-reads.Learnt,
-  read-node-below t,
-  read-node.Post,
-) (read-children-at t) read-children.Post read-children-Inv-loop read-children-μ-loop
+read-children-add-read-node : (t : ℕ) → read-children-lts.Need-add-read-node (read-children-claims t) (read-children-at t) read-children.Post read-children-Inv-loop read-children-μ-loop
 read-children-add-read-node t c =
     let h = c .before .before .before .before .before .loop .inv .start .here in
     omega (arith, h .before, h .short)
 
-read-children-read-node-requires : (t : ℕ) → read-children-lts.Need-read-node-requires (
-  edge-reads.Asked,
-  edge-reads.Learnt,
-  read-node-below t,
-  read-node.Post,
-) (read-children-at t) read-children.Post read-children-Inv-loop read-children-μ-loop
+read-children-read-node-requires : (t : ℕ) → read-children-lts.Need-read-node-requires (read-children-claims t)
+    (read-children-at t) read-children.Post read-children-Inv-loop read-children-μ-loop
 read-children-read-node-requires t c κs =
     let a = c .before .before .before .before .before .before .before .before .before .args in
     let i = c .before .before .before .before .before .before .loop in
@@ -176,305 +154,128 @@ read-children-read-node-requires t c κs =
       ),
     )
 
-read-children-enum-known-t : (t : ℕ) → read-children-lts.Need-enum-known-t (
-  edge-reads.Asked,
-  edge-reads.Learnt,
-  read-node-below t,
-  read-node.Post,
-) (read-children-at t) read-children.Post read-children-Inv-loop read-children-μ-loop
-read-children-enum-known-t t c = search needs
-
-read-children-sub-k : (t : ℕ) → read-children-lts.Need-sub-k (
-  edge-reads.Asked,
-  edge-reads.Learnt,
-  read-node-below t,
-  read-node.Post,
-) (read-children-at t) read-children.Post read-children-Inv-loop read-children-μ-loop
-read-children-sub-k t c = search needs
-
-read-children-loop-less : (t : ℕ) → read-children-lts.Need-loop-less (
-  edge-reads.Asked,
-  edge-reads.Learnt,
-  read-node-below t,
-  read-node.Post,
-) (read-children-at t) read-children.Post read-children-Inv-loop read-children-μ-loop
-read-children-loop-less t c = search needs
-
-read-children-loop-again : (t : ℕ) → read-children-lts.Need-loop-again (
-  edge-reads.Asked,
-  edge-reads.Learnt,
-  read-node-below t,
-  read-node.Post,
-) (read-children-at t) read-children.Post read-children-Inv-loop read-children-μ-loop
+read-children-loop-again : (t : ℕ) → read-children-lts.Need-loop-again (read-children-claims t) (read-children-at t) read-children.Post read-children-Inv-loop read-children-μ-loop
 read-children-loop-again t c =
-    let a = c .before .before .before .before .before .before .before .before .before .before .before .before .before .before .before .args in
-    let i = c .before .before .before .before .before .before .before .before .before .before .before .before .loop in
-    let o = subst (EdgeFixed (a .s .now) (a .end) (i .here)) (c .before .before .before .before .before .before .before .before .e .given .1) (c .before .before .before .before .before .before .before .before .before .before .edge .ensures) in
+    let c₁ = c .before .before .before .before .before .before in
+    let c₂ = c₁ .before .before .before .before .before .before in
+    let a = c₂ .before .before .before .args in
+    let i = c₂ .loop in
+    let o = subst (EdgeFixed (a .s .now) (a .end) (i .here)) (c₁ .before .before .e .given .1) (c₁ .before .before .before .before .edge .ensures) in
     let l = c .before .before .before .before .before .read-node .kept .1 .1 .1 .1 .1 .1 .1 .1 .0 in
-    child-read _ _ _ _ _ _ _ _ _ (i .k) (i .here) (i .written) (i .found) _ (i .rows) _ _ _ _ _ (i .inv) (c .before .before .before .before .before .before .before .before .before .before .before .loop-test .taken) o (c .before .before .before .before .before .read-node .ensures) (c .before .t .given .1) (omega (arith, l))
+    child-read _ _ _ _ _ _ _ _ _ (i .k) (i .here) (i .written) (i .found) _ (i .rows) _ _ _ _ _ (i .inv) (c₁ .before .before .before .before .before .loop-test .taken) o
+    (c .before .before .before .before .before .read-node .ensures) (c .before .t .given .1) (omega (arith, l))
 
-read-children-enum-known-t-2 : (t : ℕ) → read-children-lts.Need-enum-known-t-2 (
-  edge-reads.Asked,
-  edge-reads.Learnt,
-  read-node-below t,
-  read-node.Post,
-) (read-children-at t) read-children.Post read-children-Inv-loop read-children-μ-loop
-read-children-enum-known-t-2 t c = search needs
-
-read-children-same-length : (t : ℕ) → read-children-lts.Need-same-length (
-  edge-reads.Asked,
-  edge-reads.Learnt,
-  read-node-below t,
-  read-node.Post,
-) (read-children-at t) read-children.Post read-children-Inv-loop read-children-μ-loop
+read-children-same-length : (t : ℕ) → read-children-lts.Need-same-length (read-children-claims t) (read-children-at t) read-children.Post read-children-Inv-loop read-children-μ-loop
 read-children-same-length t c =
     let l = c .before .before .before .before .before .read-node .kept .1 .1 .1 .1 .1 .1 .1 .1 .0 in
     omega (arith, l, c .before .before .before .before .before .before .before .before .before .before .before .before .loop .inv .same)
 
-read-children-returns : (t : ℕ) → read-children-lts.Need-returns (
-  edge-reads.Asked,
-  edge-reads.Learnt,
-  read-node-below t,
-  read-node.Post,
-) (read-children-at t) read-children.Post read-children-Inv-loop read-children-μ-loop
+read-children-returns : (t : ℕ) → read-children-lts.Need-returns (read-children-claims t) (read-children-at t) read-children.Post read-children-Inv-loop read-children-μ-loop
 read-children-returns t c =
-    let a = c .before .before .before .before .before .before .before .before .before .before .before .before .before .before .before .args in
-    let i = c .before .before .before .before .before .before .before .before .before .before .before .before .loop in
-    let o = subst (EdgeFixed (a .s .now) (a .end) (i .here)) (c .before .before .before .before .before .before .before .before .e .given .1) (c .before .before .before .before .before .before .before .before .before .before .edge .ensures) in
+    let c₁ = c .before .before .before .before .before .before in
+    let c₂ = c₁ .before .before .before .before .before .before in
+    let a = c₂ .before .before .before .args in
+    let i = c₂ .loop in
+    let o = subst (EdgeFixed (a .s .now) (a .end) (i .here)) (c₁ .before .before .e .given .1) (c₁ .before .before .before .before .edge .ensures) in
     i .inv .rest _ _
-    (child-stops (a .inner) (a .s .now) (a .end) (a .left) (i .k) (i .here) (i .written) (i .found) _ _ _ _ (c .before .before .before .before .before .before .before .before .before .before .before .loop-test .taken) o (c .before .before .before .before .before .read-node .ensures) _ _ _ (c .before .t2 .given .1))
+    (child-stops (a .inner) (a .s .now) (a .end) (a .left) (i .k) (i .here) (i .written) (i .found) _ _ _ _
+    (c₁ .before .before .before .before .before .loop-test .taken) o (c .before .before .before .before .before .read-node .ensures) _ _ _ (c .before .t2 .given .1))
 
-read-children-enum-known-e-2 : (t : ℕ) → read-children-lts.Need-enum-known-e-2 (
-  edge-reads.Asked,
-  edge-reads.Learnt,
-  read-node-below t,
-  read-node.Post,
-) (read-children-at t) read-children.Post read-children-Inv-loop read-children-μ-loop
-read-children-enum-known-e-2 t c = search needs
+read-children-same-length-2 : (t : ℕ) → read-children-lts.Need-same-length-2 (read-children-claims t) (read-children-at t) read-children.Post read-children-Inv-loop read-children-μ-loop
+read-children-same-length-2 t c = c .before .before .before .before .before .loop .inv .same
 
-read-children-same-length-2 : (t : ℕ) → read-children-lts.Need-same-length-2 (
-  edge-reads.Asked,
-  edge-reads.Learnt,
-  read-node-below t,
-  read-node.Post,
-) (read-children-at t) read-children.Post read-children-Inv-loop read-children-μ-loop
-read-children-same-length-2 t c =
-    c .before .before .before .before .before .loop .inv .same
-
-read-children-returns-2 : (t : ℕ) → read-children-lts.Need-returns-2 (
-  edge-reads.Asked,
-  edge-reads.Learnt,
-  read-node-below t,
-  read-node.Post,
-) (read-children-at t) read-children.Post read-children-Inv-loop read-children-μ-loop
+read-children-returns-2 : (t : ℕ) → read-children-lts.Need-returns-2 (read-children-claims t) (read-children-at t) read-children.Post read-children-Inv-loop read-children-μ-loop
 read-children-returns-2 t c =
     let a = c .before .before .before .before .before .before .before .before .args in
     let i = c .before .before .before .before .before .loop in
     let o = subst (EdgeFixed (a .s .now) (a .end) (i .here)) (c .before .e2 .given .1) (c .before .before .before .edge .ensures) in
     i .inv .rest _ _ (edge-stops (a .inner) (a .s .now) (a .end) (a .left) (i .k) (i .here) (i .written) (i .found) _ _ _ _ (c .before .before .before .before .loop-test .taken) o)
 
-read-children-same-length-3 : (t : ℕ) → read-children-lts.Need-same-length-3 (
-  edge-reads.Asked,
-  edge-reads.Learnt,
-  read-node-below t,
-  read-node.Post,
-) (read-children-at t) read-children.Post read-children-Inv-loop read-children-μ-loop
-read-children-same-length-3 t c =
-    c .before .loop .inv .same
+read-children-same-length-3 : (t : ℕ) → read-children-lts.Need-same-length-3 (read-children-claims t) (read-children-at t) read-children.Post read-children-Inv-loop read-children-μ-loop
+read-children-same-length-3 t c = c .before .loop .inv .same
 
-read-children-returns-3 : (t : ℕ) → read-children-lts.Need-returns-3 (
-  edge-reads.Asked,
-  edge-reads.Learnt,
-  read-node-below t,
-  read-node.Post,
-) (read-children-at t) read-children.Post read-children-Inv-loop read-children-μ-loop
+read-children-returns-3 : (t : ℕ) → read-children-lts.Need-returns-3 (read-children-claims t) (read-children-at t) read-children.Post read-children-Inv-loop read-children-μ-loop
 read-children-returns-3 t c =
     let a = c .before .before .before .before .args in
     let i = c .before .loop in
     let z = c .loop-test .left in
     i .inv .rest _ _ (children-empty (a .inner) (a .s .now) (a .end) (a .left) (i .k) (i .here) (i .written) (i .found) (i .rows) (omega (arith, z)) (i .inv .start))
 
-read-inner-slice-aggregate-read-node : (t : ℕ) → read-inner-lts.Need-slice-aggregate-read-node (
-  read-node-below t,
-  read-node.Post,
-  size-in-reads.Asked,
-  size-in-reads.Learnt,
-) (read-inner-at t) read-inner.Post
-read-inner-slice-aggregate-read-node t c = search needs
+-- ---- read_inner
 
-read-inner-read-node-requires : (t : ℕ) → read-inner-lts.Need-read-node-requires (
-  read-node-below t,
-  read-node.Post,
-  size-in-reads.Asked,
-  size-in-reads.Learnt,
-) (read-inner-at t) read-inner.Post
+abbrev read-inner-claims : ℕ → read-inner-lts.Claims
+read-inner-claims t = (read-node-below t, read-node.Post, size-in-reads.Asked, size-in-reads.Learnt)
+
+read-inner-read-node-requires : (t : ℕ) → read-inner-lts.Need-read-node-requires (read-inner-claims t) (read-inner-at t) read-inner.Post
 read-inner-read-node-requires t c κs =
     let u = c .before .before .pre .0 in (
       omega (arith, u),
       (record { here = c .before .before .pre .1; few = omega arith; room = omega arith; long = search needs }, omega arith),
     )
 
-read-inner-enum-known-t : (t : ℕ) → read-inner-lts.Need-enum-known-t (
-  read-node-below t,
-  read-node.Post,
-  size-in-reads.Asked,
-  size-in-reads.Learnt,
-) (read-inner-at t) read-inner.Post
-read-inner-enum-known-t t c = search needs
-
-read-inner-returns : (t : ℕ) → read-inner-lts.Need-returns (
-  read-node-below t,
-  read-node.Post,
-  size-in-reads.Asked,
-  size-in-reads.Learnt,
-) (read-inner-at t) read-inner.Post
+read-inner-returns : (t : ℕ) → read-inner-lts.Need-returns (read-inner-claims t) (read-inner-at t) read-inner.Post
 read-inner-returns t c =
     let a = c .before .before .before .before .before .before .before .before .args in
     let z = c .if1 .taken in
     inner-short (a .s .now) (a .stop) (a .at) _ _ _ (c .before .before .before .before .before .read-node .ensures) _ _ _ (c .before .before .t .given .1) (omega (arith, z))
 
-read-inner-slice-aggregate-size-in : (t : ℕ) → read-inner-lts.Need-slice-aggregate-size-in (
-  read-node-below t,
-  read-node.Post,
-  size-in-reads.Asked,
-  size-in-reads.Learnt,
-) (read-inner-at t) read-inner.Post
-read-inner-slice-aggregate-size-in t c = search needs
-
-read-inner-size-in-requires : (t : ℕ) → read-inner-lts.Need-size-in-requires (
-  read-node-below t,
-  read-node.Post,
-  size-in-reads.Asked,
-  size-in-reads.Learnt,
-) (read-inner-at t) read-inner.Post
+read-inner-size-in-requires : (t : ℕ) → read-inner-lts.Need-size-in-requires (read-inner-claims t) (read-inner-at t) read-inner.Post
 read-inner-size-in-requires t c κs =
     let a = c .before .before .before .before .before .before .before .before .before .args in
     (search needs, inner-rows (a .s .now) (a .stop) (a .at) _ _ _ (c .before .before .before .before .before .before .read-node .ensures) _ _ _ (c .before .before .before .t .given .1))
 
-read-inner-returns-2 : (t : ℕ) → read-inner-lts.Need-returns-2 (
-  read-node-below t,
-  read-node.Post,
-  size-in-reads.Asked,
-  size-in-reads.Learnt,
-) (read-inner-at t) read-inner.Post
+read-inner-returns-2 : (t : ℕ) → read-inner-lts.Need-returns-2 (read-inner-claims t) (read-inner-at t) read-inner.Post
 read-inner-returns-2 t c =
-    let a = c .before .before .before .before .before .before .before .before .before .before .before .args in
+    let c₁ = c .before .before .before .before .before .before in
+    let a = c₁ .before .before .before .before .before .args in
     let y = c .before .before .before .if1 .left in
     let z = c .if2 .taken in
-    inner-big (a .s .now) (a .stop) (a .at) _ _ _ (c .before .before .before .before .before .before .before .before .read-node .ensures) _ _ _ (c .before .before .before .before .before .t .given .1) (omega (arith, y)) _ (c .before .size-in .ensures) (omega (arith, z))
+    inner-big (a .s .now) (a .stop) (a .at) _ _ _ (c₁ .before .before .read-node .ensures) _ _ _ (c .before .before .before .before .before .t .given .1)
+    (omega (arith, y)) _ (c .before .size-in .ensures) (omega (arith, z))
 
-read-inner-enum-known-t-2 : (t : ℕ) → read-inner-lts.Need-enum-known-t-2 (
-  read-node-below t,
-  read-node.Post,
-  size-in-reads.Asked,
-  size-in-reads.Learnt,
-) (read-inner-at t) read-inner.Post
-read-inner-enum-known-t-2 t c = search needs
-
-read-inner-returns-3 : (t : ℕ) → read-inner-lts.Need-returns-3 (
-  read-node-below t,
-  read-node.Post,
-  size-in-reads.Asked,
-  size-in-reads.Learnt,
-) (read-inner-at t) read-inner.Post
+read-inner-returns-3 : (t : ℕ) → read-inner-lts.Need-returns-3 (read-inner-claims t) (read-inner-at t) read-inner.Post
 read-inner-returns-3 t c =
-    let a = c .before .before .before .before .before .before .before .before .before .before .before .args in
+    let c₁ = c .before .before .before .before .before .before in
+    let a = c₁ .before .before .before .before .before .args in
     let y = c .before .before .before .if1 .left in
     let z = c .if2 .left in
-    inner-whole (a .s .now) (a .stop) (a .at) _ _ _ (c .before .before .before .before .before .before .before .before .read-node .ensures) _ _ _ (c .before .before .before .before .before .t .given .1) (omega (arith, y)) _ (c .before .size-in .ensures) (omega (arith, z))
+    inner-whole (a .s .now) (a .stop) (a .at) _ _ _ (c₁ .before .before .read-node .ensures) _ _ _ (c .before .before .before .before .before .t .given .1)
+    (omega (arith, y)) _ (c .before .size-in .ensures) (omega (arith, z))
 
-read-inner-returns-4 : (t : ℕ) → read-inner-lts.Need-returns-4 (
-  read-node-below t,
-  read-node.Post,
-  size-in-reads.Asked,
-  size-in-reads.Learnt,
-) (read-inner-at t) read-inner.Post
+read-inner-returns-4 : (t : ℕ) → read-inner-lts.Need-returns-4 (read-inner-claims t) (read-inner-at t) read-inner.Post
 read-inner-returns-4 t c =
     let a = c .before .before .before .before .before .before .before .args in
     inner-first (a .s .now) (a .stop) (a .at) _ _ _ (c .before .before .before .before .read-node .ensures) _ _ (c .before .t2 .given .1)
 
-read-node-node-requires : (t : ℕ) → read-node-lts.Need-node-requires (
-  node-reads.Asked,
-  node-reads.Learnt,
-  read-thresholds-below t,
-  read-thresholds.Post,
-  read-children-below t,
-  read-children.Post,
-  packed-reads.Asked,
-  packed-reads.Learnt,
-) (read-node-at t) read-node.Post
-read-node-node-requires t c κs =
-    c .before .before .pre .1 .0 .here
+-- ---- read_node
 
-read-node-enum-known-h : (t : ℕ) → read-node-lts.Need-enum-known-h (
-  node-reads.Asked,
-  node-reads.Learnt,
-  read-thresholds-below t,
-  read-thresholds.Post,
-  read-children-below t,
-  read-children.Post,
-  packed-reads.Asked,
-  packed-reads.Learnt,
-) (read-node-at t) read-node.Post
-read-node-enum-known-h t c = search needs
+abbrev read-node-claims : ℕ → read-node-lts.Claims
+read-node-claims t = (node-reads.Asked, node-reads.Learnt, read-thresholds-below t, read-thresholds.Post, read-children-below t, read-children.Post, packed-reads.Asked, packed-reads.Learnt)
 
-read-node-mul-rows : (t : ℕ) → read-node-lts.Need-mul-rows (
-  node-reads.Asked,
-  node-reads.Learnt,
-  read-thresholds-below t,
-  read-thresholds.Post,
-  read-children-below t,
-  read-children.Post,
-  packed-reads.Asked,
-  packed-reads.Learnt,
-) (read-node-at t) read-node.Post
+read-node-node-requires : (t : ℕ) → read-node-lts.Need-node-requires (read-node-claims t) (read-node-at t) read-node.Post
+read-node-node-requires t c κs = c .before .before .pre .1 .0 .here
+
+read-node-mul-rows : (t : ℕ) → read-node-lts.Need-mul-rows (read-node-claims t) (read-node-at t) read-node.Post
 read-node-mul-rows t c =
     let a = c .before .before .before .before .before .before .args in
     let o = subst (NodeFixed (a .inner) (a .s .now) (a .end) (a .left) (a .at) (a .n)) (c .before .h .given .1) (c .before .before .before .node .ensures) in
     omega (arith, o .room)
 
-read-node-slice-write-rows : (t : ℕ) → read-node-lts.Need-slice-write-rows (
-  node-reads.Asked,
-  node-reads.Learnt,
-  read-thresholds-below t,
-  read-thresholds.Post,
-  read-children-below t,
-  read-children.Post,
-  packed-reads.Asked,
-  packed-reads.Learnt,
-) (read-node-at t) read-node.Post
+read-node-slice-write-rows : (t : ℕ) → read-node-lts.Need-slice-write-rows (read-node-claims t) (read-node-at t) read-node.Post
 read-node-slice-write-rows t c =
     let a = c .before .before .before .before .before .before .args in
     let o = subst (NodeFixed (a .inner) (a .s .now) (a .end) (a .left) (a .at) (a .n)) (c .before .h .given .1) (c .before .before .before .node .ensures) in
     let b = c .before .before .before .before .before .before .pre .1 .0 in
     omega (arith, o .room, b .long)
 
-read-node-add-read-thresholds : (t : ℕ) → read-node-lts.Need-add-read-thresholds (
-  node-reads.Asked,
-  node-reads.Learnt,
-  read-thresholds-below t,
-  read-thresholds.Post,
-  read-children-below t,
-  read-children.Post,
-  packed-reads.Asked,
-  packed-reads.Learnt,
-) (read-node-at t) read-node.Post
+read-node-add-read-thresholds : (t : ℕ) → read-node-lts.Need-add-read-thresholds (read-node-claims t) (read-node-at t) read-node.Post
 read-node-add-read-thresholds t c =
     let a = c .before .before .before .before .before .before .args in
     let o = subst (NodeFixed (a .inner) (a .s .now) (a .end) (a .left) (a .at) (a .n)) (c .before .h .given .1) (c .before .before .before .node .ensures) in
     let b = c .before .before .before .before .before .before .pre .1 .0 in
     omega (arith, o .fits, b .here .short)
 
-read-node-read-thresholds-requires : (t : ℕ) → read-node-lts.Need-read-thresholds-requires (
-  node-reads.Asked,
-  node-reads.Learnt,
-  read-thresholds-below t,
-  read-thresholds.Post,
-  read-children-below t,
-  read-children.Post,
-  packed-reads.Asked,
-  packed-reads.Learnt,
-) (read-node-at t) read-node.Post
+read-node-read-thresholds-requires : (t : ℕ) → read-node-lts.Need-read-thresholds-requires (read-node-claims t) (read-node-at t) read-node.Post
 read-node-read-thresholds-requires t c κs =
     let a = c .before .before .before .before .before .before .before .args in
     let o = subst (NodeFixed (a .inner) (a .s .now) (a .end) (a .left) (a .at) (a .n)) (c .before .before .h .given .1) (c .before .before .before .before .node .ensures) in
@@ -484,65 +285,31 @@ read-node-read-thresholds-requires t c κs =
       record { here = record { before = o .fits; inside = b .here .inside; short = b .here .short }; few = b .few; room = b .room; long = rw length-set (b .long) },
     )
 
-read-node-enum-known-t : (t : ℕ) → read-node-lts.Need-enum-known-t (
-  node-reads.Asked,
-  node-reads.Learnt,
-  read-thresholds-below t,
-  read-thresholds.Post,
-  read-children-below t,
-  read-children.Post,
-  packed-reads.Asked,
-  packed-reads.Learnt,
-) (read-node-at t) read-node.Post
-read-node-enum-known-t t c = search needs
-
-read-node-sub-read-children : (t : ℕ) → read-node-lts.Need-sub-read-children (
-  node-reads.Asked,
-  node-reads.Learnt,
-  read-thresholds-below t,
-  read-thresholds.Post,
-  read-children-below t,
-  read-children.Post,
-  packed-reads.Asked,
-  packed-reads.Learnt,
-) (read-node-at t) read-node.Post
+read-node-sub-read-children : (t : ℕ) → read-node-lts.Need-sub-read-children (read-node-claims t) (read-node-at t) read-node.Post
 read-node-sub-read-children t c =
-    let a = c .before .before .before .before .before .before .before .before .before .before .before .before .before .args in
-    let o = subst (NodeFixed (a .inner) (a .s .now) (a .end) (a .left) (a .at) (a .n)) (c .before .before .before .before .before .before .before .before .h .given .1) (c .before .before .before .before .before .before .before .before .before .before .node .ensures) in
+    let c₁ = c .before .before .before .before .before .before in
+    let c₂ = c₁ .before .before .before .before .before .before in
+    let a = c₂ .before .args in
+    let o = subst (NodeFixed (a .inner) (a .s .now) (a .end) (a .left) (a .at) (a .n)) (c₁ .before .before .h .given .1) (c₁ .before .before .before .before .node .ensures) in
     omega (arith, o .deep)
 
-read-node-add-read-children : (t : ℕ) → read-node-lts.Need-add-read-children (
-  node-reads.Asked,
-  node-reads.Learnt,
-  read-thresholds-below t,
-  read-thresholds.Post,
-  read-children-below t,
-  read-children.Post,
-  packed-reads.Asked,
-  packed-reads.Learnt,
-) (read-node-at t) read-node.Post
+read-node-add-read-children : (t : ℕ) → read-node-lts.Need-add-read-children (read-node-claims t) (read-node-at t) read-node.Post
 read-node-add-read-children t c =
     let b = c .before .before .before .before .before .before .before .before .before .before .before .before .before .pre .1 .0 in
     omega (arith, b .few)
 
-read-node-read-children-requires : (t : ℕ) → read-node-lts.Need-read-children-requires (
-  node-reads.Asked,
-  node-reads.Learnt,
-  read-thresholds-below t,
-  read-thresholds.Post,
-  read-children-below t,
-  read-children.Post,
-  packed-reads.Asked,
-  packed-reads.Learnt,
-) (read-node-at t) read-node.Post
+read-node-read-children-requires : (t : ℕ) → read-node-lts.Need-read-children-requires (read-node-claims t) (read-node-at t) read-node.Post
 read-node-read-children-requires t c κs =
-    let a = c .before .before .before .before .before .before .before .before .before .before .before .before .before .before .args in
-    let o = subst (NodeFixed (a .inner) (a .s .now) (a .end) (a .left) (a .at) (a .n)) (c .before .before .before .before .before .before .before .before .before .h .given .1) (c .before .before .before .before .before .before .before .before .before .before .before .node .ensures) in
-    let b = c .before .before .before .before .before .before .before .before .before .before .before .before .before .before .pre .1 .0 in
-    let u = c .before .before .before .before .before .before .before .before .before .before .before .before .before .before .pre .0 in
-    let l = simp length-set at (c .before .before .before .before .before .before .read-thresholds .kept .1 .1 .1 .1 .1 .1 .0) in
+    let c₁ = c .before .before .before .before .before .before in
+    let c₂ = c₁ .before .before .before .before .before .before in
+    let a = c₂ .before .before .args in
+    let o = subst (NodeFixed (a .inner) (a .s .now) (a .end) (a .left) (a .at) (a .n)) (c₁ .before .before .before .h .given .1)
+    (c₁ .before .before .before .before .before .node .ensures) in
+    let b = c₂ .before .before .pre .1 .0 in
+    let u = c₂ .before .before .pre .0 in
+    let l = simp length-set at (c₁ .read-thresholds .kept .1 .1 .1 .1 .1 .1 .0) in
     let x = children-here (a .inner) (a .s .now) (a .end) (a .left) (a .role) (a .at) (a .n) (a .parts) _ _ _ (a .rows .now) _ _ b o
-    (c .before .before .before .before .before .before .read-thresholds .ensures) _ _ _ (c .before .before .t .given .1) in (
+    (c₁ .read-thresholds .ensures) _ _ _ (c .before .before .t .given .1) in (
       omega (arith, u, x .0, o .fits),
       record {
         here = record { before = x .1; inside = b .here .inside; short = b .here .short };
@@ -552,273 +319,122 @@ read-node-read-children-requires t c κs =
       },
     )
 
-read-node-enum-known-c : (t : ℕ) → read-node-lts.Need-enum-known-c (
-  node-reads.Asked,
-  node-reads.Learnt,
-  read-thresholds-below t,
-  read-thresholds.Post,
-  read-children-below t,
-  read-children.Post,
-  packed-reads.Asked,
-  packed-reads.Learnt,
-) (read-node-at t) read-node.Post
-read-node-enum-known-c t c = search needs
-
-read-node-packed-requires : (t : ℕ) → read-node-lts.Need-packed-requires (
-  node-reads.Asked,
-  node-reads.Learnt,
-  read-thresholds-below t,
-  read-thresholds.Post,
-  read-children-below t,
-  read-children.Post,
-  packed-reads.Asked,
-  packed-reads.Learnt,
-) (read-node-at t) read-node.Post
+read-node-packed-requires : (t : ℕ) → read-node-lts.Need-packed-requires (read-node-claims t) (read-node-at t) read-node.Post
 read-node-packed-requires t c κs =
-    let a = c .before .before .before .before .before .before .before .before .before .before .before .before .before .before .before .before .before .before .before .before .args in
-    let o = subst (NodeFixed (a .inner) (a .s .now) (a .end) (a .left) (a .at) (a .n)) (c .before .before .before .before .before .before .before .before .before .before .before .before .before .before .before .h .given .1) (c .before .before .before .before .before .before .before .before .before .before .before .before .before .before .before .before .before .node .ensures) in
-    let b = c .before .before .before .before .before .before .before .before .before .before .before .before .before .before .before .before .before .before .before .before .pre .1 .0 in
+    let c₁ = c .before .before .before .before .before .before in
+    let c₂ = c₁ .before .before .before .before .before .before in
+    let c₃ = c₂ .before .before .before .before .before .before in
+    let a = c₃ .before .before .args in
+    let o = subst (NodeFixed (a .inner) (a .s .now) (a .end) (a .left) (a .at) (a .n)) (c₂ .before .before .before .h .given .1)
+    (c₂ .before .before .before .before .before .node .ensures) in
+    let b = c₃ .before .before .pre .1 .0 in
     let x = children-end (a .inner) (a .s .now) (a .end) (a .left) (a .role) (a .at) (a .n) (a .parts) _ _ _ (a .rows .now) _ _ b o
-    (c .before .before .before .before .before .before .before .before .before .before .before .before .read-thresholds .ensures) _ _ _ (c .before .before .before .before .before .before .before .before .t .given .1) _ _ (c .before .before .before .before .before .read-children .ensures) _ _ _ (c .before .c .given .1) in
-    (c .before .before .before .before .before .before .before .before .before .before .before .before .before .before .before .before .before .before .before .before .pre .1 .1, omega (arith, x .1))
+    (c₂ .read-thresholds .ensures) _ _ _ (c₁ .before .before .t .given .1) _ _ (c .before .before .before .before .before .read-children .ensures) _ _ _ (c .before .c .given .1) in
+    (c₃ .before .before .pre .1 .1, omega (arith, x .1))
 
-read-node-add-rows : (t : ℕ) → read-node-lts.Need-add-rows (
-  node-reads.Asked,
-  node-reads.Learnt,
-  read-thresholds-below t,
-  read-thresholds.Post,
-  read-children-below t,
-  read-children.Post,
-  packed-reads.Asked,
-  packed-reads.Learnt,
-) (read-node-at t) read-node.Post
+read-node-add-rows : (t : ℕ) → read-node-lts.Need-add-rows (read-node-claims t) (read-node-at t) read-node.Post
 read-node-add-rows t c =
-    let b = c .before .before .before .before .before .before .before .before .before .before .before .before .before .before .before .before .before .before .before .before .before .pre .1 .0 in
+    let c₁ = c .before .before .before .before .before .before in
+    let c₂ = c₁ .before .before .before .before .before .before in
+    let c₃ = c₂ .before .before .before .before .before .before in
+    let b = c₃ .before .before .before .pre .1 .0 in
     omega (arith, b .few)
 
-read-node-mul-rows-2 : (t : ℕ) → read-node-lts.Need-mul-rows-2 (
-  node-reads.Asked,
-  node-reads.Learnt,
-  read-thresholds-below t,
-  read-thresholds.Post,
-  read-children-below t,
-  read-children.Post,
-  packed-reads.Asked,
-  packed-reads.Learnt,
-) (read-node-at t) read-node.Post
+read-node-mul-rows-2 : (t : ℕ) → read-node-lts.Need-mul-rows-2 (read-node-claims t) (read-node-at t) read-node.Post
 read-node-mul-rows-2 t c =
-    let b = c .before .before .before .before .before .before .before .before .before .before .before .before .before .before .before .before .before .before .before .before .before .pre .1 .0 in
+    let c₁ = c .before .before .before .before .before .before in
+    let c₂ = c₁ .before .before .before .before .before .before in
+    let c₃ = c₂ .before .before .before .before .before .before in
+    let b = c₃ .before .before .before .pre .1 .0 in
     omega (arith, b .few)
 
-read-node-slice-write-rows-2 : (t : ℕ) → read-node-lts.Need-slice-write-rows-2 (
-  node-reads.Asked,
-  node-reads.Learnt,
-  read-thresholds-below t,
-  read-thresholds.Post,
-  read-children-below t,
-  read-children.Post,
-  packed-reads.Asked,
-  packed-reads.Learnt,
-) (read-node-at t) read-node.Post
+read-node-slice-write-rows-2 : (t : ℕ) → read-node-lts.Need-slice-write-rows-2 (read-node-claims t) (read-node-at t) read-node.Post
 read-node-slice-write-rows-2 t c =
-    let a = c .before .before .before .before .before .before .before .before .before .before .before .before .before .before .before .before .before .before .before .before .before .args in
-    let o = subst (NodeFixed (a .inner) (a .s .now) (a .end) (a .left) (a .at) (a .n)) (c .before .before .before .before .before .before .before .before .before .before .before .before .before .before .before .before .h .given .1) (c .before .before .before .before .before .before .before .before .before .before .before .before .before .before .before .before .before .before .node .ensures) in
-    let b = c .before .before .before .before .before .before .before .before .before .before .before .before .before .before .before .before .before .before .before .before .before .pre .1 .0 in
-    let l = simp length-set at (c .before .before .before .before .before .before .before .before .before .before .before .before .before .read-thresholds .kept .1 .1 .1 .1 .1 .1 .0) in
-    let k = c .before .before .before .before .before .before .read-children .kept .1 .1 .1 .1 .1 .1 .1 .1 .0 in
+    let c₁ = c .before .before .before .before .before .before in
+    let c₂ = c₁ .before .before .before .before .before .before in
+    let c₃ = c₂ .before .before .before .before .before .before in
+    let a = c₃ .before .before .before .args in
+    let o = subst (NodeFixed (a .inner) (a .s .now) (a .end) (a .left) (a .at) (a .n)) (c₂ .before .before .before .before .h .given .1) (c₃ .node .ensures) in
+    let b = c₃ .before .before .before .pre .1 .0 in
+    let l = simp length-set at (c₂ .before .read-thresholds .kept .1 .1 .1 .1 .1 .1 .0) in
+    let k = c₁ .read-children .kept .1 .1 .1 .1 .1 .1 .1 .1 .0 in
     omega (arith, o .room, b .long, l, k)
 
-read-node-enum-known-c-2 : (t : ℕ) → read-node-lts.Need-enum-known-c-2 (
-  node-reads.Asked,
-  node-reads.Learnt,
-  read-thresholds-below t,
-  read-thresholds.Post,
-  read-children-below t,
-  read-children.Post,
-  packed-reads.Asked,
-  packed-reads.Learnt,
-) (read-node-at t) read-node.Post
-read-node-enum-known-c-2 t c = search needs
-
-read-node-enum-known-t-2 : (t : ℕ) → read-node-lts.Need-enum-known-t-2 (
-  node-reads.Asked,
-  node-reads.Learnt,
-  read-thresholds-below t,
-  read-thresholds.Post,
-  read-children-below t,
-  read-children.Post,
-  packed-reads.Asked,
-  packed-reads.Learnt,
-) (read-node-at t) read-node.Post
-read-node-enum-known-t-2 t c = search needs
-
-read-node-enum-known-h-2 : (t : ℕ) → read-node-lts.Need-enum-known-h-2 (
-  node-reads.Asked,
-  node-reads.Learnt,
-  read-thresholds-below t,
-  read-thresholds.Post,
-  read-children-below t,
-  read-children.Post,
-  packed-reads.Asked,
-  packed-reads.Learnt,
-) (read-node-at t) read-node.Post
-read-node-enum-known-h-2 t c = search needs
-
-read-node-same-length : (t : ℕ) → read-node-lts.Need-same-length (
-  node-reads.Asked,
-  node-reads.Learnt,
-  read-thresholds-below t,
-  read-thresholds.Post,
-  read-children-below t,
-  read-children.Post,
-  packed-reads.Asked,
-  packed-reads.Learnt,
-) (read-node-at t) read-node.Post
+read-node-same-length : (t : ℕ) → read-node-lts.Need-same-length (read-node-claims t) (read-node-at t) read-node.Post
 read-node-same-length t c =
     let l = simp length-set at (c .before .before .before .before .before .before .before .before .before .before .before .before .before .read-thresholds .kept .1 .1 .1 .1 .1 .1 .0) in
     let k = c .before .before .before .before .before .before .read-children .kept .1 .1 .1 .1 .1 .1 .1 .1 .0 in
     simp length-set (omega (arith, l, k))
 
-read-node-returns : (t : ℕ) → read-node-lts.Need-returns (
-  node-reads.Asked,
-  node-reads.Learnt,
-  read-thresholds-below t,
-  read-thresholds.Post,
-  read-children-below t,
-  read-children.Post,
-  packed-reads.Asked,
-  packed-reads.Learnt,
-) (read-node-at t) read-node.Post
+read-node-returns : (t : ℕ) → read-node-lts.Need-returns (read-node-claims t) (read-node-at t) read-node.Post
 read-node-returns t c =
-    let a = c .before .before .before .before .before .before .before .before .before .before .before .before .before .before .before .before .before .before .before .before .before .args in
-    let o = subst (NodeFixed (a .inner) (a .s .now) (a .end) (a .left) (a .at) (a .n)) (c .before .before .before .before .before .before .before .before .before .before .before .before .before .before .before .before .h .given .1) (c .before .before .before .before .before .before .before .before .before .before .before .before .before .before .before .before .before .before .node .ensures) in
-    let b = c .before .before .before .before .before .before .before .before .before .before .before .before .before .before .before .before .before .before .before .before .before .pre .1 .0 in
-    let l = simp length-set at (c .before .before .before .before .before .before .before .before .before .before .before .before .before .read-thresholds .kept .1 .1 .1 .1 .1 .1 .0) in
-    let k = c .before .before .before .before .before .before .read-children .kept .1 .1 .1 .1 .1 .1 .1 .1 .0 in
+    let c₁ = c .before .before .before .before .before .before in
+    let c₂ = c₁ .before .before .before .before .before .before in
+    let c₃ = c₂ .before .before .before .before .before .before in
+    let a = c₃ .before .before .before .args in
+    let o = subst (NodeFixed (a .inner) (a .s .now) (a .end) (a .left) (a .at) (a .n)) (c₂ .before .before .before .before .h .given .1) (c₃ .node .ensures) in
+    let b = c₃ .before .before .before .pre .1 .0 in
+    let l = simp length-set at (c₂ .before .read-thresholds .kept .1 .1 .1 .1 .1 .1 .0) in
+    let k = c₁ .read-children .kept .1 .1 .1 .1 .1 .1 .1 .1 .0 in
     node-then (a .inner) (a .s .now) (a .end) (a .left) (a .role) (a .at) (a .n) (a .parts) _ _ _ (a .rows .now) _ _ b o
-    (c .before .before .before .before .before .before .before .before .before .before .before .before .before .read-thresholds .ensures) _ _ _ (c .before .before .before .before .before .before .before .before .before .t .given .1) _ _ (c .before .before .before .before .before .before .read-children .ensures) _ _ _ (c .before .before .c .given .1) _ (c .packed .ensures) (c .before .before .before .before .before .before .before .before .before .before .before .before .before .before .before .before .before .before .before .before .before .pre .1 .1) (omega (arith, b .long, l, k))
+    (c₂ .before .read-thresholds .ensures) _ _ _ (c₁ .before .before .before .t .given .1) _ _ (c₁ .read-children .ensures) _ _ _ (c .before .before .c .given .1) _
+    (c .packed .ensures) (c₃ .before .before .before .pre .1 .1) (omega (arith, b .long, l, k))
 
-read-node-same-length-2 : (t : ℕ) → read-node-lts.Need-same-length-2 (
-  node-reads.Asked,
-  node-reads.Learnt,
-  read-thresholds-below t,
-  read-thresholds.Post,
-  read-children-below t,
-  read-children.Post,
-  packed-reads.Asked,
-  packed-reads.Learnt,
-) (read-node-at t) read-node.Post
+read-node-same-length-2 : (t : ℕ) → read-node-lts.Need-same-length-2 (read-node-claims t) (read-node-at t) read-node.Post
 read-node-same-length-2 t c =
     let l = simp length-set at (c .before .before .before .before .before .before .before .before .before .before .before .before .read-thresholds .kept .1 .1 .1 .1 .1 .1 .0) in
     let k = c .before .before .before .before .before .read-children .kept .1 .1 .1 .1 .1 .1 .1 .1 .0 in
     omega (arith, l, k)
 
-read-node-returns-2 : (t : ℕ) → read-node-lts.Need-returns-2 (
-  node-reads.Asked,
-  node-reads.Learnt,
-  read-thresholds-below t,
-  read-thresholds.Post,
-  read-children-below t,
-  read-children.Post,
-  packed-reads.Asked,
-  packed-reads.Learnt,
-) (read-node-at t) read-node.Post
+read-node-returns-2 : (t : ℕ) → read-node-lts.Need-returns-2 (read-node-claims t) (read-node-at t) read-node.Post
 read-node-returns-2 t c =
-    let a = c .before .before .before .before .before .before .before .before .before .before .before .before .before .before .before .before .before .before .before .before .args in
-    let o = subst (NodeFixed (a .inner) (a .s .now) (a .end) (a .left) (a .at) (a .n)) (c .before .before .before .before .before .before .before .before .before .before .before .before .before .before .before .h .given .1) (c .before .before .before .before .before .before .before .before .before .before .before .before .before .before .before .before .before .node .ensures) in
-    let b = c .before .before .before .before .before .before .before .before .before .before .before .before .before .before .before .before .before .before .before .before .pre .1 .0 in
+    let c₁ = c .before .before .before .before .before .before in
+    let c₂ = c₁ .before .before .before .before .before .before in
+    let c₃ = c₂ .before .before .before .before .before .before in
+    let a = c₃ .before .before .args in
+    let o = subst (NodeFixed (a .inner) (a .s .now) (a .end) (a .left) (a .at) (a .n)) (c₂ .before .before .before .h .given .1)
+    (c₂ .before .before .before .before .before .node .ensures) in
+    let b = c₃ .before .before .pre .1 .0 in
     children-stop (a .inner) (a .s .now) (a .end) (a .left) (a .role) (a .at) (a .n) (a .parts) _ _ _ (a .rows .now) _ _ b o
-    (c .before .before .before .before .before .before .before .before .before .before .before .before .read-thresholds .ensures) _ _ _ (c .before .before .before .before .before .before .before .before .t .given .1) _ _ (c .before .before .before .before .before .read-children .ensures) _ _ _ (c .before .c2 .given .1)
+    (c₂ .read-thresholds .ensures) _ _ _ (c₁ .before .before .t .given .1) _ _ (c .before .before .before .before .before .read-children .ensures) _ _ _ (c .before .c2 .given .1)
 
-read-node-same-length-3 : (t : ℕ) → read-node-lts.Need-same-length-3 (
-  node-reads.Asked,
-  node-reads.Learnt,
-  read-thresholds-below t,
-  read-thresholds.Post,
-  read-children-below t,
-  read-children.Post,
-  packed-reads.Asked,
-  packed-reads.Learnt,
-) (read-node-at t) read-node.Post
+read-node-same-length-3 : (t : ℕ) → read-node-lts.Need-same-length-3 (read-node-claims t) (read-node-at t) read-node.Post
 read-node-same-length-3 t c =
     let l = simp length-set at (c .before .before .before .before .before .read-thresholds .kept .1 .1 .1 .1 .1 .1 .0) in
     omega (arith, l)
 
-read-node-returns-3 : (t : ℕ) → read-node-lts.Need-returns-3 (
-  node-reads.Asked,
-  node-reads.Learnt,
-  read-thresholds-below t,
-  read-thresholds.Post,
-  read-children-below t,
-  read-children.Post,
-  packed-reads.Asked,
-  packed-reads.Learnt,
-) (read-node-at t) read-node.Post
+read-node-returns-3 : (t : ℕ) → read-node-lts.Need-returns-3 (read-node-claims t) (read-node-at t) read-node.Post
 read-node-returns-3 t c =
-    let a = c .before .before .before .before .before .before .before .before .before .before .before .before .before .args in
-    let o = subst (NodeFixed (a .inner) (a .s .now) (a .end) (a .left) (a .at) (a .n)) (c .before .before .before .before .before .before .before .before .h .given .1) (c .before .before .before .before .before .before .before .before .before .before .node .ensures) in
-    let b = c .before .before .before .before .before .before .before .before .before .before .before .before .before .pre .1 .0 in
+    let c₁ = c .before .before .before .before .before .before in
+    let c₂ = c₁ .before .before .before .before .before .before in
+    let a = c₂ .before .args in
+    let o = subst (NodeFixed (a .inner) (a .s .now) (a .end) (a .left) (a .at) (a .n)) (c₁ .before .before .h .given .1) (c₁ .before .before .before .before .node .ensures) in
+    let b = c₂ .before .pre .1 .0 in
     node-stops (a .inner) (a .s .now) (a .end) (a .left) (a .role) (a .at) (a .n) (a .parts) _ _ _ (a .rows .now) _ _ b o
     (c .before .before .before .before .before .read-thresholds .ensures) _ _ _ (c .before .t2 .given .1)
 
-read-node-returns-4 : (t : ℕ) → read-node-lts.Need-returns-4 (
-  node-reads.Asked,
-  node-reads.Learnt,
-  read-thresholds-below t,
-  read-thresholds.Post,
-  read-children-below t,
-  read-children.Post,
-  packed-reads.Asked,
-  packed-reads.Learnt,
-) (read-node-at t) read-node.Post
+read-node-returns-4 : (t : ℕ) → read-node-lts.Need-returns-4 (read-node-claims t) (read-node-at t) read-node.Post
 read-node-returns-4 t c =
     let a = c .before .before .before .before .before .before .args in
     let o = subst (NodeFixed (a .inner) (a .s .now) (a .end) (a .left) (a .at) (a .n)) (c .before .h2 .given .1) (c .before .before .before .node .ensures) in
     fixed-stops (a .inner) (a .s .now) (a .end) (a .left) (a .role) (a .at) (a .n) (a .parts) _ _ _ _ o
 
-read-threshold-threshold-requires : (t : ℕ) → read-threshold-lts.Need-threshold-requires (
-  threshold-reads.Asked,
-  threshold-reads.Learnt,
-  read-inner-below t,
-  read-inner.Post,
-  packed-reads.Asked,
-  packed-reads.Learnt,
-) (read-threshold-at t) read-threshold.Post
-read-threshold-threshold-requires t c κs =
-    c .before .before .pre .1 .here
+-- ---- read_threshold
 
-read-threshold-enum-known-h : (t : ℕ) → read-threshold-lts.Need-enum-known-h (
-  threshold-reads.Asked,
-  threshold-reads.Learnt,
-  read-inner-below t,
-  read-inner.Post,
-  packed-reads.Asked,
-  packed-reads.Learnt,
-) (read-threshold-at t) read-threshold.Post
-read-threshold-enum-known-h t c = search needs
+abbrev read-threshold-claims : ℕ → read-threshold-lts.Claims
+read-threshold-claims t = (threshold-reads.Asked, threshold-reads.Learnt, read-inner-below t, read-inner.Post, packed-reads.Asked, packed-reads.Learnt)
 
-read-threshold-add-read-inner : (t : ℕ) → read-threshold-lts.Need-add-read-inner (
-  threshold-reads.Asked,
-  threshold-reads.Learnt,
-  read-inner-below t,
-  read-inner.Post,
-  packed-reads.Asked,
-  packed-reads.Learnt,
-) (read-threshold-at t) read-threshold.Post
+read-threshold-threshold-requires : (t : ℕ) → read-threshold-lts.Need-threshold-requires (read-threshold-claims t) (read-threshold-at t) read-threshold.Post
+read-threshold-threshold-requires t c κs = c .before .before .pre .1 .here
+
+read-threshold-add-read-inner : (t : ℕ) → read-threshold-lts.Need-add-read-inner (read-threshold-claims t) (read-threshold-at t) read-threshold.Post
 read-threshold-add-read-inner t c =
     let a = c .before .before .before .before .before .before .args in
     let o = subst (ThresholdFixed (a .s .now) (a .end) (a .at) (a .parts)) (c .before .h .given .1) (c .before .before .before .threshold .ensures) in
     let b = c .before .before .before .before .before .before .pre .1 in
     omega (arith, o .fits, b .here .short)
 
-read-threshold-read-inner-requires : (t : ℕ) → read-threshold-lts.Need-read-inner-requires (
-  threshold-reads.Asked,
-  threshold-reads.Learnt,
-  read-inner-below t,
-  read-inner.Post,
-  packed-reads.Asked,
-  packed-reads.Learnt,
-) (read-threshold-at t) read-threshold.Post
+read-threshold-read-inner-requires : (t : ℕ) → read-threshold-lts.Need-read-inner-requires (read-threshold-claims t) (read-threshold-at t) read-threshold.Post
 read-threshold-read-inner-requires t c κs =
     let a = c .before .before .before .before .before .before .args in
     let o = subst (ThresholdFixed (a .s .now) (a .end) (a .at) (a .parts)) (c .before .h .given .1) (c .before .before .before .threshold .ensures) in
@@ -828,149 +444,66 @@ read-threshold-read-inner-requires t c κs =
       record { before = omega (arith, o .stops); inside = omega (arith, o .inside, b .here .inside); short = omega (arith, o .inside, b .here .short) },
     )
 
-read-threshold-enum-told : (t : ℕ) → read-threshold-lts.Need-enum-told (
-  threshold-reads.Asked,
-  threshold-reads.Learnt,
-  read-inner-below t,
-  read-inner.Post,
-  packed-reads.Asked,
-  packed-reads.Learnt,
-) (read-threshold-at t) read-threshold.Post
-read-threshold-enum-told t c = search needs
-
-read-threshold-packed-requires : (t : ℕ) → read-threshold-lts.Need-packed-requires (
-  threshold-reads.Asked,
-  threshold-reads.Learnt,
-  read-inner-below t,
-  read-inner.Post,
-  packed-reads.Asked,
-  packed-reads.Learnt,
-) (read-threshold-at t) read-threshold.Post
+read-threshold-packed-requires : (t : ℕ) → read-threshold-lts.Need-packed-requires (read-threshold-claims t) (read-threshold-at t) read-threshold.Post
 read-threshold-packed-requires t c κs =
-    let a = c .before .before .before .before .before .before .before .before .before .args in
-    let o = subst (ThresholdFixed (a .s .now) (a .end) (a .at) (a .parts)) (c .before .before .before .before .h .given .1) (c .before .before .before .before .before .before .threshold .ensures) in
-    let b = c .before .before .before .before .before .before .before .before .before .pre .1 in
+    let c₁ = c .before .before .before .before .before .before in
+    let a = c₁ .before .before .before .args in
+    let o = subst (ThresholdFixed (a .s .now) (a .end) (a .at) (a .parts)) (c .before .before .before .before .h .given .1) (c₁ .threshold .ensures) in
+    let b = c₁ .before .before .before .pre .1 in
     (omega (arith, b .few), omega (arith, o .fits, b .here .short))
 
-read-threshold-add-rows : (t : ℕ) → read-threshold-lts.Need-add-rows (
-  threshold-reads.Asked,
-  threshold-reads.Learnt,
-  read-inner-below t,
-  read-inner.Post,
-  packed-reads.Asked,
-  packed-reads.Learnt,
-) (read-threshold-at t) read-threshold.Post
+read-threshold-add-rows : (t : ℕ) → read-threshold-lts.Need-add-rows (read-threshold-claims t) (read-threshold-at t) read-threshold.Post
 read-threshold-add-rows t c =
     let b = c .before .before .before .before .before .before .before .before .before .before .pre .1 in
     omega (arith, b .room)
 
-read-threshold-mul-rows : (t : ℕ) → read-threshold-lts.Need-mul-rows (
-  threshold-reads.Asked,
-  threshold-reads.Learnt,
-  read-inner-below t,
-  read-inner.Post,
-  packed-reads.Asked,
-  packed-reads.Learnt,
-) (read-threshold-at t) read-threshold.Post
+read-threshold-mul-rows : (t : ℕ) → read-threshold-lts.Need-mul-rows (read-threshold-claims t) (read-threshold-at t) read-threshold.Post
 read-threshold-mul-rows t c =
     let b = c .before .before .before .before .before .before .before .before .before .before .pre .1 in
     omega (arith, b .room)
 
-read-threshold-slice-write-rows : (t : ℕ) → read-threshold-lts.Need-slice-write-rows (
-  threshold-reads.Asked,
-  threshold-reads.Learnt,
-  read-inner-below t,
-  read-inner.Post,
-  packed-reads.Asked,
-  packed-reads.Learnt,
-) (read-threshold-at t) read-threshold.Post
+read-threshold-slice-write-rows : (t : ℕ) → read-threshold-lts.Need-slice-write-rows (read-threshold-claims t) (read-threshold-at t) read-threshold.Post
 read-threshold-slice-write-rows t c =
-    let a = c .before .before .before .before .before .before .before .before .before .before .args in
-    let o = subst (ThresholdFixed (a .s .now) (a .end) (a .at) (a .parts)) (c .before .before .before .before .before .h .given .1) (c .before .before .before .before .before .before .before .threshold .ensures) in
-    let b = c .before .before .before .before .before .before .before .before .before .before .pre .1 in
+    let c₁ = c .before .before .before .before .before .before in
+    let a = c₁ .before .before .before .before .args in
+    let o = subst (ThresholdFixed (a .s .now) (a .end) (a .at) (a .parts)) (c .before .before .before .before .before .h .given .1) (c₁ .before .threshold .ensures) in
+    let b = c₁ .before .before .before .before .pre .1 in
     omega (arith, o .room, b .long)
 
-read-threshold-add-t18 : (t : ℕ) → read-threshold-lts.Need-add-t18 (
-  threshold-reads.Asked,
-  threshold-reads.Learnt,
-  read-inner-below t,
-  read-inner.Post,
-  packed-reads.Asked,
-  packed-reads.Learnt,
-) (read-threshold-at t) read-threshold.Post
+read-threshold-add-t18 : (t : ℕ) → read-threshold-lts.Need-add-t18 (read-threshold-claims t) (read-threshold-at t) read-threshold.Post
 read-threshold-add-t18 t c =
     let b = c .before .before .before .before .before .before .before .before .before .before .pre .1 in
     omega (arith, b .room)
 
-read-threshold-enum-known-r : (t : ℕ) → read-threshold-lts.Need-enum-known-r (
-  threshold-reads.Asked,
-  threshold-reads.Learnt,
-  read-inner-below t,
-  read-inner.Post,
-  packed-reads.Asked,
-  packed-reads.Learnt,
-) (read-threshold-at t) read-threshold.Post
-read-threshold-enum-known-r t c = search needs
+read-threshold-same-length : (t : ℕ) → read-threshold-lts.Need-same-length (read-threshold-claims t) (read-threshold-at t) read-threshold.Post
+read-threshold-same-length t c = simp length-set
 
-read-threshold-enum-known-h-2 : (t : ℕ) → read-threshold-lts.Need-enum-known-h-2 (
-  threshold-reads.Asked,
-  threshold-reads.Learnt,
-  read-inner-below t,
-  read-inner.Post,
-  packed-reads.Asked,
-  packed-reads.Learnt,
-) (read-threshold-at t) read-threshold.Post
-read-threshold-enum-known-h-2 t c = search needs
-
-read-threshold-same-length : (t : ℕ) → read-threshold-lts.Need-same-length (
-  threshold-reads.Asked,
-  threshold-reads.Learnt,
-  read-inner-below t,
-  read-inner.Post,
-  packed-reads.Asked,
-  packed-reads.Learnt,
-) (read-threshold-at t) read-threshold.Post
-read-threshold-same-length t c =
-    simp length-set
-
-read-threshold-returns : (t : ℕ) → read-threshold-lts.Need-returns (
-  threshold-reads.Asked,
-  threshold-reads.Learnt,
-  read-inner-below t,
-  read-inner.Post,
-  packed-reads.Asked,
-  packed-reads.Learnt,
-) (read-threshold-at t) read-threshold.Post
+read-threshold-returns : (t : ℕ) → read-threshold-lts.Need-returns (read-threshold-claims t) (read-threshold-at t) read-threshold.Post
 read-threshold-returns t c =
-    let a = c .before .before .before .before .before .before .before .before .before .before .args in
-    let o = subst (ThresholdFixed (a .s .now) (a .end) (a .at) (a .parts)) (c .before .before .before .before .before .h .given .1) (c .before .before .before .before .before .before .before .threshold .ensures) in
-    threshold-then (a .s .now) (a .end) (a .owner) (a .at) (a .parts) _ (a .rows .now) _ (c .before .before .before .before .before .before .before .before .before .before .pre .1) o (c .before .before .before .read-inner .ensures) _ _ _ _ (c .packed .ensures) (c .before .enum-told .given .1)
+    let c₁ = c .before .before .before .before .before .before in
+    let a = c₁ .before .before .before .before .args in
+    let o = subst (ThresholdFixed (a .s .now) (a .end) (a .at) (a .parts)) (c .before .before .before .before .before .h .given .1) (c₁ .before .threshold .ensures) in
+    threshold-then (a .s .now) (a .end) (a .owner) (a .at) (a .parts) _ (a .rows .now) _ (c₁ .before .before .before .before .pre .1) o
+    (c .before .before .before .read-inner .ensures) _ _ _ _ (c .packed .ensures) (c .before .enum-told .given .1)
 
-read-threshold-returns-2 : (t : ℕ) → read-threshold-lts.Need-returns-2 (
-  threshold-reads.Asked,
-  threshold-reads.Learnt,
-  read-inner-below t,
-  read-inner.Post,
-  packed-reads.Asked,
-  packed-reads.Learnt,
-) (read-threshold-at t) read-threshold.Post
+read-threshold-returns-2 : (t : ℕ) → read-threshold-lts.Need-returns-2 (read-threshold-claims t) (read-threshold-at t) read-threshold.Post
 read-threshold-returns-2 t c =
-    let a = c .before .before .before .before .before .before .before .before .before .before .args in
-    let o = subst (ThresholdFixed (a .s .now) (a .end) (a .at) (a .parts)) (c .before .before .before .before .before .h .given .1) (c .before .before .before .before .before .before .before .threshold .ensures) in
-    inner-stops (a .s .now) (a .end) (a .owner) (a .at) (a .parts) _ (a .rows .now) _ (c .before .before .before .before .before .before .before .before .before .before .pre .1) o (c .before .before .before .read-inner .ensures) _ _ _ (c .before .r .given .1)
+    let c₁ = c .before .before .before .before .before .before in
+    let a = c₁ .before .before .before .before .args in
+    let o = subst (ThresholdFixed (a .s .now) (a .end) (a .at) (a .parts)) (c .before .before .before .before .before .h .given .1) (c₁ .before .threshold .ensures) in
+    inner-stops (a .s .now) (a .end) (a .owner) (a .at) (a .parts) _ (a .rows .now) _ (c₁ .before .before .before .before .pre .1) o
+    (c .before .before .before .read-inner .ensures) _ _ _ (c .before .r .given .1)
 
-read-threshold-returns-3 : (t : ℕ) → read-threshold-lts.Need-returns-3 (
-  threshold-reads.Asked,
-  threshold-reads.Learnt,
-  read-inner-below t,
-  read-inner.Post,
-  packed-reads.Asked,
-  packed-reads.Learnt,
-) (read-threshold-at t) read-threshold.Post
+read-threshold-returns-3 : (t : ℕ) → read-threshold-lts.Need-returns-3 (read-threshold-claims t) (read-threshold-at t) read-threshold.Post
 read-threshold-returns-3 t c =
     let a = c .before .before .before .before .before .before .args in
     let o = subst (ThresholdFixed (a .s .now) (a .end) (a .at) (a .parts)) (c .before .h2 .given .1) (c .before .before .before .threshold .ensures) in
     fields-stop (a .s .now) (a .end) (a .owner) (a .at) (a .parts) _ _ _ _ o
+
+-- ---- read_thresholds
+
+abbrev read-thresholds-claims : ℕ → read-thresholds-lts.Claims
+read-thresholds-claims t = (read-threshold-below t, read-threshold.Post)
 
 abbrev read-thresholds-Inv-loop : read-thresholds-lts.InvT-loop
 read-thresholds-Inv-loop s end at owner count parts rows₀ here₀ found₀ k₀ rows here found k =
@@ -980,85 +513,47 @@ abbrev read-thresholds-μ-loop : read-thresholds-lts.MeasureT-loop
 read-thresholds-μ-loop s end at owner count parts rows₀ here₀ found₀ k₀ rows here found k =
     k
 
-read-thresholds-loop-holds : (t : ℕ) → read-thresholds-lts.Need-loop-holds (
-  read-threshold-below t,
-  read-threshold.Post,
-) (read-thresholds-at t) read-thresholds.Post read-thresholds-Inv-loop read-thresholds-μ-loop
-read-thresholds-loop-holds t c =
-    thresholds-begun _ _ _ _ _ _ _ (c .before .before .pre .1)
+read-thresholds-loop-holds : (t : ℕ) → read-thresholds-lts.Need-loop-holds (read-thresholds-claims t)
+    (read-thresholds-at t) read-thresholds.Post read-thresholds-Inv-loop read-thresholds-μ-loop
+read-thresholds-loop-holds t c = thresholds-begun _ _ _ _ _ _ _ (c .before .before .pre .1)
 
-read-thresholds-read-threshold-requires :
-    (t : ℕ) → read-thresholds-lts.Need-read-threshold-requires (
-      read-threshold-below t,
-      read-threshold.Post,
-    ) (read-thresholds-at t) read-thresholds.Post read-thresholds-Inv-loop read-thresholds-μ-loop
+read-thresholds-read-threshold-requires : (t : ℕ) → read-thresholds-lts.Need-read-threshold-requires (read-thresholds-claims t)
+    (read-thresholds-at t) read-thresholds.Post read-thresholds-Inv-loop read-thresholds-μ-loop
 read-thresholds-read-threshold-requires t c κs =
     let i = c .before .before .loop in
     let u = c .before .before .before .before .before .pre .0 in
     (omega (arith, u, i .inv .on, i .inv .start .here .before), i .inv .start)
 
-read-thresholds-enum-known-t : (t : ℕ) → read-thresholds-lts.Need-enum-known-t (
-  read-threshold-below t,
-  read-threshold.Post,
-) (read-thresholds-at t) read-thresholds.Post read-thresholds-Inv-loop read-thresholds-μ-loop
-read-thresholds-enum-known-t t c = search needs
-
-read-thresholds-sub-k : (t : ℕ) → read-thresholds-lts.Need-sub-k (
-  read-threshold-below t,
-  read-threshold.Post,
-) (read-thresholds-at t) read-thresholds.Post read-thresholds-Inv-loop read-thresholds-μ-loop
-read-thresholds-sub-k t c = search needs
-
-read-thresholds-loop-less : (t : ℕ) → read-thresholds-lts.Need-loop-less (
-  read-threshold-below t,
-  read-threshold.Post,
-) (read-thresholds-at t) read-thresholds.Post read-thresholds-Inv-loop read-thresholds-μ-loop
-read-thresholds-loop-less t c = search needs
-
-read-thresholds-loop-again : (t : ℕ) → read-thresholds-lts.Need-loop-again (
-  read-threshold-below t,
-  read-threshold.Post,
-) (read-thresholds-at t) read-thresholds.Post read-thresholds-Inv-loop read-thresholds-μ-loop
+read-thresholds-loop-again : (t : ℕ) → read-thresholds-lts.Need-loop-again (read-thresholds-claims t)
+    (read-thresholds-at t) read-thresholds.Post read-thresholds-Inv-loop read-thresholds-μ-loop
 read-thresholds-loop-again t c =
-    let i = c .before .before .before .before .before .before .before .before .loop in
+    let c₁ = c .before .before .before .before .before .before in
+    let i = c₁ .before .before .loop in
     let l = c .before .before .before .before .before .read-threshold .kept .1 .1 .1 .1 .1 .0 in
-    threshold-read _ _ _ _ _ _ _ (i .k) (i .here) (i .found) (i .rows) _ _ _ _ _ (i .inv) (c .before .before .before .before .before .before .before .loop-test .taken) (c .before .before .before .before .before .read-threshold .ensures) (c .before .t .given .1) (omega (arith, l))
+    threshold-read _ _ _ _ _ _ _ (i .k) (i .here) (i .found) (i .rows) _ _ _ _ _ (i .inv) (c₁ .before .loop-test .taken)
+    (c .before .before .before .before .before .read-threshold .ensures) (c .before .t .given .1) (omega (arith, l))
 
-read-thresholds-enum-known-t-2 : (t : ℕ) → read-thresholds-lts.Need-enum-known-t-2 (
-  read-threshold-below t,
-  read-threshold.Post,
-) (read-thresholds-at t) read-thresholds.Post read-thresholds-Inv-loop read-thresholds-μ-loop
-read-thresholds-enum-known-t-2 t c = search needs
-
-read-thresholds-same-length : (t : ℕ) → read-thresholds-lts.Need-same-length (
-  read-threshold-below t,
-  read-threshold.Post,
-) (read-thresholds-at t) read-thresholds.Post read-thresholds-Inv-loop read-thresholds-μ-loop
+read-thresholds-same-length : (t : ℕ) → read-thresholds-lts.Need-same-length (read-thresholds-claims t)
+    (read-thresholds-at t) read-thresholds.Post read-thresholds-Inv-loop read-thresholds-μ-loop
 read-thresholds-same-length t c =
     let l = c .before .before .before .before .before .read-threshold .kept .1 .1 .1 .1 .1 .0 in
     omega (arith, l, c .before .before .before .before .before .before .before .before .loop .inv .same)
 
-read-thresholds-returns : (t : ℕ) → read-thresholds-lts.Need-returns (
-  read-threshold-below t,
-  read-threshold.Post,
-) (read-thresholds-at t) read-thresholds.Post read-thresholds-Inv-loop read-thresholds-μ-loop
+read-thresholds-returns : (t : ℕ) → read-thresholds-lts.Need-returns (read-thresholds-claims t) (read-thresholds-at t) read-thresholds.Post read-thresholds-Inv-loop read-thresholds-μ-loop
 read-thresholds-returns t c =
-    let a = c .before .before .before .before .before .before .before .before .before .before .before .args in
-    let i = c .before .before .before .before .before .before .before .before .loop in
+    let c₁ = c .before .before .before .before .before .before in
+    let a = c₁ .before .before .before .before .before .args in
+    let i = c₁ .before .before .loop in
     i .inv .rest _ _
-    (first-stops (a .s .now) (a .end) (a .owner) (i .k) (i .here) (i .found) _ _ _ (c .before .before .before .before .before .before .before .loop-test .taken) (c .before .before .before .before .before .read-threshold .ensures) _ _ _ (c .before .t2 .given .1))
+    (first-stops (a .s .now) (a .end) (a .owner) (i .k) (i .here) (i .found) _ _ _ (c₁ .before .loop-test .taken)
+    (c .before .before .before .before .before .read-threshold .ensures) _ _ _ (c .before .t2 .given .1))
 
-read-thresholds-same-length-2 : (t : ℕ) → read-thresholds-lts.Need-same-length-2 (
-  read-threshold-below t,
-  read-threshold.Post,
-) (read-thresholds-at t) read-thresholds.Post read-thresholds-Inv-loop read-thresholds-μ-loop
-read-thresholds-same-length-2 t c =
-    c .before .loop .inv .same
+read-thresholds-same-length-2 : (t : ℕ) → read-thresholds-lts.Need-same-length-2 (read-thresholds-claims t)
+    (read-thresholds-at t) read-thresholds.Post read-thresholds-Inv-loop read-thresholds-μ-loop
+read-thresholds-same-length-2 t c = c .before .loop .inv .same
 
-read-thresholds-returns-2 : (t : ℕ) → read-thresholds-lts.Need-returns-2 (
-  read-threshold-below t,
-  read-threshold.Post,
-) (read-thresholds-at t) read-thresholds.Post read-thresholds-Inv-loop read-thresholds-μ-loop
+read-thresholds-returns-2 : (t : ℕ) → read-thresholds-lts.Need-returns-2 (read-thresholds-claims t)
+    (read-thresholds-at t) read-thresholds.Post read-thresholds-Inv-loop read-thresholds-μ-loop
 read-thresholds-returns-2 t c =
     let a = c .before .before .before .before .args in
     let i = c .before .loop in
@@ -1074,81 +569,62 @@ pub +read-children+read-inner+read-node+read-threshold+read-thresholds-spec :
     μ-read-node
     μ-read-threshold
     μ-read-thresholds
-    (λ t. read-children-lts.spec (
-      edge-reads.Asked,
-      edge-reads.Learnt,
-      read-node-below t,
-      read-node.Post,
-    )
+    (λ t. read-children-lts.spec (read-children-claims t)
     (read-children-at t)
     read-children.Post
     read-children-Inv-loop
     read-children-μ-loop
     (read-children-loop-holds t)
     (read-children-edge-requires t)
-    (read-children-enum-known-e t)
+    (λ c. search needs)
     (read-children-add-read-node t)
     (read-children-read-node-requires t)
-    (read-children-enum-known-t t)
-    (read-children-sub-k t)
-    (read-children-loop-less t)
+    (λ c. search needs)
+    (λ c. search needs)
+    (λ c. search needs)
     (read-children-loop-again t)
-    (read-children-enum-known-t-2 t)
+    (λ c. search needs)
     (read-children-same-length t)
     (read-children-returns t)
-    (read-children-enum-known-e-2 t)
+    (λ c. search needs)
     (read-children-same-length-2 t)
     (read-children-returns-2 t)
     (read-children-same-length-3 t)
     (read-children-returns-3 t))
-    (λ t. read-inner-lts.spec (
-      read-node-below t,
-      read-node.Post,
-      size-in-reads.Asked,
-      size-in-reads.Learnt,
-    )
+    (λ t. read-inner-lts.spec (read-inner-claims t)
     (read-inner-at t)
     read-inner.Post
-    (read-inner-slice-aggregate-read-node t)
+    (λ c. search needs)
     (read-inner-read-node-requires t)
-    (read-inner-enum-known-t t)
+    (λ c. search needs)
     (read-inner-returns t)
-    (read-inner-slice-aggregate-size-in t)
+    (λ c. search needs)
     (read-inner-size-in-requires t)
     (read-inner-returns-2 t)
-    (read-inner-enum-known-t-2 t)
+    (λ c. search needs)
     (read-inner-returns-3 t)
     (read-inner-returns-4 t))
-    (λ t. read-node-lts.spec (
-      node-reads.Asked,
-      node-reads.Learnt,
-      read-thresholds-below t,
-      read-thresholds.Post,
-      read-children-below t,
-      read-children.Post,
-      packed-reads.Asked,
-      packed-reads.Learnt,
-    )
+    (λ t. read-node-lts.spec (read-node-claims t)
     (read-node-at t)
     read-node.Post
     (read-node-node-requires t)
-    (read-node-enum-known-h t)
+    (λ c. search needs)
     (read-node-mul-rows t)
     (read-node-slice-write-rows t)
     (read-node-add-read-thresholds t)
     (read-node-read-thresholds-requires t)
-    (read-node-enum-known-t t)
+    (λ c. search needs)
     (read-node-sub-read-children t)
     (read-node-add-read-children t)
     (read-node-read-children-requires t)
-    (read-node-enum-known-c t)
+    (λ c. search needs)
     (read-node-packed-requires t)
     (read-node-add-rows t)
     (read-node-mul-rows-2 t)
     (read-node-slice-write-rows-2 t)
-    (read-node-enum-known-c-2 t)
-    (read-node-enum-known-t-2 t)
-    (read-node-enum-known-h-2 t)
+    (λ c. search needs)
+    (λ c. search needs)
+    (λ c. search needs)
     (read-node-same-length t)
     (read-node-returns t)
     (read-node-same-length-2 t)
@@ -1156,45 +632,37 @@ pub +read-children+read-inner+read-node+read-threshold+read-thresholds-spec :
     (read-node-same-length-3 t)
     (read-node-returns-3 t)
     (read-node-returns-4 t))
-    (λ t. read-threshold-lts.spec (
-      threshold-reads.Asked,
-      threshold-reads.Learnt,
-      read-inner-below t,
-      read-inner.Post,
-      packed-reads.Asked,
-      packed-reads.Learnt,
-    )
+    (λ t. read-threshold-lts.spec (read-threshold-claims t)
     (read-threshold-at t)
     read-threshold.Post
     (read-threshold-threshold-requires t)
-    (read-threshold-enum-known-h t)
+    (λ c. search needs)
     (read-threshold-add-read-inner t)
     (read-threshold-read-inner-requires t)
-    (read-threshold-enum-told t)
+    (λ c. search needs)
     (read-threshold-packed-requires t)
     (read-threshold-add-rows t)
     (read-threshold-mul-rows t)
     (read-threshold-slice-write-rows t)
     (read-threshold-add-t18 t)
-    (read-threshold-enum-known-r t)
-    (read-threshold-enum-known-h-2 t)
+    (λ c. search needs)
+    (λ c. search needs)
     (read-threshold-same-length t)
     (read-threshold-returns t)
     (read-threshold-returns-2 t)
     (read-threshold-returns-3 t))
-    λ t. read-thresholds-lts.spec
-    (read-threshold-below t, read-threshold.Post)
+    λ t. read-thresholds-lts.spec (read-thresholds-claims t)
     (read-thresholds-at t)
     read-thresholds.Post
     read-thresholds-Inv-loop
     read-thresholds-μ-loop
     (read-thresholds-loop-holds t)
     (read-thresholds-read-threshold-requires t)
-    (read-thresholds-enum-known-t t)
-    (read-thresholds-sub-k t)
-    (read-thresholds-loop-less t)
+    (λ c. search needs)
+    (λ c. search needs)
+    (λ c. search needs)
     (read-thresholds-loop-again t)
-    (read-thresholds-enum-known-t-2 t)
+    (λ c. search needs)
     (read-thresholds-same-length t)
     (read-thresholds-returns t)
     (read-thresholds-same-length-2 t)

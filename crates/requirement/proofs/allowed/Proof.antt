@@ -26,10 +26,11 @@ returns-2 c =
 -- src/lib.rt:216:9
 returns-3 : tie.Need-returns-3
 returns-3 c =
-    let h : 1 ≤ c .before .before .before .args .q = omega arith in
-    let l : c .before .before .before .args .q ≤ 1000 = omega arith in
-    let m : c .before .before .before .args .q < c .before .before .before .args .p = omega arith in
-    rw (at-most 1 (c .before .before .before .args .q) h, at-most (c .before .before .before .args .q) 1000 l, not-le (c .before .before .before .args .p) (c .before .before .before .args .q) m) refl
+    let c₁ = c .before .before .before in
+    let h : 1 ≤ c₁ .args .q = omega arith in
+    let l : c₁ .args .q ≤ 1000 = omega arith in
+    let m : c₁ .args .q < c₁ .args .p = omega arith in
+    rw (at-most 1 (c₁ .args .q) h, at-most (c₁ .args .q) 1000 l, not-le (c₁ .args .p) (c₁ .args .q) m) refl
 
 -- src/lib.rt:218:5
 common-divisor-requires : tie.Need-common-divisor-requires
@@ -38,10 +39,11 @@ common-divisor-requires c κs = search needs
 -- src/lib.rt:206:1
 returns-4 : tie.Need-returns-4
 returns-4 c =
-    let h : 1 ≤ c .before .before .before .before .args .q = omega arith in
-    let l : c .before .before .before .before .args .q ≤ 1000 = omega arith in
-    let m : c .before .before .before .before .args .p ≤ c .before .before .before .before .args .q = omega arith in
-    rw (at-most 1 (c .before .before .before .before .args .q) h, at-most (c .before .before .before .before .args .q) 1000 l, at-most (c .before .before .before .before .args .p) (c .before .before .before .before .args .q) m) (ap (λ (z : ℕ). eqb z 1) (c .common-divisor .ensures))
+    let c₁ = c .before .before .before in
+    let h : 1 ≤ c₁ .before .args .q = omega arith in
+    let l : c₁ .before .args .q ≤ 1000 = omega arith in
+    let m : c₁ .before .args .p ≤ c₁ .before .args .q = omega arith in
+    rw (at-most 1 (c₁ .before .args .q) h, at-most (c₁ .before .args .q) 1000 l, at-most (c₁ .before .args .p) (c₁ .before .args .q) m) (ap (λ (z : ℕ). eqb z 1) (c .common-divisor .ensures))
 
 pub allowed-spec : {M : Type 1} → statement M
 allowed-spec = tie.close (tie.spec returns returns-2 returns-3 common-divisor-requires returns-4)

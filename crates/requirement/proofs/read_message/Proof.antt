@@ -20,11 +20,12 @@ enum-known-h c = search needs
 
 read-node-requires : tie.Need-read-node-requires
 read-node-requires c κs =
-    let s = c .before .before .before .before .before .before .before .args .s .now in
+    let c₁ = c .before .before .before .before .before .before in
+    let s = c₁ .before .args .s .now in
     let e = c .before .before .h .given .1 in
     let w = subst (λ z. EndsWithin (length s) z) e (c .before .before .before .before .read-head .ensures .1) in
-    let n = head-short s _ (bytes-known s (c .before .before .before .before .before .before .shared-slice-known .given)) (sym (c .before .before .before .before .read-head .ensures .0 requirement) ∙ ap (paperHead requirement) e) in
-    (record { here = record { before = w .0; inside = w .1; short = n }; few = omega arith; room = omega arith; long = c .before .before .before .before .before .before .before .pre }, omega arith)
+    let n = head-short s _ (bytes-known s (c₁ .shared-slice-known .given)) (sym (c .before .before .before .before .read-head .ensures .0 requirement) ∙ ap (paperHead requirement) e) in
+    (record { here = record { before = w .0; inside = w .1; short = n }; few = omega arith; room = omega arith; long = c₁ .before .pre }, omega arith)
 
 enum-known-t : tie.Need-enum-known-t
 enum-known-t c = search needs
@@ -37,10 +38,12 @@ same-length c = search needs
 
 returns : tie.Need-returns
 returns c =
-    let s = c .before .before .before .before .before .before .before .before .before .before .before .before .before .before .before .args .s .now in
-    let head = sym (c .before .before .before .before .before .before .before .before .before .before .before .before .read-head .ensures .0 requirement) ∙ ap (paperHead requirement) (c .before .before .before .before .before .before .before .before .before .before .h .given .1) in
+    let c₁ = c .before .before .before .before .before .before in
+    let c₂ = c₁ .before .before .before .before .before .before in
+    let s = c₂ .before .before .before .args .s .now in
+    let head = sym (c₂ .read-head .ensures .0 requirement) ∙ ap (paperHead requirement) (c₁ .before .before .before .before .h .given .1) in
     let z = c .before .if1 .taken in
-    subst (MessageDone s _) (sym (c .refused .ensures)) (whole-left s _ _ _ head _ (c .before .before .before .before .before .before .before .read-node .ensures) _ _ _ (c .before .before .before .t .given .1) (omega (arith, z)))
+    subst (MessageDone s _) (sym (c .refused .ensures)) (whole-left s _ _ _ head _ (c₁ .before .read-node .ensures) _ _ _ (c .before .before .before .t .given .1) (omega (arith, z)))
 
 enum-known-t-2 : tie.Need-enum-known-t-2
 enum-known-t-2 c = search needs
@@ -59,19 +62,23 @@ same-length-2 c = search needs
 
 returns-2 : tie.Need-returns-2
 returns-2 c =
-    let s = c .before .before .before .before .before .before .before .before .before .before .before .before .before .before .args .s .now in
-    let head = sym (c .before .before .before .before .before .before .before .before .before .before .before .read-head .ensures .0 requirement) ∙ ap (paperHead requirement) (c .before .before .before .before .before .before .before .before .before .h .given .1) in
+    let c₁ = c .before .before .before .before .before .before in
+    let c₂ = c₁ .before .before .before .before .before .before in
+    let s = c₂ .before .before .args .s .now in
+    let head = sym (c₁ .before .before .before .before .before .read-head .ensures .0 requirement) ∙ ap (paperHead requirement) (c₁ .before .before .before .h .given .1) in
     let z = c .if1 .left in
-    whole-good s _ _ _ head _ (c .before .before .before .before .before .before .read-node .ensures) _ _ _ (c .before .before .t .given .1) (omega (arith, z))
+    whole-good s _ _ _ head _ (c₁ .read-node .ensures) _ _ _ (c .before .before .t .given .1) (omega (arith, z))
 
 same-length-3 : tie.Need-same-length-3
 same-length-3 c = search needs
 
 returns-3 : tie.Need-returns-3
 returns-3 c =
-    let s = c .before .before .before .before .before .before .before .before .before .before .before .before .before .before .args .s .now in
-    let head = sym (c .before .before .before .before .before .before .before .before .before .before .before .read-head .ensures .0 requirement) ∙ ap (paperHead requirement) (c .before .before .before .before .before .before .before .before .before .h .given .1) in
-    subst (MessageDone s _) (sym (c .refused2 .ensures)) (whole-refused s _ _ _ head _ (c .before .before .before .before .before .before .read-node .ensures) _ _ (c .before .before .t2 .given .1))
+    let c₁ = c .before .before .before .before .before .before in
+    let c₂ = c₁ .before .before .before .before .before .before in
+    let s = c₂ .before .before .args .s .now in
+    let head = sym (c₁ .before .before .before .before .before .read-head .ensures .0 requirement) ∙ ap (paperHead requirement) (c₁ .before .before .before .h .given .1) in
+    subst (MessageDone s _) (sym (c .refused2 .ensures)) (whole-refused s _ _ _ head _ (c₁ .read-node .ensures) _ _ (c .before .before .t2 .given .1))
 
 returns-4 : tie.Need-returns-4
 returns-4 c =

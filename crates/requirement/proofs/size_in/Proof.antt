@@ -19,11 +19,16 @@ ends-requires c κs = search needs
 
 reduced-size-requires : tie.Need-reduced-size-requires
 reduced-size-requires c κs =
-    same-rows (λ n r e. Held n r e 17 0) (sym (c .before .before .before .before .before .names .ensures)) (sym (c .before .before .before .before .roles .ensures)) (sym (c .before .before .before .ends .ensures)) (c .before .before .before .before .before .before .before .pre .1)
+    let c₁ = c .before .before .before in
+    let c₂ = c₁ .before .before .before in
+    same-rows (λ n r e. Held n r e 17 0) (sym (c₁ .before .before .names .ensures)) (sym (c₁ .before .roles .ensures)) (sym (c₁ .ends .ensures)) (c₂ .before .pre .1)
 
 returns : tie.Need-returns
 returns c =
-    same-rows (λ n r e. ForTree n r e 17 0 (λ t. c .reduced-size .result ≡ size (reduce t))) (c .before .before .before .before .before .before .names .ensures) (c .before .before .before .before .before .roles .ensures) (c .before .before .before .before .ends .ensures) (c .reduced-size .ensures .0)
+    let c₁ = c .before .before .before in
+    let c₂ = c₁ .before .before .before in
+    same-rows (λ n r e. ForTree n r e 17 0 (λ t. c .reduced-size .result ≡ size (reduce t))) (c₂ .names .ensures) (c₁ .before .before .roles .ensures)
+    (c₁ .before .ends .ensures) (c .reduced-size .ensures .0)
 
 pub size-in-spec : {M : Type 1} → statement M
 size-in-spec =

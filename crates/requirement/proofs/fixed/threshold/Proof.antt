@@ -64,9 +64,10 @@ allowed-requires c κs = search needs
 
 returns-4 : tie.Need-returns-4
 returns-4 c =
-    let a = c .before .before .before .before .before .before .before .before .before .args in
-    let room : a .parts < 16 = omega (arith, c .before .before .before .before .before .before .before .if1 .left) in
-    let fits : a .at + 5 ≤ a .end = omega (arith, c .before .before .before .before .before .before .if2 .left, c .before .before .before .before .before .before .before .before .before .pre .before) in
+    let c₁ = c .before .before .before .before .before .before in
+    let a = c₁ .before .before .before .args in
+    let room : a .parts < 16 = omega (arith, c₁ .before .if1 .left) in
+    let fits : a .at + 5 ≤ a .end = omega (arith, c₁ .if2 .left, c₁ .before .before .before .pre .before) in
     let small : number (a .s .now) (a .at) 1 ≤ 3 = omega (arith, c .before .before .before .before .if3 .left, c .before .before .before .before .before .one .ensures .0) in
     let rule = rule-broken (a .s .now) (a .at) _ _ _ (c .before .before .before .two .ensures .0) (c .before .before .two2 .ensures .0) (c .before .allowed .ensures) small (c .if4 .taken) in
     λ owner n ps l. threshold-rule (a .s .now) (a .end) owner (a .at) n ps (omega (arith, l)) fits rule
@@ -79,12 +80,15 @@ add-t14 c = search needs
 
 returns-5 : tie.Need-returns-5
 returns-5 c =
-    let a = c .before .before .before .before .before .before .before .before .before .before .args in
-    let room : a .parts < 16 = omega (arith, c .before .before .before .before .before .before .before .before .if1 .left) in
-    let fits : a .at + 5 ≤ a .end = omega (arith, c .before .before .before .before .before .before .before .if2 .left, c .before .before .before .before .before .before .before .before .before .before .pre .before) in
-    let small : number (a .s .now) (a .at) 1 ≤ 3 = omega (arith, c .before .before .before .before .before .if3 .left, c .before .before .before .before .before .before .one .ensures .0) in
-    let rule = rule-kept (a .s .now) (a .at) _ _ _ (c .before .before .before .before .two .ensures .0) (c .before .before .before .two2 .ensures .0) (c .before .before .allowed .ensures) small (c .before .if4 .left) in
-    let cut : a .end < a .at + 7 = omega (arith, c .if5 .taken, c .before .before .before .before .before .before .before .before .before .before .pre .before) in
+    let c₁ = c .before .before .before in
+    let c₂ = c₁ .before .before .before in
+    let c₃ = c₂ .before .before .before in
+    let a = c₃ .before .args in
+    let room : a .parts < 16 = omega (arith, c₂ .before .before .if1 .left) in
+    let fits : a .at + 5 ≤ a .end = omega (arith, c₂ .before .if2 .left, c₃ .before .pre .before) in
+    let small : number (a .s .now) (a .at) 1 ≤ 3 = omega (arith, c₁ .before .before .if3 .left, c₂ .one .ensures .0) in
+    let rule = rule-kept (a .s .now) (a .at) _ _ _ (c₁ .before .two .ensures .0) (c₁ .two2 .ensures .0) (c .before .before .allowed .ensures) small (c .before .if4 .left) in
+    let cut : a .end < a .at + 7 = omega (arith, c .if5 .taken, c₃ .before .pre .before) in
     λ owner n ps l. threshold-length-cut (a .s .now) (a .end) owner (a .at) n ps (omega (arith, l)) fits rule cut
 
 add-two-3 : tie.Need-add-two-3
@@ -104,13 +108,17 @@ add-t15 c = search needs
 
 returns-6 : tie.Need-returns-6
 returns-6 c =
-    let a = c .before .before .before .before .before .before .before .before .before .before .before .before .args in
-    let room : a .parts < 16 = omega (arith, c .before .before .before .before .before .before .before .before .before .before .if1 .left) in
-    let fits : a .at + 5 ≤ a .end = omega (arith, c .before .before .before .before .before .before .before .before .before .if2 .left, c .before .before .before .before .before .before .before .before .before .before .before .before .pre .before) in
-    let small : number (a .s .now) (a .at) 1 ≤ 3 = omega (arith, c .before .before .before .before .before .before .before .if3 .left, c .before .before .before .before .before .before .before .before .one .ensures .0) in
-    let rule = rule-kept (a .s .now) (a .at) _ _ _ (c .before .before .before .before .before .before .two .ensures .0) (c .before .before .before .before .before .two2 .ensures .0) (c .before .before .before .before .allowed .ensures) small (c .before .before .before .if4 .left) in
-    let long : a .at + 7 ≤ a .end = omega (arith, c .before .before .if5 .left, c .before .before .before .before .before .before .before .before .before .before .before .before .pre .before) in
-    let past : a .end < a .at + 7 + number (a .s .now) (a .at + 5) 2 = omega (arith, c .if6 .taken, c .before .two3 .ensures .0, c .before .before .before .before .before .before .before .before .before .before .before .before .pre .before) in
+    let c₁ = c .before .before .before in
+    let c₂ = c₁ .before .before .before in
+    let c₃ = c₂ .before .before .before in
+    let c₄ = c₃ .before .before .before in
+    let a = c₄ .args in
+    let room : a .parts < 16 = omega (arith, c₃ .before .if1 .left) in
+    let fits : a .at + 5 ≤ a .end = omega (arith, c₃ .if2 .left, c₄ .pre .before) in
+    let small : number (a .s .now) (a .at) 1 ≤ 3 = omega (arith, c₂ .before .if3 .left, c₂ .before .before .one .ensures .0) in
+    let rule = rule-kept (a .s .now) (a .at) _ _ _ (c₂ .two .ensures .0) (c₁ .before .before .two2 .ensures .0) (c₁ .before .allowed .ensures) small (c₁ .if4 .left) in
+    let long : a .at + 7 ≤ a .end = omega (arith, c .before .before .if5 .left, c₄ .pre .before) in
+    let past : a .end < a .at + 7 + number (a .s .now) (a .at + 5) 2 = omega (arith, c .if6 .taken, c .before .two3 .ensures .0, c₄ .pre .before) in
     λ owner n ps l. threshold-past (a .s .now) (a .end) owner (a .at) n ps (omega (arith, l)) fits rule long past
 
 add-t7 : tie.Need-add-t7
@@ -121,13 +129,17 @@ add-t11 c = search needs
 
 returns-7 : tie.Need-returns-7
 returns-7 c =
-    let a = c .before .before .before .before .before .before .before .before .before .before .before .before .args in
-    let small : number (a .s .now) (a .at) 1 ≤ 3 = omega (arith, c .before .before .before .before .before .before .before .if3 .left, c .before .before .before .before .before .before .before .before .one .ensures .0) in record {
-      room = omega (arith, c .before .before .before .before .before .before .before .before .before .before .if1 .left);
-      fits = omega (arith, c .before .before .if5 .left, c .before .before .before .before .before .before .before .before .before .before .before .before .pre .before);
-      ruled = rule-kept (a .s .now) (a .at) _ _ _ (c .before .before .before .before .before .before .two .ensures .0) (c .before .before .before .before .before .two2 .ensures .0) (c .before .before .before .before .allowed .ensures) small (c .before .before .before .if4 .left);
+    let c₁ = c .before .before .before in
+    let c₂ = c₁ .before .before .before in
+    let c₃ = c₂ .before .before .before in
+    let c₄ = c₃ .before .before .before in
+    let a = c₄ .args in
+    let small : number (a .s .now) (a .at) 1 ≤ 3 = omega (arith, c₂ .before .if3 .left, c₂ .before .before .one .ensures .0) in record {
+      room = omega (arith, c₃ .before .if1 .left);
+      fits = omega (arith, c .before .before .if5 .left, c₄ .pre .before);
+      ruled = rule-kept (a .s .now) (a .at) _ _ _ (c₂ .two .ensures .0) (c₁ .before .before .two2 .ensures .0) (c₁ .before .allowed .ensures) small (c₁ .if4 .left);
       stops = ap (λ (k : ℕ). a .at + 7 + k) (c .before .two3 .ensures .0);
-      inside = omega (arith, c .if6 .left, c .before .before .before .before .before .before .before .before .before .before .before .before .pre .before, c .before .before .if5 .left);
+      inside = omega (arith, c .if6 .left, c₄ .pre .before, c .before .before .if5 .left);
     }
 
 pub threshold-spec : {M : Type 1} → statement M

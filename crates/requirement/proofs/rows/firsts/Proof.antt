@@ -49,12 +49,14 @@ loop-less c = search needs
 
 loop-again : tie.Need-loop-again Inv-loop μ-loop
 loop-again c =
-    filled-more _ 16 (c .before .before .before .loop .out) (c .before .before .before .loop .i) _ (c .before .before .before .loop .inv) (c .before .before .loop-test .taken) (c .high-pair .ensures)
+    let c₁ = c .before .before .before in
+    filled-more _ 16 (c₁ .loop .out) (c₁ .loop .i) _ (c₁ .loop .inv) (c .before .before .loop-test .taken) (c .high-pair .ensures)
 
 returns : tie.Need-returns Inv-loop μ-loop
 returns c =
-    let a = c .before .before .before .args in
-    filled-all _ 16 _ _ (firstsIn (a .rows .now)) (c .before .loop .inv) (omega (arith, c .loop-test .left)) (firsts-long (a .rows .now) (c .before .before .before .pre)) (λ k h. first-at (a .rows .now) k h)
+    let c₁ = c .before .before .before in
+    let a = c₁ .args in
+    filled-all _ 16 _ _ (firstsIn (a .rows .now)) (c .before .loop .inv) (omega (arith, c .loop-test .left)) (firsts-long (a .rows .now) (c₁ .pre)) (λ k h. first-at (a .rows .now) k h)
 
 pub firsts-spec : {M : Type 1} → statement M
 firsts-spec =

@@ -48,7 +48,8 @@ loop-again c =
 returns : tie.Need-returns Inv-loop μ-loop
 returns c =
     let a = c .before .before .args in
-    filled-all _ 64 _ _ (namesIn (a .rows .now)) (c .before .loop .inv) (omega (arith, c .loop-test .left)) (names-long (a .rows .now) (c .before .before .pre)) (λ k h. name-at (a .rows .now) k h)
+    filled-all _ 64 _ _ (namesIn (a .rows .now)) (c .before .loop .inv) (omega (arith, c .loop-test .left)) (names-long (a .rows .now) (c .before .before .pre))
+    (λ k h. name-at (a .rows .now) k h)
 
 pub names-spec : {M : Type 1} → statement M
 names-spec =
