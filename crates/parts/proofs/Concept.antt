@@ -10,7 +10,7 @@ use Rattle.meaning.specs.Tree.{Concept, nodes}
 use Rattle.meaning.specs.Message.{Spot}
 use Rattle.meaning.specs.Rows.{Holds}
 use Rattle.requirement.specs.declared.Reached.{Reached}
-use Rattle.requirement.specs.Rows.{namesIn, rolesIn, endsIn}
+use Rattle.rows.specs.Packed.{namesIn, rolesIn, endsIn}
 use Rattle.requirement.specs.Reading.{Outcome, ReadGood, NodeHeld, NodeDone}
 use Rattle.requirement.proofs.Places.{no-parts}
 use Rattle.requirement.proofs.Whole.{tree-rows}

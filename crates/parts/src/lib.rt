@@ -4,7 +4,7 @@ ghost use mathlib.Core.Path.{_≡_};
 ghost use Prim.Native.Nat.{_+_, _≤_};
 ghost use lib.ListN.{length};
 ghost use Rattle.meaning.specs.Message.{readRequirement, innerPart};
-ghost use Rattle.requirement.specs.Rows.{namesIn, rolesIn, endsIn};
+ghost use Rattle.rows.specs.Packed.{namesIn, rolesIn, endsIn};
 ghost use Rattle.requirement.specs.Reading.{Here};
 ghost use Rattle.parts.specs.Inner.{innerPlace, ConceptDone};
 
@@ -25,7 +25,7 @@ pub fn find_inner(s: &[u8], k: usize) -> Place
             if parts <= k {
                 return Place { start: 0, len: 0 };
             }
-            let firsts = requirement::rows::firsts(&rows);
+            let firsts = rows::firsts(&rows);
             let first = fields::pair(firsts[k]);
             let len = fields::two(s, first + 5);
             Place {

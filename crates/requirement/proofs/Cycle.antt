@@ -22,7 +22,7 @@ use Rattle.requirement.specs.declared.Reached.the-variants.{Good, Refuse
 use Rattle.requirement.specs.declared.fixed.NodeFields.the-variants.{Refused as RefusedNode}
 use Rattle.requirement.specs.declared.fixed.EdgeFields.the-variants.{Refused as RefusedEdge}
 use Rattle.requirement.specs.declared.fixed.ThresholdFields.the-variants.{Refused as RefusedThreshold}
-use Rattle.requirement.specs.Rows.{namesIn, rolesIn, endsIn}
+use Rattle.rows.specs.Packed.{namesIn, rolesIn, endsIn}
 use Rattle.requirement.specs.Reading.{spot, Start, PartsHeld, RowsKept, refusalOf, nodeIn, childrenIn, ReadGood, Outcome}
 use Rattle.requirement.specs.Reading.{NodeHeld, NodeDone, ForestHeld, ChildrenDone, PartsGood, PartsOutcome, ThresholdsDone, ThresholdDone, InnerOutcome, InnerDone}
 use Rattle.requirement.specs.Fixed.{NodeOpen, NodeFixed, EdgeOpen, EdgeFixed, ThresholdOpen, ThresholdFixed}

@@ -8,4 +8,3 @@ pub mod Cycle
 pub mod Bare
 pub mod Whole
 pub mod Turns
-pub mod Filling

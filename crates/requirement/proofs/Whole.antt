@@ -21,7 +21,7 @@ use Rattle.requirement.specs.declared.Reached.{Reached}
 use Rattle.requirement.specs.declared.Reached.the-variants.{Good, Refused}
 use Rattle.requirement.specs.declared.Message.{Message}
 use Rattle.requirement.specs.declared.Message.the-variants.{Good as GoodMessage}
-use Rattle.requirement.specs.Rows.{namesIn, rolesIn, endsIn}
+use Rattle.rows.specs.Packed.{namesIn, rolesIn, endsIn}
 use Rattle.requirement.specs.Reading.{spot, PartsHeld, nodeIn, Outcome, ReadGood, NodeHeld, NodeDone}
 use Rattle.requirement.specs.Message.{refusedAt, MessageOutcome, MessageDone, paperMessage, counted}
 use Rattle.requirement.proofs.Outcomes.{outcome-refused, outcome-good}

@@ -13,7 +13,7 @@ use Rattle.meaning.specs.Message.{Part, readRequirement}
 use Rattle.meaning.specs.Rows.{Holds}
 use Rattle.requirement.specs.declared.Message.{Message}
 use Rattle.requirement.specs.declared.Message.the-variants.{Good, Refused}
-use Rattle.requirement.specs.Rows.{namesIn, rolesIn, endsIn}
+use Rattle.rows.specs.Packed.{namesIn, rolesIn, endsIn}
 use Rattle.requirement.specs.Reading.{PartsHeld}
 
 abbrev pub refusedAt : ℕ → ℕ → Message

@@ -19,7 +19,7 @@ use Rattle.meaning.specs.Message.{Part, Spot, readChildren, readNode, noThresho
 use Rattle.meaning.specs.Rows.{Holds, HoldsF}
 use Rattle.requirement.specs.declared.Reached.{Reached}
 use Rattle.requirement.specs.declared.Reached.the-variants.{Good, Refused}
-use Rattle.requirement.specs.Rows.{namesIn, rolesIn, endsIn, ownersIn, firstsIn}
+use Rattle.rows.specs.Packed.{namesIn, rolesIn, endsIn, ownersIn, firstsIn}
 
 -- ---- where a reader starts, and the rows
 

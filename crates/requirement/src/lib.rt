@@ -1,8 +1,7 @@
-// Reading a requirement message: its nodes in reading order, and its thresholds, into lent numbers (rows.rt says what stands where).
+// Reading a requirement message: its nodes in reading order, and its thresholds, into lent numbers (the crate `rows` says what stands where).
 // The readers of node, thresholds and children call each other in a cycle, and the bytes left fall at each turn. What stands side by side, children
 // and thresholds, is read in a loop, so that the stack grows with the depth alone.
 pub mod fixed; // fixed.rt: the fixed fields of a node, an edge and a threshold, with their tests
-pub mod rows; // rows.rt: what stands where in the lent numbers
 
 use fields::Head;
 use fixed::EdgeFields;
@@ -17,7 +16,7 @@ ghost use Rattle.meaning.specs.Message.{lawful, readRequirement};
 ghost use Rattle.meaning.specs.Fraction.{gcd};
 ghost use Rattle.meaning.specs.Reduce.{reduce, size};
 ghost use Rattle.reduction.specs.Held.{Held, ForTree};
-ghost use Rattle.requirement.specs.Rows.{namesIn, rolesIn, endsIn};
+ghost use Rattle.rows.specs.Packed.{namesIn, rolesIn, endsIn};
 ghost use Rattle.requirement.specs.Reading.{Here, Start, NodeDone, ChildrenDone, ThresholdsDone, ThresholdDone, InnerDone};
 ghost use Rattle.requirement.specs.Message.{refusedAt, MessageDone, paperMessage, counted};
 

@@ -21,7 +21,7 @@ use Rattle.requirement.proofs.+read_children+read_inner+read_node+read_
 use Rattle.requirement.proofs.fixed.edge.Reads as edge-reads
 use Rattle.requirement.proofs.fixed.node.Reads as node-reads
 use Rattle.requirement.proofs.fixed.threshold.Reads as threshold-reads
-use Rattle.requirement.proofs.rows.packed.Reads as packed-reads
+use Rattle.rows.proofs.packed.Reads as packed-reads
 use Rattle.requirement.proofs.size_in.Reads as size-in-reads
 use Rattle.requirement.proofs.+read_children+read_inner+read_node+read_threshold+read_thresholds.{statement}
 use Rattle.requirement.proofs.+read_children+read_inner+read_node+read_threshold+read_thresholds.Tie.{close}

@@ -1,10 +1,10 @@
-// What the readers leave in 144 lent numbers, and the five arrays that stand in them.
+// The rows of a requirement that was read, as its readers leave them in 144 lent numbers, and the five arrays that stand in them.
 // The names of the written node n stand at n; the role of the edge to it, and the index just past its subtree, at 64 + n;
 // of the k-th threshold the written node that it is of, and the place of its first byte, at 128 + k. Two numbers in one are the lower byte and the rest.
 ghost use mathlib.Core.Path.{_≡_};
 ghost use Prim.Native.Nat.{_+_, _*_, _/_, _%_, _≤_, _<_};
 ghost use lib.ListN.{length};
-ghost use Rattle.requirement.specs.Rows.{namesIn, rolesIn, endsIn, ownersIn, firstsIn};
+ghost use Rattle.rows.specs.Packed.{namesIn, rolesIn, endsIn, ownersIn, firstsIn};
 
 pub const LEN: usize = 144;
 

@@ -1,14 +1,14 @@
--- `requirement::rows::ends` meets its contract: each place is filled in turn.
+-- `rows::ends` meets its contract: each place is filled in turn.
 -- Assumes nothing.
-use Rattle.requirement.proofs.rows.ends.Statement.{statement}
-use Rattle.requirement.proofs.rows.ends.Tie as tie
+use Rattle.rows.proofs.ends.Statement.{statement}
+use Rattle.rows.proofs.ends.Tie as tie
 use mathlib.Core.Path.{_≡_}
 use Prim.Native.Nat.{ℕ, _+_, _-_}
 use native.Mathlib.Omega.{arith}
 use lib.ListN.{getD, length-replicate}
-use Rattle.requirement.specs.Rows.{high, endsIn}
-use Rattle.requirement.proofs.Places.{end-at, ends-long}
-use Rattle.requirement.proofs.Filling.{Filled, filled-none, filled-more, filled-all}
+use Rattle.rows.specs.Packed.{high, endsIn}
+use Rattle.rows.proofs.At.{end-at, ends-long}
+use Rattle.rows.proofs.Filling.{Filled, filled-none, filled-more, filled-all}
 use borrow.Author.Needs.{needs}
 
 abbrev Inv-loop : tie.InvT-loop

@@ -1,14 +1,14 @@
--- `requirement::rows::firsts` meets its contract: each place is filled in turn.
+-- `rows::firsts` meets its contract: each place is filled in turn.
 -- Assumes nothing.
-use Rattle.requirement.proofs.rows.firsts.Statement.{statement}
-use Rattle.requirement.proofs.rows.firsts.Tie as tie
+use Rattle.rows.proofs.firsts.Statement.{statement}
+use Rattle.rows.proofs.firsts.Tie as tie
 use mathlib.Core.Path.{_≡_}
 use Prim.Native.Nat.{ℕ, _+_, _-_}
 use native.Mathlib.Omega.{arith}
 use lib.ListN.{getD, length-replicate}
-use Rattle.requirement.specs.Rows.{highPair, firstsIn}
-use Rattle.requirement.proofs.Places.{first-at, firsts-long}
-use Rattle.requirement.proofs.Filling.{Filled, filled-none, filled-more, filled-all}
+use Rattle.rows.specs.Packed.{highPair, firstsIn}
+use Rattle.rows.proofs.At.{first-at, firsts-long}
+use Rattle.rows.proofs.Filling.{Filled, filled-none, filled-more, filled-all}
 use borrow.Author.Needs.{needs}
 
 abbrev Inv-loop : tie.InvT-loop

@@ -1,14 +1,14 @@
--- `requirement::rows::names` meets its contract: each place is filled in turn.
+-- `rows::names` meets its contract: each place is filled in turn.
 -- Assumes nothing.
-use Rattle.requirement.proofs.rows.names.Statement.{statement}
-use Rattle.requirement.proofs.rows.names.Tie as tie
+use Rattle.rows.proofs.names.Statement.{statement}
+use Rattle.rows.proofs.names.Tie as tie
 use mathlib.Core.Path.{refl}
 use Prim.Native.Nat.{ℕ, _-_}
 use native.Mathlib.Omega.{arith}
 use lib.ListN.{getD, length-replicate}
-use Rattle.requirement.specs.Rows.{namesIn}
-use Rattle.requirement.proofs.Places.{name-at, names-long}
-use Rattle.requirement.proofs.Filling.{Filled, filled-none, filled-more, filled-all}
+use Rattle.rows.specs.Packed.{namesIn}
+use Rattle.rows.proofs.At.{name-at, names-long}
+use Rattle.rows.proofs.Filling.{Filled, filled-none, filled-more, filled-all}
 use borrow.Author.Needs.{needs}
 
 abbrev Inv-loop : tie.InvT-loop

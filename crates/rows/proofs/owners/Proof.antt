@@ -1,14 +1,14 @@
--- `requirement::rows::owners` meets its contract: each place is filled in turn.
+-- `rows::owners` meets its contract: each place is filled in turn.
 -- Assumes nothing.
-use Rattle.requirement.proofs.rows.owners.Statement.{statement}
-use Rattle.requirement.proofs.rows.owners.Tie as tie
+use Rattle.rows.proofs.owners.Statement.{statement}
+use Rattle.rows.proofs.owners.Tie as tie
 use mathlib.Core.Path.{_≡_}
 use Prim.Native.Nat.{ℕ, _+_, _-_}
 use native.Mathlib.Omega.{arith}
 use lib.ListN.{getD, length-replicate}
-use Rattle.requirement.specs.Rows.{low, ownersIn}
-use Rattle.requirement.proofs.Places.{owner-at, owners-long}
-use Rattle.requirement.proofs.Filling.{Filled, filled-none, filled-more, filled-all}
+use Rattle.rows.specs.Packed.{low, ownersIn}
+use Rattle.rows.proofs.At.{owner-at, owners-long}
+use Rattle.rows.proofs.Filling.{Filled, filled-none, filled-more, filled-all}
 use borrow.Author.Needs.{needs}
 
 abbrev Inv-loop : tie.InvT-loop

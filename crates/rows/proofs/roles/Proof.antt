@@ -1,14 +1,14 @@
--- `requirement::rows::roles` meets its contract: each place is filled in turn.
+-- `rows::roles` meets its contract: each place is filled in turn.
 -- Assumes nothing.
-use Rattle.requirement.proofs.rows.roles.Statement.{statement}
-use Rattle.requirement.proofs.rows.roles.Tie as tie
+use Rattle.rows.proofs.roles.Statement.{statement}
+use Rattle.rows.proofs.roles.Tie as tie
 use mathlib.Core.Path.{_≡_}
 use Prim.Native.Nat.{ℕ, _+_, _-_}
 use native.Mathlib.Omega.{arith}
 use lib.ListN.{getD, length-replicate}
-use Rattle.requirement.specs.Rows.{low, rolesIn}
-use Rattle.requirement.proofs.Places.{role-at, roles-long}
-use Rattle.requirement.proofs.Filling.{Filled, filled-none, filled-more, filled-all}
+use Rattle.rows.specs.Packed.{low, rolesIn}
+use Rattle.rows.proofs.At.{role-at, roles-long}
+use Rattle.rows.proofs.Filling.{Filled, filled-none, filled-more, filled-all}
 use borrow.Author.Needs.{needs}
 
 abbrev Inv-loop : tie.InvT-loop
