@@ -48,19 +48,8 @@ fn decide_among(
     requires { ⌜ Imaged (now image) items links ⌝ }
     ensures { λ r. ⌜ DecidePromise (now (image .entry)) (now (message .entry)) item (now (map .entry)) (now (map .exit)) r ⌝ }
 {
-    let mut names = [0u64; 64];
-    let mut roles = [0u8; 64];
-    let mut ends = [0u8; 64];
-    let mut owners = [0u8; 16];
-    let mut firsts = [0u16; 16];
-    let m = requirement::read_message(
-        message,
-        &mut names,
-        &mut roles,
-        &mut ends,
-        &mut owners,
-        &mut firsts,
-    );
+    let mut packed = [0u64; 144];
+    let m = requirement::read_message(message, &mut packed);
     match m {
         Message::Good { nodes, parts } => {
             if items <= item {
@@ -69,6 +58,11 @@ fn decide_among(
             if map.len() < nodes {
                 return refused(16);
             }
+            let names = rows::names(&packed);
+            let roles = rows::roles(&packed);
+            let ends = rows::ends(&packed);
+            let owners = rows::owners(&packed);
+            let firsts = rows::firsts(&packed);
             if decide_read(
                 image,
                 items,
@@ -219,13 +213,14 @@ fn grade(
     ensures { λ r. ⌜ Image (now (image .entry)) (λ g. (h : Threshold) → StandsAt (now (message .entry)) first h
         → Worked g (h .inner) items r (now (out .exit))) ⌝ }
 {
-    let mut names = [0u64; 64];
-    let mut roles = [0u8; 64];
-    let mut ends = [0u8; 64];
+    let mut packed = [0u64; 144];
     let mut marks = [0u8; 64];
     let at = first + 7;
     let stop = at + fields::two(message, first + 5);
-    requirement::read_concept(message, at, stop, &mut names, &mut roles, &mut ends);
+    parts::read_concept(message, at, stop, &mut packed);
+    let names = rows::names(&packed);
+    let roles = rows::roles(&packed);
+    let ends = rows::ends(&packed);
     reduction::reduce(&names, &roles, &ends, &mut marks);
     degree::degrees(
         image,

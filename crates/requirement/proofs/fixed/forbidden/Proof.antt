@@ -1,7 +1,7 @@
-use Rattle.requirement.proofs.forbidden.Statement.{statement}
-use Rattle.requirement.proofs.forbidden.Tie as tie
-use Rattle.requirement.proofs.forbidden.Reads as reads
-use Rattle.requirement.proofs.forbidden.Lts as lts
+use Rattle.requirement.proofs.fixed.forbidden.Statement.{statement}
+use Rattle.requirement.proofs.fixed.forbidden.Tie as tie
+use Rattle.requirement.proofs.fixed.forbidden.Reads as reads
+use Rattle.requirement.proofs.fixed.forbidden.Lts as lts
 use mathlib.Core.Path.{refl}
 
 -- src/lib.rt:175:9
