@@ -155,6 +155,7 @@ module _ {s : List ℕ} {items : ℕ} {index names roles ends marks : List ℕ} 
           fits = λ x m. let q = child .sum-fits x m in let r = k .small in rw (same-sum x m) (omega arith);
           clear = λ i. d .outside c i (inl (omega arith)) ∙ empty c i (omega arith) (going-inside .0);
           inside = let q = k .few in omega arith;
+          short = omega (arith, room .size-is);
           from-fits = omega (arith, going-two size room);
           to-fits = omega (arith, going-two size room);
           apart = inr (omega arith);

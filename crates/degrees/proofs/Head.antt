@@ -114,6 +114,7 @@ module _ {s : List ℕ} {items : ℕ} {index names roles ends marks : List ℕ} 
         fits = λ x m. let q = fits x in let r = reach-best heavy-case set role at scale notes mid numbers ys er d x m in rw r (omega arith);
         clear = λ l. d .outside heavy l (inl (omega arith)) ∙ clear heavy l (omega (arith, heavy-inside .0)) (omega (arith, heavy-inside .1, heavy-inside .2));
         inside = let l = k .few in omega (arith, heavy-inside .1, heavy-inside .2);
+        short = omega (arith, room .size-is);
         from-fits = omega (arith, heavy-two size at room);
         to-fits = omega (arith, heavy-two size at room);
         apart = inl (omega arith);

@@ -15,6 +15,7 @@ use Rattle.meaning.specs.Shown.{firstBest, pick}
 use Rattle.meaning.proofs.Best.{pick-some}
 use Rattle.graph.specs.Judged.{endNo, spanned}
 use Rattle.graph.proofs.Spans.{spanned-step, spanned-end}
+use Rattle.graph.proofs.Same.{Agree, best-same, pick-same}
 use Rattle.degrees.specs.declared.Best.{Best}
 use Rattle.degrees.specs.Given.{Top}
 
@@ -70,7 +71,7 @@ module _ (v e : ℕ → ℕ) (first end : ℕ) where
             let m : first < k = let y = s .low in omega (arith, z) in
             next false (le-ltb (v (e link)) (v (e k)) (omega (arith, ew, s .behind m .2))) m
 
-    pub scan-take : (w ≤ value → ⊥) → Scan w k (k + 1)
+    pub scan-take : value < w → Scan w k (k + 1)
     scan-take h = record {
       low = let q = s .low in omega arith;
       high = omega arith;
@@ -83,7 +84,7 @@ module _ (v e : ℕ → ℕ) (first end : ℕ) where
         go (yes z) = rw z
         go (no z) =
             let m : first < k = let y = s .low in omega (arith, z) in
-            next true (lt-ltb (v (e link)) (v (e k)) (omega (arith, ew, s .behind m .2, h))) m
+            next true (lt-ltb (v (e link)) (v (e k)) (omega (arith, ew, s .behind m .2))) m
 
   picked : first < end → (x : ℕ) → firstBest v x [] ≡ firstBest v (e first) (spanned e (first + 1) end) → pick v (spanned e first end) ≡ some x
   unfolding pick firstBest
@@ -109,3 +110,11 @@ scan-end v g first end k b s l = record {
     go (no z) =
         let m : first < end = omega (arith, z, s .low, s .high) in
         s .behind (omega (arith, l, m)) .2 ∙ pick-some v (spanned (endNo g) first end) (endNo g (b .link)) (chosen m) .1
+
+-- for values that are the same at the ends
+pub top-same : (g : Register) (v v′ : ℕ → ℕ) (ys : List ℕ) (first end : ℕ) (b : Best) → Agree v v′ ys → Top g v ys first end b → Top g v′ ys first end b
+top-same g v v′ ys first end b e t = record {
+  value = t .value ∙ best-same v v′ ys e;
+  link = λ l. let q = t .link l in (q .0, q .1, sym (pick-same v v′ ys e) ∙ q .2);
+  none = t .none;
+}
