@@ -17,7 +17,8 @@ use Rattle.meaning.specs.Reduce.{dropped}
 use Rattle.meaning.specs.Degree.{orOne}
 use Rattle.meaning.specs.InPlace.{countIn, scaleIn, scaleInF, degreeIn, degreeInF}
 use Rattle.meaning.specs.Rows.{Holds, Marked, MarkedF}
-use Rattle.degrees.specs.Case.{Case, Member, Room}
+use Rattle.register.specs.Image.{Asked}
+use Rattle.degrees.specs.Case.{Case, Member, Items, Room}
 use Rattle.degrees.specs.Notes.{flag, Clear, Outside}
 use Rattle.degrees.specs.Heavy.{Stands, Heavy, Headed}
 use Rattle.degrees.specs.Given.{rowAt, Kept, Done, Below, Folding, Folded}
@@ -25,7 +26,7 @@ use Rattle.degrees.proofs.Room.{room-two, room-fewer}
 use Rattle.degrees.proofs.But.{mark-zero}
 use Rattle.degrees.proofs.Folding.{Head, head, given}
 use Rattle.degrees.proofs.Noted.{outside-then, noted-node}
-use Rattle.degrees.proofs.Reaching.{graph, reach-best, reach-one}
+use Rattle.degrees.proofs.Reaching.{graph, items-named, reach-best, reach-one}
 
 module _ {s : List ℕ} {items : ℕ} {index names roles ends marks : List ℕ} {node left : ℕ} (k : Case s items index names roles ends marks node left) where
   -- ---- no child is kept
@@ -79,6 +80,9 @@ module _ {s : List ℕ} {items : ℕ} {index names roles ends marks : List ℕ} 
     pub heavy-inside : (node < heavy) × (heavy < getD ends heavy 0) × (getD ends heavy 0 ≤ getD ends node 0)
     heavy-inside = let p = heavy-head .place in (omega (arith, p .behind), p .inside, p .within)
 
+    pub heavy-low : heavy < 64
+    heavy-low = let l = k .few in omega (arith, heavy-inside .1, heavy-inside .2)
+
     abbrev pub heavy-case : Case s items index names roles ends marks heavy (left - 1)
     heavy-case = record {
       graph = k .graph;
@@ -113,7 +117,7 @@ module _ {s : List ℕ} {items : ℕ} {index names roles ends marks : List ℕ} 
         graph = k .graph;
         fits = λ x m. let q = fits x in let r = reach-best heavy-case set role at scale notes mid numbers ys er d x m in rw r (omega arith);
         clear = λ l. d .outside heavy l (inl (omega arith)) ∙ clear heavy l (omega (arith, heavy-inside .0)) (omega (arith, heavy-inside .1, heavy-inside .2));
-        inside = let l = k .few in omega (arith, heavy-inside .1, heavy-inside .2);
+        inside = heavy-low;
         short = omega (arith, room .size-is);
         from-fits = omega (arith, heavy-two size at room);
         to-fits = omega (arith, heavy-two size at room);
@@ -125,12 +129,16 @@ module _ {s : List ℕ} {items : ℕ} {index names roles ends marks : List ℕ} 
         part : (x : ℕ) → Member set x → rowAt zs (at + 512) x ≡ given roles (graph k) heavy heavy-tree x
         part x m = f .sums x m ∙ rw (reach-best heavy-case set role at scale notes mid numbers ys er d x m) (omega arith)
 
-        pub heavy-fits : (x : ℕ) → Member set x → shared x * scale + rowAt zs (at + 512) x < 4294967296
+        heavy-fits : (x : ℕ) → Member set x → shared x * scale + rowAt zs (at + 512) x < 4294967296
         heavy-fits x m = let q = fits x in rw (part x m) (omega arith)
 
         change : Outside heavy (getD ends heavy 0) notes new
         change = outside-then (heavy + 1) (getD ends heavy 0) heavy (heavy + 1) heavy (getD ends heavy 0) notes mid new
             (omega arith) (omega arith) (omega arith) (omega (arith, heavy-inside .1)) (d .outside) (f .outside)
+
+        pub heavy-own : Items items set → Asked s (λ g. Items (length (g .names)) set
+            × ((x : ℕ) → Member set x → common (getD names node 0) (judged g .names x) * scale + rowAt zs (at + 512) x < 4294967296))
+        heavy-own w = record { register = k .graph .register; read = k .graph .read; holds = (items-named k set w, heavy-fits) }
 
         -- so it is at the head of the others
         pub heavy-headed : (out : List ℕ) → length new ≡ length mid → ((x : ℕ) → Member set x → rowAt out at x ≡ shared x * scale + rowAt zs (at + 512) x)

@@ -15,12 +15,14 @@ use Rattle.meaning.specs.InPlace.{degreeIn}
 use Rattle.meaning.specs.Shown.{pick}
 use Rattle.meaning.specs.Rows.{HoldsF}
 use Rattle.meaning.proofs.Rows.{Opened, opened}
+use Rattle.register.specs.Image.{Asked}
 use Rattle.graph.specs.Sets.{Spread}
 use Rattle.graph.proofs.Same.{best-same, pick-same}
-use Rattle.degrees.specs.Case.{Case, Member}
+use Rattle.degrees.specs.Case.{Case, Member, Items, Room}
 use Rattle.degrees.specs.Notes.{Note, Noted, Outside}
 use Rattle.degrees.specs.Heavy.{Written}
 use Rattle.degrees.specs.Given.{rowAt, Worked, Done, Below}
+use Rattle.degrees.proofs.Room.{room-one}
 use Rattle.degrees.proofs.Stands.{below}
 use Rattle.degrees.proofs.Folding.{given}
 use Rattle.degrees.proofs.Noted.{noted-same}
@@ -39,6 +41,15 @@ module _ {s : List ℕ} {items : ℕ} {index names roles ends marks : List ℕ} 
 
   pub rows : HoldsF names roles ends (children (k .tree)) (left - 1) (node + 1) (getD ends node 0)
   rows = below names roles ends (k .tree) left node (getD ends node 0) (k .held)
+
+  pub items-named : (set : List ℕ) → Items items set → Items (length (k .graph .register .names)) set
+  items-named set w = (w .0, λ x m. omega (arith, w .1 x m, k .graph .items-are))
+
+  pub asked-items : (set : List ℕ) → Items items set → Asked s (λ g. Items (length (g .names)) set)
+  asked-items set w = record { register = k .graph .register; read = k .graph .read; holds = items-named set w }
+
+  pub room-here : (size at : ℕ) → Room size at (getD ends node 0 - node) → at + 512 ≤ size
+  room-here size at room = room-one room (omega (arith, here .2))
 
   -- what is done at a set that has all that another reaches, is done where that reaches
   pub reach-done : (set in′ : List ℕ) (role at scale : ℕ) (notes mid numbers ys : List ℕ) → role ≡ getD roles node 0 → Spread graph items set role in′

@@ -20,6 +20,7 @@ ghost use Rattle.degrees.specs.Given.{rowAt, Kept, Worked, Done, Below, 
 
 // A row of numbers has a place for each item that there may be; six rows are enough for the largest tree.
 pub const ROW: usize = 512;
+
 pub const NUMBERS: usize = 3072;
 
 // Of some links: the greatest value of an end (0 where there is no link), and the first link whose end has it.
@@ -259,7 +260,20 @@ pub fn work(
     );
     own(s, names[node], scale, set, at, numbers);
     others(
-        s, items, index, names, roles, ends, marks, node, left, set, heavy, scale, at, notes,
+        s,
+        items,
+        index,
+        names,
+        roles,
+        ends,
+        marks,
+        node,
+        left,
+        set,
+        heavy,
+        scale,
+        at,
+        notes,
         numbers,
     )
 }
