@@ -5,7 +5,7 @@ use Rattle.asking.proofs.margin_of.Statement.{statement}
 use Rattle.asking.proofs.margin_of.Tie as tie
 use native.Mathlib.Omega.{arith}
 use Rattle.fields.proofs.Known.{bytes-known}
-use Rattle.degree.proofs.Entry.{graded-fits}
+use Rattle.shown.proofs.Entry.{graded-fits}
 use Rattle.asking.proofs.Calls.{margin-stopped, case, margin-no-item, margin-no-threshold, margin-small, margin-answer}
 
 read-both-requires : tie.Need-read-both-requires
@@ -79,7 +79,7 @@ lowest-requires c κs =
     let done = at-read-both .read-both .ensures in
     let told = at-b .b .given .1 in
     let k = case image message item _ _ done _ _ _ told (bytes-known image (at-shared-slice-known .shared-slice-known .given)) in
-    graded-fits (k .register) (k .tree) item _ (c .before .shown-at .ensures .0 k) .0
+    graded-fits (k .register) (k .tree) item _ (c .before .shown-at .ensures k .0) .0
 
 against-requires : tie.Need-against-requires
 against-requires c κs =
@@ -95,7 +95,7 @@ against-requires c κs =
     let done = at-read-both .read-both .ensures in
     let told = at-b .b .given .1 in
     let k = case image message item _ _ done _ _ _ told (bytes-known image (at-shared-slice-known .shared-slice-known .given)) in
-    margin-small image message item _ _ done _ _ _ told _ _ _ (at-wrong .wrong .ensures) (at-if2 .if2 .left) _ _ (c .before .before .shown-at .ensures .0 k) (c .lowest .ensures)
+    margin-small image message item _ _ done _ _ _ told _ _ _ (at-wrong .wrong .ensures) (at-if2 .if2 .left) _ _ (c .before .before .shown-at .ensures k .0) (c .lowest .ensures)
 
 enum-known-b-2 : tie.Need-enum-known-b-2
 enum-known-b-2 c = search needs
@@ -117,7 +117,7 @@ returns-3 c =
     let told = at-b .b .given .1 in
     let k = case image message item _ _ done _ _ _ told (bytes-known image (at-shared-slice-known .shared-slice-known .given)) in
     let rule = at-wrong .wrong .ensures in
-    let graded = at-shown-at .shown-at .ensures .0 k in
+    let graded = at-shown-at .shown-at .ensures k .0 in
     let low = c .before .before .lowest .ensures in
     margin-answer image message item _ _ done _ _ _ told _ _ _ rule (at-if2 .if2 .left) _ _ graded low (omega (arith, at-if1 .if1 .left))
     _ (c .before .against .ensures .0) (c .before .against .ensures .1)
