@@ -245,11 +245,31 @@ pub fn shown_at(
 {
     if links <= 512 {
         return shown_small(
-            s, items, links, names, roles, ends, marks, node, left, item, map,
+            s,
+            items,
+            links,
+            names,
+            roles,
+            ends,
+            marks,
+            node,
+            left,
+            item,
+            map,
         );
     }
     shown_large(
-        s, items, links, names, roles, ends, marks, node, left, item, map,
+        s,
+        items,
+        links,
+        names,
+        roles,
+        ends,
+        marks,
+        node,
+        left,
+        item,
+        map,
     )
 }
 
