@@ -9,7 +9,7 @@ use Prim.Native.Nat.{ℕ}
 use native.Mathlib.Omega.{arith}
 use lib.ListN.{length-replicate}
 use Rattle.graph.proofs.Empty.{zero-at}
-use Rattle.degrees.proofs.Noting.{clear-none}
+use Rattle.folds.proofs.Noting.{clear-none}
 use Rattle.shown.proofs.Alone.{rows-of, graded-of}
 
 -- src/lib.rt:159:40

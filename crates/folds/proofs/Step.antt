@@ -13,13 +13,13 @@ use Rattle.meaning.specs.Register.{judged}
 use Rattle.meaning.specs.Degree.{best}
 use Rattle.graph.specs.Judged.{Judged, endNo, spanned, Runs}
 use Rattle.graph.proofs.Use.{next-inside}
-use Rattle.degrees.specs.declared.Best.{Best}
-use Rattle.degrees.specs.Case.{Member}
-use Rattle.degrees.specs.Notes.{flag}
-use Rattle.degrees.specs.Given.{rowAt, Top, sumWith, Folded}
-use Rattle.degrees.proofs.Fill.{Filled, filled-none, filled-more, filled-kept, filled-apart, sum-is}
-use Rattle.degrees.proofs.OnePass.{top-same}
-use Rattle.degrees.proofs.Noting.{Noting, noteAt, noting-none, noting-more, noting-outside}
+use Rattle.folds.specs.declared.Best.{Best}
+use Rattle.folds.specs.Members.{Member}
+use Rattle.folds.specs.Notes.{flag}
+use Rattle.folds.specs.Folded.{rowAt, Top, sumWith, Folded}
+use Rattle.folds.proofs.Fill.{Filled, filled-none, filled-more, filled-kept, filled-apart, sum-is}
+use Rattle.folds.proofs.OnePass.{top-same}
+use Rattle.folds.proofs.Noting.{Noting, noteAt, noting-none, noting-more, noting-outside}
 
 module _ {s : List ℕ} {items : ℕ} {index : List ℕ} (j : Judged s items index) (members : List ℕ) (role node from to scale product : ℕ) (notes₀ numbers₀ : List ℕ) where
   -- the members before x are done

@@ -20,10 +20,10 @@ use Rattle.meaning.proofs.SessionNames.{has-none, with-has}
 use Rattle.meaning.proofs.Tests.{true-false}
 use Rattle.graph.specs.Judged.{startNo, endNo, spanned, Runs}
 use Rattle.graph.proofs.Spans.{spanned-end}
-use Rattle.degrees.specs.declared.Best.{Best}
-use Rattle.degrees.specs.Notes.{flag, Note, Outside, Clear}
-use Rattle.degrees.specs.Given.{Top}
-use Rattle.degrees.proofs.Fill.{before-on}
+use Rattle.folds.specs.declared.Best.{Best}
+use Rattle.folds.specs.Notes.{flag, Note, Outside, Clear}
+use Rattle.folds.specs.Folded.{Top}
+use Rattle.folds.proofs.Fill.{before-on}
 
 -- notes with no places
 pub clear-none : (n e : ℕ) → Clear [] n e

@@ -1,7 +1,7 @@
-use Rattle.degrees.proofs.bare.Statement.{statement}
-use Rattle.degrees.proofs.bare.Tie as tie
-use Rattle.degrees.proofs.bare.Reads as reads
-use Rattle.degrees.proofs.bare.Lts as lts
+use Rattle.folds.proofs.bare.Statement.{statement}
+use Rattle.folds.proofs.bare.Tie as tie
+use Rattle.folds.proofs.bare.Reads as reads
+use Rattle.folds.proofs.bare.Lts as lts
 use mathlib.Core.Path.{_≡_, refl, sym}
 use Prim.Native.Nat.{ℕ, zero, suc}
 use native.Mathlib.Omega.{arith}

@@ -8,7 +8,7 @@ use native.Mathlib.Decide.{ℕ-discrete, decLt}
 use native.Mathlib.Omega.{arith}
 use lib.ListN.{length, getD, set, length-set}
 use lib.Seq.{getD-set-same, getD-set-other}
-use Rattle.degrees.specs.Given.{rowAt, Kept}
+use Rattle.folds.specs.Folded.{rowAt, Kept}
 
 -- what holds of the x before i, where no x from i up to j is one of X
 pub before-on : (X : ℕ → Type 0) (P : ℕ → Type 0) (i j : ℕ) → ((x : ℕ) → i ≤ x → x < j → X x → ⊥) → ((x : ℕ) → x < i → X x → P x)

@@ -1,8 +1,8 @@
-use Rattle.degrees.proofs.own.Statement.{statement}
-use Rattle.degrees.proofs.own.Tie as tie
-use Rattle.degrees.proofs.own.Reads as reads
-use Rattle.degrees.proofs.own.Lts as lts
-use Rattle.degrees.proofs.folded.Reads as folded-reads
+use Rattle.folds.proofs.own.Statement.{statement}
+use Rattle.folds.proofs.own.Tie as tie
+use Rattle.folds.proofs.own.Reads as reads
+use Rattle.folds.proofs.own.Lts as lts
+use Rattle.folds.proofs.folded.Reads as folded-reads
 use Rattle.graph.proofs.names.Reads as names-reads
 use Rattle.graph.proofs.sets.next_in.Reads as next-in-reads
 use Rattle.fields.proofs.Known.{bytes-known}
@@ -17,9 +17,9 @@ use Rattle.meaning.specs.Register.{judged}
 use Rattle.meaning.proofs.Tests.{true-false}
 use Rattle.register.specs.Image.{Image}
 use Rattle.register.proofs.Begins.{asked-image}
-use Rattle.degrees.specs.Case.{Member}
-use Rattle.degrees.specs.Given.{rowAt}
-use Rattle.degrees.proofs.Fill.{Filled, filled-none, filled-more, filled-kept, filled-apart, sum-fits, sum-is, times-one}
+use Rattle.folds.specs.Members.{Member}
+use Rattle.folds.specs.Folded.{rowAt}
+use Rattle.folds.proofs.Fill.{Filled, filled-none, filled-more, filled-kept, filled-apart, sum-fits, sum-is, times-one}
 use borrow.Author.Needs.{needs}
 
 abbrev Inv-loop : tie.InvT-loop

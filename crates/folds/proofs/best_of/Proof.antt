@@ -1,7 +1,7 @@
-use Rattle.degrees.proofs.best_of.Statement.{statement}
-use Rattle.degrees.proofs.best_of.Tie as tie
-use Rattle.degrees.proofs.best_of.Reads as reads
-use Rattle.degrees.proofs.best_of.Lts as lts
+use Rattle.folds.proofs.best_of.Statement.{statement}
+use Rattle.folds.proofs.best_of.Tie as tie
+use Rattle.folds.proofs.best_of.Reads as reads
+use Rattle.folds.proofs.best_of.Lts as lts
 use Rattle.graph.proofs.end_of.Reads as end-of-reads
 use Prim.Native.Nat.{_≤_, _-_, _+_, ℕ}
 use native.Mathlib.Omega.{arith}
@@ -9,8 +9,8 @@ use mathlib.Core.Path.{ap}
 use lib.ListN.{getD}
 use Rattle.register.specs.Image.{Image}
 use Rattle.graph.specs.Judged.{endNo}
-use Rattle.degrees.specs.Given.{rowAt}
-use Rattle.degrees.proofs.OnePass.{Scan, scan-start, scan-pass, scan-take, scan-end}
+use Rattle.folds.specs.Folded.{rowAt}
+use Rattle.folds.proofs.OnePass.{Scan, scan-start, scan-pass, scan-take, scan-end}
 use borrow.Author.Needs.{needs}
 
 abbrev Inv-loop : tie.InvT-loop

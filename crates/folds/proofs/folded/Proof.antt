@@ -1,8 +1,8 @@
 use borrow.Author.Needs.{needs}
-use Rattle.degrees.proofs.folded.Statement.{statement}
-use Rattle.degrees.proofs.folded.Tie as tie
-use Rattle.degrees.proofs.folded.Reads as reads
-use Rattle.degrees.proofs.folded.Lts as lts
+use Rattle.folds.proofs.folded.Statement.{statement}
+use Rattle.folds.proofs.folded.Tie as tie
+use Rattle.folds.proofs.folded.Reads as reads
+use Rattle.folds.proofs.folded.Lts as lts
 use Rattle.fields.proofs.quad.Reads as quad-reads
 use mathlib.Core.Path.{ap, ap₂}
 use Prim.Native.Nat.{ℕ, _*_, _+_}

@@ -1,10 +1,10 @@
-use Rattle.degrees.proofs.fold.Statement.{statement}
-use Rattle.degrees.proofs.fold.Tie as tie
-use Rattle.degrees.proofs.fold.Reads as reads
-use Rattle.degrees.proofs.fold.Lts as lts
-use Rattle.degrees.proofs.best_of.Reads as best-of-reads
-use Rattle.degrees.proofs.folded.Reads as folded-reads
-use Rattle.degrees.proofs.note.Reads as note-reads
+use Rattle.folds.proofs.fold.Statement.{statement}
+use Rattle.folds.proofs.fold.Tie as tie
+use Rattle.folds.proofs.fold.Reads as reads
+use Rattle.folds.proofs.fold.Lts as lts
+use Rattle.folds.proofs.best_of.Reads as best-of-reads
+use Rattle.folds.proofs.folded.Reads as folded-reads
+use Rattle.folds.proofs.note.Reads as note-reads
 use Rattle.graph.proofs.run.Reads as run-reads
 use Rattle.graph.proofs.sets.next_in.Reads as next-in-reads
 use Prim.Native.Nat.{_≤_, _<_, _-_, _+_, _*_, ℕ}
@@ -16,9 +16,9 @@ use Rattle.fields.proofs.Known.{bytes-known}
 use Rattle.meaning.proofs.Tests.{true-false}
 use Rattle.graph.specs.Judged.{Judged}
 use Rattle.graph.proofs.Use.{asked-links}
-use Rattle.degrees.specs.Case.{Member}
-use Rattle.degrees.proofs.Fill.{sum-fits}
-use Rattle.degrees.proofs.Step.{Stepped, step-none, step-value, step-more, step-end}
+use Rattle.folds.specs.Members.{Member}
+use Rattle.folds.proofs.Fill.{sum-fits}
+use Rattle.folds.proofs.Step.{Stepped, step-none, step-value, step-more, step-end}
 use borrow.Author.Needs.{needs}
 
 abbrev Inv-loop : tie.InvT-loop

@@ -1,8 +1,8 @@
 use borrow.Author.Needs.{needs}
-use Rattle.degrees.proofs.note.Statement.{statement}
-use Rattle.degrees.proofs.note.Tie as tie
-use Rattle.degrees.proofs.note.Reads as reads
-use Rattle.degrees.proofs.note.Lts as lts
+use Rattle.folds.proofs.note.Statement.{statement}
+use Rattle.folds.proofs.note.Tie as tie
+use Rattle.folds.proofs.note.Reads as reads
+use Rattle.folds.proofs.note.Lts as lts
 use Rattle.fields.proofs.bits.marked.Reads as marked-reads
 use mathlib.Core.Path.{refl, sym, ap}
 use Prim.Native.Nat.{ℕ}

@@ -1,9 +1,9 @@
-use Rattle.degrees.proofs.alone.Statement.{statement}
-use Rattle.degrees.proofs.alone.Tie as tie
-use Rattle.degrees.proofs.alone.Reads as reads
-use Rattle.degrees.proofs.alone.Lts as lts
-use Rattle.degrees.proofs.at_least_one.Reads as at-least-one-reads
-use Rattle.degrees.proofs.bare.Reads as bare-reads
+use Rattle.folds.proofs.alone.Statement.{statement}
+use Rattle.folds.proofs.alone.Tie as tie
+use Rattle.folds.proofs.alone.Reads as reads
+use Rattle.folds.proofs.alone.Lts as lts
+use Rattle.folds.proofs.at_least_one.Reads as at-least-one-reads
+use Rattle.folds.proofs.bare.Reads as bare-reads
 use Rattle.fields.proofs.quad.Reads as quad-reads
 use Rattle.graph.proofs.names.Reads as names-reads
 use Rattle.graph.proofs.sets.next_in.Reads as next-in-reads
@@ -20,8 +20,8 @@ use Rattle.meaning.specs.Degree.{orOne}
 use Rattle.meaning.proofs.Tests.{true-false}
 use Rattle.register.specs.Image.{Image}
 use Rattle.register.proofs.Begins.{asked-image}
-use Rattle.degrees.specs.Case.{Member}
-use Rattle.degrees.proofs.Fill.{Filled, filled-none, filled-more, filled-kept}
+use Rattle.folds.specs.Members.{Member}
+use Rattle.folds.proofs.Fill.{Filled, filled-none, filled-more, filled-kept}
 use borrow.Author.Needs.{needs}
 
 abbrev Inv-loop : tie.InvT-loop

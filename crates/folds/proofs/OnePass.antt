@@ -16,8 +16,8 @@ use Rattle.meaning.proofs.Best.{pick-some}
 use Rattle.graph.specs.Judged.{endNo, spanned}
 use Rattle.graph.proofs.Spans.{spanned-step, spanned-end}
 use Rattle.graph.proofs.Same.{Agree, best-same, pick-same}
-use Rattle.degrees.specs.declared.Best.{Best}
-use Rattle.degrees.specs.Given.{Top}
+use Rattle.folds.specs.declared.Best.{Best}
+use Rattle.folds.specs.Folded.{Top}
 
 module _ (v e : ℕ → ℕ) (first end : ℕ) where
   -- the links before the k-th are looked at
