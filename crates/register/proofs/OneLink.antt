@@ -14,8 +14,8 @@ use Rattle.meaning.specs.Refusal.{Answer, good, refused, at, refuseIf, _>>=_, _
 use Rattle.meaning.specs.Bounds.{mostItems, mostRole}
 use Rattle.meaning.specs.Bytes.{number, fields, Bytes}
 use Rattle.meaning.specs.Register.{Link, linkAt, above, readLink}
-use Rattle.meaning.proofs.Reading.{pass, stop, stopped, halted, took, below, not-below, at-most, not-le, fitted, number-one, number-two, number-eight}
-use Rattle.register.specs.Reading.{key, Floor, paperLink, keyed, Quick, cutAt}
+use Rattle.meaning.proofs.Reading.{pass, stop, stopped, halted, took, below, not-below, at-most, not-le, fitted, number-one, number-two}
+use Rattle.register.specs.Reading.{key, Floor, paperLink, keyed, Right, cutAt}
 use Rattle.register.proofs.Rising.{above-floor}
 
 module _ (s : List ℕ) (end n : ℕ) (before : Option Link) (p : ℕ) where
@@ -89,13 +89,6 @@ module _ (s : List ℕ) (end n : ℕ) (before : Option Link) (p : ℕ) where
 
 -- ---- by the number alone
 
--- a number's parts, which are small
-whole-number : (a r t : ℕ) → a < 65536 → r < 256 → t < 65536 → (a * 256 + r) * 65536 + t < 1099511627776
-whole-number a r t h k l = omega arith
-
-lowest : (h k : ℕ) → k < 1099511627776 → (h * 1099511627776 + k) % 1099511627776 ≡ k
-lowest h k l = omega arith
-
 part-to : (a r t : ℕ) → t < 65536 → ((a * 256 + r) * 65536 + t) % 65536 ≡ t
 part-to a r t l = omega arith
 
@@ -105,42 +98,32 @@ part-role a r t k l = omega arith
 part-from : (a r t n : ℕ) → (a * 256 + r) * 65536 + t < n * 16777216 → a < n
 part-from a r t n h = omega arith
 
-byte-at : (s : List ℕ) {i j : ℕ} → i ≡ j → getD s i 0 ≡ getD s j 0
-byte-at s e = ap (λ (z : ℕ). getD s z 0) e
+module _ (s : List ℕ) where
+  -- the number of a link from its first four bytes and its last
+  pub key-parts : (front last at : ℕ) → front ≡ number s at 2 * 65536 + number s (at + 2) 2 → last ≡ number s (at + 4) 1 → front * 256 + last ≡ key (linkAt s at)
+  key-parts front last at ef el =
+      let e0 : getD s (at + 2 + 1) 0 ≡ getD s (at + 3) 0 = ap (λ (z : ℕ). getD s z 0) (omega arith) in
+      let e1 : getD s (at + 3 + 1) 0 ≡ getD s (at + 4) 0 = ap (λ (z : ℕ). getD s z 0) (omega arith) in
+      omega (arith, number-two s (at + 2), number-two s (at + 3), number-one s (at + 2), number-one s (at + 4))
 
-module _ (s : List ℕ) (b : Bytes s) where
-  two-below : (p : ℕ) → number s p 2 < 65536
-  two-below p = omega (arith, number-two s p, b p, b (p + 1))
+  module _ (b : Bytes s) where
+    two-below : (p : ℕ) → number s p 2 < 65536
+    two-below p = omega (arith, number-two s p, b p, b (p + 1))
 
-  one-below : (p : ℕ) → number s p 1 < 256
-  one-below p = omega (arith, number-one s p, b p)
+    one-below : (p : ℕ) → number s p 1 < 256
+    one-below p = omega (arith, number-one s p, b p)
 
-  -- the lowest five of eight bytes
-  pub low-five : (p at : ℕ) → p + 3 ≡ at → number s p 8 % 1099511627776 ≡ key (linkAt s at)
-  low-five p at e =
-      let h = number s p 2 * 256 + getD s (p + 2) 0 in
-      let e0 = byte-at s {i = p + 2 + 1} {j = at} (omega arith) in
-      let e1 = byte-at s {i = p + 4} {j = at + 1} (omega arith) in
-      let e2 = byte-at s {i = p + 4 + 1} {j = at + 2} (omega arith) in
-      let e3 : number s (p + 6) 2 ≡ number s (at + 3) 2 = ap (λ (z : ℕ). number s z 2) (omega arith) in
-      let parts : number s p 8 ≡ h * 1099511627776 + key (linkAt s at) =
-      omega (arith, number-eight s p, number-two s (p + 2), number-two s (p + 4), number-two s at, number-one s (at + 2)) in
-      ap (λ (z : ℕ). z % 1099511627776) parts
-      ∙ lowest h (key (linkAt s at)) (whole-number (number s at 2) (number s (at + 2) 1) (number s (at + 3) 2) (two-below at) (one-below (at + 2)) (two-below (at + 3)))
-
-  -- a link whose number passes every test
-  pub link-quick : (end n p floor k : ℕ) → p + 5 ≤ end → n ≤ mostItems → k ≡ key (linkAt s p) → floor ≤ k → k < n * 16777216
-      → k % 65536 < n → k / 65536 % 256 ≤ mostRole → Quick s end n p floor (k + 1)
-  link-quick end n p floor k fit few ek low from to role =
-      let a = number s p 2 in
-      let r = number s (p + 2) 1 in
-      let t = number s (p + 3) 2 in
-      let er : k / 65536 % 256 ≡ r = ap (λ (z : ℕ). z / 65536 % 256) ek ∙ part-role a r t (one-below (p + 2)) (two-below (p + 3)) in
-      let et : k % 65536 ≡ t = ap (λ (z : ℕ). z % 65536) ek ∙ part-to a r t (two-below (p + 3)) in
-      let ha : a < n = part-from a r t n (subst (λ (z : ℕ). z < n * 16777216) ek from) in
-      let hr : r ≤ mostRole = subst (λ (z : ℕ). z ≤ mostRole) er role in
-      let ht : t < n = subst (λ (z : ℕ). z < n) et to in
-      let hf : floor ≤ key (linkAt s p) = subst (λ (z : ℕ). floor ≤ z) ek low in (
-        fit,
-        λ before fl. ap (λ (z : ℕ). good (z + 1)) ek ∙ sym (link-good s end n before p fit ha hr ht few floor fl hf),
-      )
+    -- a link whose number passes every test
+    pub link-passed : (end n p floor k : ℕ) (before : Option Link) → p + 5 ≤ end → n ≤ mostItems → k ≡ key (linkAt s p) → Right k n floor → Floor before floor
+        → good (k + 1) ≡ keyed (readLink s end n before p)
+    link-passed end n p floor k before fit few ek w fl =
+        let a = number s p 2 in
+        let r = number s (p + 2) 1 in
+        let t = number s (p + 3) 2 in
+        let er : k / 65536 % 256 ≡ r = ap (λ (z : ℕ). z / 65536 % 256) ek ∙ part-role a r t (one-below (p + 2)) (two-below (p + 3)) in
+        let et : k % 65536 ≡ t = ap (λ (z : ℕ). z % 65536) ek ∙ part-to a r t (two-below (p + 3)) in
+        let ha : a < n = part-from a r t n (subst (λ (z : ℕ). z < n * 16777216) ek (w .1)) in
+        let hr : r ≤ mostRole = subst (λ (z : ℕ). z ≤ mostRole) er (w .3) in
+        let ht : t < n = subst (λ (z : ℕ). z < n) et (w .2) in
+        let hf : floor ≤ key (linkAt s p) = subst (λ (z : ℕ). floor ≤ z) ek (w .0) in
+        ap (λ (z : ℕ). good (z + 1)) ek ∙ sym (link-good s end n before p fit ha hr ht few floor fl hf)

@@ -1,22 +1,26 @@
 use borrow.Author.Needs.{needs}
 use Rattle.register.proofs.key_at.Statement.{statement}
 use Rattle.register.proofs.key_at.Tie as tie
-use mathlib.Core.Path.{ap, _∙_}
-use Prim.Native.Nat.{ℕ, _%_}
-use native.Mathlib.Omega.{arith}
-use Rattle.fields.proofs.Known.{bytes-known}
-use Rattle.register.proofs.OneLink.{low-five}
+use Rattle.register.proofs.OneLink.{key-parts}
 
-sub-eight : tie.Need-sub-eight
-sub-eight c = search needs
+four-requires : tie.Need-four-requires
+four-requires c κs = search needs
 
-eight-requires : tie.Need-eight-requires
-eight-requires c κs = search needs
+mul-result : tie.Need-mul-result
+mul-result c = search needs
+
+add-one : tie.Need-add-one
+add-one c = search needs
+
+one-requires : tie.Need-one-requires
+one-requires c κs = search needs
+
+add-result : tie.Need-add-result
+add-result c = search needs
 
 returns : tie.Need-returns
 returns c =
-    let a = c .before .before .args in
-    ap (λ (z : ℕ). z % 1099511627776) (c .eight .ensures) ∙ low-five (a .s .now) (bytes-known (a .s .now) (c .before .shared-slice-known .given)) _ (a .at) (omega arith)
+    key-parts (c .before .before .before .args .s .now) _ _ _ (c .before .four .ensures .0) (c .one .ensures .0)
 
 pub key-at-spec : {M : Type 1} → statement M
-key-at-spec = tie.close (tie.spec sub-eight eight-requires returns)
+key-at-spec = tie.close (tie.spec four-requires mul-result add-one one-requires add-result returns)
