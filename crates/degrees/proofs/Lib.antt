@@ -1,0 +1,9 @@
+pub mod Room
+pub mod Stands
+pub mod But
+pub mod Seeking
+pub mod Folding
+pub mod Noted
+pub mod Reaching
+pub mod Head
+pub mod Going
