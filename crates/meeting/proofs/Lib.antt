@@ -1,0 +1,7 @@
+pub mod Sifting
+pub mod Search
+pub mod Table
+pub mod Through
+pub mod Children
+pub mod Trail
+pub mod Cases

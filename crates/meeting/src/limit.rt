@@ -1,0 +1,42 @@
+// Of a set of items stay those that satisfy a threshold: its inner concept is read again from the message, and their degrees are worked out.
+use graph::sets;
+ghost use mathlib.Core.Path.{_≡_};
+ghost use Prim.Native.Nat.{_≤_, _<_};
+ghost use lib.ListN.{length, getD};
+ghost use Rattle.meaning.specs.Bounds.{mostItems, mostQ};
+ghost use Rattle.meaning.specs.Fraction.{_//_, compares};
+ghost use Rattle.meaning.specs.Message.{comparison};
+ghost use Rattle.meaning.specs.Register.{judged};
+ghost use Rattle.meaning.specs.Requirement.{Threshold, passes};
+ghost use Rattle.graph.specs.Judged.{Judged};
+ghost use Rattle.graph.specs.Sets.{Among};
+ghost use Rattle.meeting.specs.Cells.{Sifted};
+ghost use Rattle.meeting.specs.Standing.{StandsAt, OneStands};
+
+// Of a set stay the items that satisfy the threshold at `first`.
+pub fn judge(s: &[u8], items: usize, index: &[u16], message: &[u8], first: usize, set: &mut [u64])
+    requires { ⌜ Judged (now s) items (now index) ⌝ }
+    requires { ⌜ OneStands (now message) first ⌝ }
+    requires { ⌜ (length (now set) ≡ 8) × Among items (now set) ⌝ }
+    ensures { λ _. ⌜ ((j : Judged (now (s .entry)) items (now (index .entry))) (h : Threshold) → StandsAt (now (message .entry)) first h
+        → Sifted (λ x. passes (judged (j .register)) h x) (now (set .entry)) (now (set .exit))) ⌝ }
+{
+    if meaning::MOST_ITEMS <= sets::next_in(set, 0) {
+        return;
+    }
+    let mut numbers = [0u32; 3072];
+    sift(&numbers, 1, message[first], 0, 1, set);
+}
+
+// Of a set stay the items whose number over the scale satisfies a comparison with p / q.
+fn sift(values: &[u32], scale: u64, how: u8, p: u64, q: u64, set: &mut [u64])
+    requires { ⌜ (mostItems ≤ length (now values)) × (length (now set) ≡ 8) × (scale < 4294967296) × (p ≤ mostQ) × (q ≤ mostQ) ⌝ }
+    ensures { λ _. ⌜ Sifted (λ x. compares (comparison how) (getD (now (values .entry)) x 0 // scale) (p // q)) (now (set .entry)) (now (set .exit)) ⌝ }
+{
+    let mut x = sets::next_in(set, 0);
+    while x < meaning::MOST_ITEMS {
+        let yes = fractions::satisfies(how, fields::quad(values[x]), scale, p, q);
+        crate::retain(set, x, yes);
+        x = sets::next_in(set, x + 1);
+    }
+}
