@@ -1,0 +1,13 @@
+pub mod Room
+pub mod Fill
+pub mod OnePass
+pub mod Noting
+pub mod Step
+pub mod Stands
+pub mod But
+pub mod Seeking
+pub mod Folding
+pub mod Noted
+pub mod Reaching
+pub mod Head
+pub mod Going

@@ -1,0 +1,86 @@
+-- What is asked at a node, from what is asked at its parent; and what its numbers, which are worked out where its parent's items reach, do to
+-- those of the parent.
+-- Assumes nothing.
+use mathlib.Core.Path.{_≡_, refl, sym, ap, subst, _∙_}
+use mathlib.Core.Logic.{inl, inr}
+use mathlib.Core.List.{List, List·Memᴰ}
+use Prim.Native.Nat.{ℕ, _+_, _-_, _≤_, _<_}
+use native.Mathlib.Omega.{arith}
+use lib.ListN.{length, getD}
+use Rattle.meaning.specs.Tree.{children}
+use Rattle.meaning.specs.Graph.{Graph}
+use Rattle.meaning.specs.Register.{judged}
+use Rattle.meaning.specs.Degree.{best}
+use Rattle.meaning.specs.InPlace.{degreeIn}
+use Rattle.meaning.specs.Shown.{pick}
+use Rattle.meaning.specs.Rows.{HoldsF}
+use Rattle.meaning.proofs.Rows.{Opened, opened}
+use Rattle.register.specs.Image.{Asked}
+use Rattle.graph.specs.Sets.{Spread}
+use Rattle.graph.proofs.Same.{best-same, pick-same}
+use Rattle.degrees.specs.Case.{Case, Member, Items, Room}
+use Rattle.degrees.specs.Notes.{Note, Noted, Outside}
+use Rattle.degrees.specs.Heavy.{Written}
+use Rattle.degrees.specs.Given.{rowAt, Worked, Done, Below}
+use Rattle.degrees.proofs.Room.{room-one}
+use Rattle.degrees.proofs.Stands.{below}
+use Rattle.degrees.proofs.Folding.{given}
+use Rattle.degrees.proofs.Noted.{noted-same}
+
+module _ {s : List ℕ} {items : ℕ} {index names roles ends marks : List ℕ} {node left : ℕ} (k : Case s items index names roles ends marks node left) where
+  abbrev pub graph : Graph ℕ
+  graph = judged (k .graph .register)
+
+  abbrev pub written : Written ends node
+  written = record { names = names; roles = roles; left = left; tree = k .tree; held = k .held; few = k .few }
+
+  pub here : (0 < left) × (node < 64) × (node < getD ends node 0)
+  here =
+      let root = opened names roles ends (k .tree) left node (getD ends node 0) (k .held) in
+      (root .deep, let l = root .inside in let m = k .few in omega arith, root .inside)
+
+  pub rows : HoldsF names roles ends (children (k .tree)) (left - 1) (node + 1) (getD ends node 0)
+  rows = below names roles ends (k .tree) left node (getD ends node 0) (k .held)
+
+  pub items-named : (set : List ℕ) → Items items set → Items (length (k .graph .register .names)) set
+  items-named set w = (w .0, λ x m. omega (arith, w .1 x m, k .graph .items-are))
+
+  pub asked-items : (set : List ℕ) → Items items set → Asked s (λ g. Items (length (g .names)) set)
+  asked-items set w = record { register = k .graph .register; read = k .graph .read; holds = items-named set w }
+
+  pub room-here : (size at : ℕ) → Room size at (getD ends node 0 - node) → at + 512 ≤ size
+  room-here size at room = room-one room (omega (arith, here .2))
+
+  -- what is done at a set that has all that another reaches, is done where that reaches
+  pub reach-done : (set in′ : List ℕ) (role at scale : ℕ) (notes mid numbers ys : List ℕ) → role ≡ getD roles node 0 → Spread graph items set role in′
+      → Done k (Member in′) at scale notes mid numbers ys → Done k (Below graph set (getD roles node 0)) at scale notes mid numbers ys
+  reach-done set in′ role at scale notes mid numbers ys er sp d = record {
+    worked = record { scaled = d .worked .scaled; each = λ y q. d .worked .each y (inside y q) };
+    noted = λ y q. d .noted y (inside y q);
+    outside = d .outside;
+    kept = d .kept;
+  }
+    where
+      inside : (y : ℕ) → Below graph set (getD roles node 0) y → Member in′ y
+      inside y q = sp .closed (q .0) y (q .1) (rw er (q .2))
+
+  module _ (set : List ℕ) (role at scale : ℕ) (notes mid numbers ys : List ℕ) (er : role ≡ getD roles node 0)
+      (d : Done k (Below graph set (getD roles node 0)) at scale notes mid numbers ys) (x : ℕ) (m : Member set x) where
+    agree : (y : ℕ) → List·Memᴰ y (graph .next x (getD roles node 0)) → rowAt ys at y ≡ degreeIn graph (k .tree) y
+    agree y q = d .worked .each y (x, m, q)
+
+    pub reach-best : best (rowAt ys at) (graph .next x role) ≡ given roles graph node (k .tree) x
+    reach-best = rw er (best-same (rowAt ys at) (λ y. degreeIn graph (k .tree) y) (graph .next x (getD roles node 0)) agree)
+
+    reach-pick : pick (rowAt ys at) (graph .next x role) ≡ pick (λ y. degreeIn graph (k .tree) y) (graph .next x (getD roles node 0))
+    reach-pick = rw er (pick-same (rowAt ys at) (λ y. degreeIn graph (k .tree) y) (graph .next x (getD roles node 0)) agree)
+
+    -- and then it is noted
+    pub reach-one : (new : List ℕ) → length new ≡ length mid → Outside node (node + 1) mid new → Note (k .graph .register) new node x (pick (rowAt ys at) (graph .next x role))
+        → Note (k .graph .register) new node x (pick (λ y. degreeIn graph (k .tree) y) (graph .next x (getD roles node 0)))
+        × ((y : ℕ) → List·Memᴰ y (graph .next x (getD roles node 0)) → Noted ends marks (k .graph .register) new (k .tree) node y)
+    reach-one new size on w = (
+      rw (← reach-pick) w,
+      λ y q. noted-same names roles ends marks (k .graph .register) mid new (k .tree) left node (getD ends node 0) y (k .held) size (λ j a b l. on j l (inr (omega arith)))
+          (d .noted y (x, m, q)),
+    )

@@ -1,0 +1,4 @@
+pub mod Case
+pub mod Notes
+pub mod Heavy
+pub mod Given
