@@ -70,7 +70,7 @@ module _ (names roles ends : List ℕ) (G : Graph ℕ) where
       pub then : (set′ new : List ℕ) → Sifted (λ x. any (λ y. member G tree y) (G .next x (getD roles c 0))) set set′
           → SameRows m new (n + 1) c
           → ((x y : ℕ) → inSet set x ≡ true → List·Memᴰ y (G .next x (getD roles c 0))
-              → (cell new c y ≡ member G tree y) × (member G tree y ≡ true → Right ends G new tree c y))
+          → (cell new c y ≡ member G tree y) × (member G tree y ≡ true → Right ends G new tree c y))
           → Rest set′ new (getD ends c 0)
 
     pub rest-child : (set m : List ℕ) (c : ℕ) → Rest set m c → n < c → c < e → Child set m c
@@ -104,11 +104,11 @@ module _ (names roles ends : List ℕ) (G : Graph ℕ) where
                     let was = stayed (λ y. any (λ y. member G u y) (G .next y (getD roles c 0))) set set′ q x z .0 in
                     so x was new′ (λ j a b. s j a (omega arith) ∙ same j a b) (
                       (λ y mem.
-                      let mem′ : List·Memᴰ y (G .next x (getD roles c 0)) = subst (λ (v : ℕ). List·Memᴰ y (G .next x v)) (sym (h .0)) mem in
-                      let p = g x y was mem′ in (
-                        same-cell new new′ (n + 1) (getD ends c 0) c s (omega arith) (omega arith) y ∙ p .0,
-                        λ yes. right-kept new new′ u left c (getD ends c 0) y (h .2) (λ j a b. s j (omega arith) b) (p .1 yes),
-                      )),
+                          let mem′ : List·Memᴰ y (G .next x (getD roles c 0)) = subst (λ (v : ℕ). List·Memᴰ y (G .next x v)) (sym (h .0)) mem in
+                          let p = g x y was mem′ in (
+                            same-cell new new′ (n + 1) (getD ends c 0) c s (omega arith) (omega arith) y ∙ p .0,
+                            λ yes. right-kept new new′ u left c (getD ends c 0) y (h .2) (λ j a b. s j (omega arith) b) (p .1 yes),
+                          )),
                       v,
                     );
               };

@@ -5,3 +5,4 @@ pub mod Through
 pub mod Children
 pub mod Trail
 pub mod Cases
+pub mod Inner

@@ -144,9 +144,7 @@ fn meet(
         → Done (now (ends .entry)) (judged (k .graph .register)) (k .tree) node (now (set .entry)) (now (set .exit)) (now (met .entry)) (now (met .exit))) ⌝ }
 {
     hold(s, names[node], set);
-    screen(
-        s, items, index, message, owners, firsts, parts, node, set,
-    );
+    screen(s, items, index, message, owners, firsts, parts, node, set);
     let e = fields::octet(ends[node]);
     let mut c = node + 1;
     while c < e {
@@ -250,7 +248,20 @@ pub fn settle(
     let mut set = [0u64; 8];
     sets::include(&mut set, item);
     meet(
-        s, items, index, message, names, roles, ends, owners, firsts, parts, 0, 17, &mut set, &mut met,
+        s,
+        items,
+        index,
+        message,
+        names,
+        roles,
+        ends,
+        owners,
+        firsts,
+        parts,
+        0,
+        17,
+        &mut set,
+        &mut met,
     );
     if !sets::contains(&set, item) {
         return false;

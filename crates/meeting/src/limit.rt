@@ -10,6 +10,8 @@ ghost use Rattle.meaning.specs.Register.{judged};
 ghost use Rattle.meaning.specs.Requirement.{Threshold, passes};
 ghost use Rattle.graph.specs.Judged.{Judged};
 ghost use Rattle.graph.specs.Sets.{Among};
+ghost use Rattle.degrees.specs.Case.{Member};
+ghost use Rattle.degrees.specs.Given.{Worked};
 ghost use Rattle.meeting.specs.Cells.{Sifted};
 ghost use Rattle.meeting.specs.Standing.{StandsAt, OneStands};
 
@@ -25,7 +27,37 @@ pub fn judge(s: &[u8], items: usize, index: &[u16], message: &[u8], first: usize
         return;
     }
     let mut numbers = [0u32; 3072];
-    sift(&numbers, 1, message[first], 0, 1, set);
+    let scale = grade(s, items, index, message, first, set, &mut numbers);
+    let p = fields::two(message, first + 1) as u64;
+    let q = fields::two(message, first + 3) as u64;
+    sift(&numbers, scale, message[first], p, q, set);
+}
+
+// The degrees of the items of a set in the inner concept of the threshold at `first`, over the scale that is answered.
+fn grade(
+    s: &[u8],
+    items: usize,
+    index: &[u16],
+    message: &[u8],
+    first: usize,
+    set: &[u64],
+    numbers: &mut [u32],
+) -> u64
+    requires { ⌜ Judged (now s) items (now index) ⌝ }
+    requires { ⌜ OneStands (now message) first ⌝ }
+    requires { ⌜ (length (now set) ≡ 8) × Among items (now set) × (length (now numbers) ≡ 3072) ⌝ }
+    ensures { λ r. ⌜ ((j : Judged (now (s .entry)) items (now (index .entry))) (h : Threshold) → StandsAt (now (message .entry)) first h
+        → Worked (j .register) (h .inner) (Member (now (set .entry))) 0 r (now (numbers .exit))) ⌝ }
+{
+    let mut names = [0u64; 64];
+    let mut roles = [0u8; 64];
+    let mut ends = [0u8; 64];
+    let mut marks = [0u8; 64];
+    let at = first + 7;
+    let stop = at + fields::two(message, first + 5);
+    requirement::read_concept(message, at, stop, &mut names, &mut roles, &mut ends);
+    reduction::reduce(&names, &roles, &ends, &mut marks);
+    degrees::degrees(s, items, index, &names, &roles, &ends, &marks, set, numbers)
 }
 
 // Of a set stay the items whose number over the scale satisfies a comparison with p / q.

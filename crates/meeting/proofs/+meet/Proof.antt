@@ -109,7 +109,7 @@ meet-hold-requires : (t : ℕ) → meet-lts.Need-hold-requires (
 ) (meet-at t) meet.Post meet-Inv-loop meet-μ-loop
 meet-hold-requires t c κs =
     let p = c .before .before .before .before .before .before .before .pre .1 in
-    (asked-among (p .0 .graph) (p .1 .1), p .1 .0)
+    (asked-among (p .0 .graph) (c .before .before .before .before .before .before .before .args .set .now) (p .1 .1), p .1 .0)
 
 meet-screen-requires : (t : ℕ) → meet-lts.Need-screen-requires (
   hold-reads.Asked,
@@ -453,7 +453,7 @@ meet-slice-aggregate-meet : (t : ℕ) → meet-lts.Need-slice-aggregate-meet (
   store-reads.Learnt,
 ) (meet-at t) meet.Post meet-Inv-loop meet-μ-loop
 meet-slice-aggregate-meet t c =
-    c .before .before .spread .kept .1 .1 .1 .1 .1 .0 ∙ zeros-length
+    sym (c .before .before .spread .kept .1 .1 .1 .1 .1 .0 ∙ zeros-length)
 
 meet-meet-requires : (t : ℕ) → meet-lts.Need-meet-requires (
   hold-reads.Asked,
@@ -499,7 +499,7 @@ meet-slice-aggregate-fold : (t : ℕ) → meet-lts.Need-slice-aggregate-fold (
   store-reads.Learnt,
 ) (meet-at t) meet.Post meet-Inv-loop meet-μ-loop
 meet-slice-aggregate-fold t c =
-    c .before .before .before .before .meet .kept .1 .1 .1 .1 .1 .1 .1 .1 .1 .1 .1 .1 .0 ∙ c .before .before .before .before .before .before .before .before .spread .kept .1 .1 .1 .1 .1 .0 ∙ zeros-length
+    sym (c .before .before .before .before .meet .kept .1 .1 .1 .1 .1 .1 .1 .1 .1 .1 .1 .1 .0 ∙ c .before .before .before .before .before .before .before .before .spread .kept .1 .1 .1 .1 .1 .0 ∙ zeros-length)
 
 meet-fold-requires : (t : ℕ) → meet-lts.Need-fold-requires (
   hold-reads.Asked,

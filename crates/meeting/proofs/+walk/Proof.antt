@@ -14,7 +14,7 @@ use native.Mathlib.Omega.{arith}
 use lib.ListN.{length, getD, set, length-set}
 use Rattle.fields.proofs.Known.{bytes-known}
 use Rattle.meeting.specs.Case.{Walk}
-use Rattle.meeting.proofs.Table.{row-length}
+use Rattle.meeting.proofs.Table.{part-length}
 use Rattle.meeting.proofs.Cases.{there, Ahead, below, ahead-start, ahead-end, next, goes, next-ahead, next-walk, below-named, above-named}
 use borrow.Author.Needs.{needs}
 
@@ -228,7 +228,7 @@ walk-seek-requires : (t : ℕ) → walk-lts.Need-seek-requires (
 ) (walk-at t) walk.Post walk-Inv-loop walk-μ-loop
 walk-seek-requires t c κs =
     let h = there (c .before .before .before .before .before .before .before .before .before .before .before .before .before .pre .1 .0) in
-    (c .before .before .before .before .before .before .before .before .before .before .before .before .before .pre .1 .0 .graph, (c .before .before .before .before .before .before .before .before .before .before .before .before .before .pre .1 .0 .inside, row-length _ _ (c .before .before .before .before .before .before .before .before .before .before .before .before .before .pre .1 .1 .1) (omega (arith, h .2, c .before .before .before .before .before .loop-test .taken, c .before .before .before .before .before .before .before .octet .ensures .0))))
+    (c .before .before .before .before .before .before .before .before .before .before .before .before .before .pre .1 .0 .graph, (c .before .before .before .before .before .before .before .before .before .before .before .before .before .pre .1 .0 .inside, part-length _ (c .before .before .before .before .before .before .loop .c) (c .before .before .before .before .before .before .before .before .before .before .before .before .before .pre .1 .1 .1) (omega (arith, h .2, c .before .before .before .before .before .loop-test .taken, c .before .before .before .before .before .before .before .octet .ensures .0))))
 
 walk-sub-walk : (t : ℕ) → walk-lts.Need-sub-walk (
   octet-reads.Asked,
