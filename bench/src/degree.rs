@@ -6,12 +6,13 @@ use std::rc::Rc;
 
 use compare::library;
 use compare::worst::{all_linked, broom, bushy, chain, comb, fans};
+use good::calls;
 use second::gen::registers::register_of;
 use second::gen::{Palette, Rng};
 use second::register::{self, Register};
 use second::requirement::{self, Node};
 
-use crate::{straight, Work};
+use crate::Work;
 
 pub fn works() -> Vec<Work> {
     let mut works = vec![boards()];
@@ -25,28 +26,54 @@ fn costliest() -> Vec<Work> {
     let linked = all_linked(|item| item as u64 & 7);
     let steep = chain(|depth| depth as u64 & 7);
     let largest = fans();
-    let on_largest = "the largest image, 61 kept nodes";
+    let random = spread(512, 4096);
+    let all_to_all = "64 items all linked to each other under one role, a chain of depth 16";
+    let at_random = "512 items, 4,096 random links over 4 roles";
+    let unnamed = format!("{at_random}, 64 nodes, of which 61 are kept");
+    let named = format!("{at_random}, 30 nodes with a name each");
     vec![
-        one("linked", "64 items all linked, depth 16", &linked, &steep),
-        one("bushy", on_largest, &largest, &bushy()),
-        one("comb", "the same down to depth 16", &largest, &comb()),
-        one("broom", "the same, most at depth 16", &largest, &broom()),
-        margin("margin", on_largest, &largest, &bushy()),
-        margin("margin-broom", "most at depth 16", &largest, &broom()),
+        one("linked", all_to_all, &linked, &steep),
+        one(
+            "bushy",
+            "the largest image, 61 kept nodes at depth 2",
+            &largest,
+            &bushy(),
+        ),
+        one(
+            "comb",
+            "the largest image, 61 kept nodes down to depth 16",
+            &largest,
+            &comb(),
+        ),
+        one(
+            "broom",
+            "the largest image, 61 kept nodes, most at depth 16",
+            &largest,
+            &broom(),
+        ),
+        one("random", &unnamed, &random, &scattered(61, 3, 0)),
+        one("random-names", &named, &random, &scattered(30, 0, 30)),
+        one(
+            "random-comb",
+            &format!("{at_random}, 61 kept nodes down to depth 16"),
+            &random,
+            &comb(),
+        ),
+        margin("margin", "as bushy", &largest, &bushy()),
+        margin("margin-broom", "as broom", &largest, &broom()),
+        margin("margin-random", "as random", &random, &scattered(61, 3, 0)),
     ]
 }
 
 /// More items, more links, more nodes, each by itself.
 fn growth() -> Vec<Work> {
-    const STEPS: [(&str, usize, usize, u8); 9] = [
+    const STEPS: [(&str, usize, usize, u8); 7] = [
         ("items-128", 128, 1024, 10),
         ("items-256", 256, 1024, 10),
-        ("items-512", 512, 1024, 10),
         ("links-1024", 512, 1024, 10),
         ("links-2048", 512, 2048, 10),
         ("links-4096", 512, 4096, 10),
         ("nodes-16", 512, 4096, 5),
-        ("nodes-31", 512, 4096, 10),
         ("nodes-61", 512, 4096, 20),
     ];
     let step = |(name, items, links, count)| {
@@ -58,12 +85,45 @@ fn growth() -> Vec<Work> {
 }
 
 /// Items with links under a few roles.
-fn spread(items: usize, links: usize) -> Register {
+pub fn spread(items: usize, links: usize) -> Register {
     let palette = Palette {
         names: (0..64).collect(),
         roles: (0..4).collect(),
     };
     register_of(&mut Rng::new(1), &palette, items, links)
+}
+
+/// So many nodes hung at random, no two children of one node under the same
+/// of 4 roles, and so many leaves again, which are dropped; the first so many
+/// nodes have a name.
+pub fn scattered(nodes: usize, again: usize, named: usize) -> Node {
+    let mut rng = Rng::new(3);
+    // Of each node its parent, its role and its depth.
+    let mut rows = vec![(0, 0, 0)];
+    while rows.len() < nodes {
+        let (above, role) = (rng.index(rows.len()), rng.below(4) as u8);
+        let depth = rows[above].2 + 1;
+        let taken = (1..rows.len()).any(|row| (rows[row].0, rows[row].1) == (above, role));
+        if depth <= 16 && !taken {
+            rows.push((above, role, depth));
+        }
+    }
+    let is_leaf = |row: usize| rows.iter().skip(1).all(|other| other.0 != row);
+    let leaves = (1..nodes).filter(|row| is_leaf(*row));
+    let more: Vec<_> = leaves.take(again).map(|row| rows[row]).collect();
+    rows.extend(more);
+    hung(0, &rows, named)
+}
+
+fn hung(row: usize, rows: &[(usize, u8, usize)], named: usize) -> Node {
+    let names = if row < named { 1 << (row * 2) } else { 0 };
+    let below = (1..rows.len()).filter(|other| rows[*other].0 == row);
+    Node {
+        children: below
+            .map(|other| (rows[other].1, hung(other, rows, named)))
+            .collect(),
+        ..Node::leaf(names)
+    }
 }
 
 /// A root with so many branches under roles of their own, two leaves on each.
@@ -83,13 +143,8 @@ fn branches(count: u8) -> Node {
 /// it: one call for each board.
 fn boards() -> Work {
     let (register, root) = house();
-    work(
-        "boards",
-        "500 boards, 2,000 links, 10 nodes: 500 calls",
-        &register,
-        &root,
-        500,
-    )
+    let what = "500 boards, 2,000 links, a requirement of 10 nodes: each of 500 calls";
+    degree("boards", what, &register, &root, 500)
 }
 
 /// 500 boards and a requirement of 10 nodes.
@@ -109,72 +164,73 @@ pub fn house() -> (Register, Node) {
 
 /// One call for the first item.
 fn one(name: &'static str, what: &str, register: &Register, root: &Node) -> Work {
-    work(name, what, register, root, 1)
+    degree(name, what, register, root, 1)
 }
 
-fn work(name: &'static str, what: &str, register: &Register, root: &Node, calls: u16) -> Work {
+type Asked = fn(&[u8], &[u8], u64) -> ([u64; 4], [u16; 64]);
+
+/// One call for each of the first so many items.
+fn asking(
+    (name, calls): (&'static str, &'static str),
+    what: &str,
+    (register, root): (&Register, &Node),
+    questions: u32,
+    [library, good]: [Asked; 2],
+) -> Work {
     let image: Rc<[u8]> = register::encode(register).into();
     let message: Rc<[u8]> = requirement::encode(root).into();
-    let (same_image, same_message) = (image.clone(), message.clone());
     let both = (image.clone(), message.clone());
+    let each = |asked: Asked| -> Box<dyn Fn()> {
+        let (image, message) = (image.clone(), message.clone());
+        Box::new(move || {
+            for item in 0..questions {
+                black_box(asked(black_box(&image), black_box(&message), item.into()));
+            }
+        })
+    };
     Work {
         name,
-        what: format!("{what}, {} bytes", image.len() + message.len()),
-        other: "straightforward program",
+        calls,
+        what: what.to_string(),
+        questions,
+        library: each(library),
+        good: each(good),
         same: Box::new(move || {
             let (image, message) = &both;
-            for item in 0..calls {
-                let (mut map, mut other) = ([7; 64], [7; 64]);
-                let answer = library::degree(image, message, item.into(), &mut map);
-                let same = straight::degree(image, message, item, &mut other);
-                assert_eq!((answer[0], &answer[1..], map), (1, &same[..], other));
-            }
-        }),
-        library: Box::new(move || {
-            for item in 0..calls {
-                let mut map = [0; 64];
-                let answer = library::degree(
-                    black_box(&image),
-                    black_box(&message),
-                    item.into(),
-                    &mut map,
-                );
-                assert_eq!(black_box(answer)[0], 1);
-                black_box(map);
-            }
-        }),
-        second: Box::new(move || {
-            for item in 0..calls {
-                let mut map = [0; 64];
-                let (image, message) = (black_box(&same_image), black_box(&same_message));
-                black_box(straight::degree(image, message, item, &mut map));
-                black_box(map);
+            for item in 0..questions {
+                let answer = library(image, message, item.into());
+                assert_eq!(answer.0[0], 1);
+                assert_eq!(answer, good(image, message, item.into()));
             }
         }),
     }
+}
+
+fn degree(
+    name: &'static str,
+    what: &str,
+    register: &Register,
+    root: &Node,
+    questions: u32,
+) -> Work {
+    let library: Asked = |image, message, item| {
+        let mut map = [0; 64];
+        let answer = library::degree(image, message, item, &mut map);
+        (answer, map)
+    };
+    let good: Asked = |image, message, item| {
+        let mut map = [0; 64];
+        let answer = calls::degree(image, message, item, &mut map);
+        (answer, map)
+    };
+    let who = (name, "svelgandur_degree");
+    asking(who, what, (register, root), questions, [library, good])
 }
 
 fn margin(name: &'static str, what: &str, register: &Register, root: &Node) -> Work {
-    let image: Rc<[u8]> = register::encode(register).into();
-    let message: Rc<[u8]> = requirement::encode(root).into();
-    let (same_image, same_message) = (image.clone(), message.clone());
-    let both = (image.clone(), message.clone());
-    Work {
-        name,
-        what: format!("{what}, {} bytes", image.len() + message.len()),
-        other: "straightforward program",
-        same: Box::new(move || {
-            let (image, message) = &both;
-            let answer = library::margin(image, message, 0, 2, 3);
-            assert_eq!(answer[1..], straight::margin(image, message, 0, 2, 3));
-        }),
-        library: Box::new(move || {
-            let answer = library::margin(black_box(&image), black_box(&message), 0, 2, 3);
-            assert_eq!(black_box(answer)[0], 1);
-        }),
-        second: Box::new(move || {
-            let (image, message) = (black_box(&same_image), black_box(&same_message));
-            black_box(straight::margin(image, message, 0, 2, 3));
-        }),
-    }
+    let library: Asked =
+        |image, message, item| (library::margin(image, message, item, 2, 3), [0; 64]);
+    let good: Asked = |image, message, item| (calls::margin(image, message, item, 2, 3), [0; 64]);
+    let who = (name, "svelgandur_margin");
+    asking(who, what, (register, root), 1, [library, good])
 }

@@ -1,38 +1,62 @@
-//! The listing program beside the second program's, each started anew for
-//! every listing, with its input on a pipe.
+//! The listing program beside the good program's, each started anew for every
+//! listing, with its input on a pipe.
 
 use std::io::Write;
 use std::process::{Command, Stdio};
 use std::rc::Rc;
 
+use compare::worst::sixteen_thresholds;
+use second::requirement::Node;
 use second::{register, requirement};
 
-use crate::{degree, Work};
+use crate::{degree, member, Work};
 
-/// The list of `boards`, if both programs are there.
+const PLAIN: &str = "listing";
+const SIXTEEN: &str = "listing-sixteen";
+
+/// Both listings, if both programs are there.
 pub fn works() -> Vec<Work> {
-    let (Ok(ours), Ok(theirs)) = (std::env::var("LIST"), std::env::var("SECOND_LIST")) else {
+    let (Ok(ours), Ok(good)) = (std::env::var("LIST"), std::env::var("GOOD_LIST")) else {
         return Vec::new();
     };
-    let input: Rc<[u8]> = input().into();
-    let (first, second, third) = (input.clone(), input.clone(), input.clone());
-    let (list, other) = (ours.clone(), theirs.clone());
-    vec![Work {
-        name: "listing",
-        what: format!(
-            "500 boards against 10 nodes, {} bytes of input, a program started anew",
-            input.len()
+    let work = |name, what: &str| {
+        let input: Rc<[u8]> = input(name).into();
+        let printing = |program: &str| -> Box<dyn Fn()> {
+            let (input, program) = (input.clone(), program.to_string());
+            Box::new(move || drop(printed(&program, &input)))
+        };
+        let (list, other, same_input) = (ours.clone(), good.clone(), input.clone());
+        Work {
+            name,
+            calls: "main",
+            what: format!("{what}, {} bytes of input", input.len()),
+            questions: 1,
+            library: printing(&ours),
+            good: printing(&good),
+            same: Box::new(move || {
+                assert_eq!(printed(&list, &same_input), printed(&other, &same_input));
+            }),
+        }
+    };
+    vec![
+        work(PLAIN, "500 boards, 2,000 links, a requirement of 10 nodes"),
+        work(
+            SIXTEEN,
+            "the same boards, 21 nodes, 16 thresholds of 10 nodes each",
         ),
-        other: "second",
-        same: Box::new(move || assert_eq!(printed(&list, &first), printed(&other, &first))),
-        library: Box::new(move || drop(printed(&ours, &second))),
-        second: Box::new(move || drop(printed(&theirs, &third))),
-    }]
+    ]
 }
 
 /// The register and the requirement, one after the other.
-pub fn input() -> Vec<u8> {
-    let (register, root) = degree::house();
+pub fn input(name: &str) -> Vec<u8> {
+    let (register, plain) = degree::house();
+    let root = match name {
+        SIXTEEN => {
+            let outer = member::fan(4, &member::fan(4, &Node::leaf(0)));
+            sixteen_thresholds(outer, &plain)
+        }
+        _ => plain,
+    };
     [register::encode(&register), requirement::encode(&root)].concat()
 }
 

@@ -1,7 +1,8 @@
-//! Times of the proved library beside those of another program, in one run.
-//! `bench [NAME ..]` prints every measurement, or those named; `bench once
-//! NAME` makes both programs do one of them once, for counting instructions;
-//! `bench input` writes what the listing programs are given.
+//! Times of the proved library beside those of a good Rust program, in one
+//! run. `bench [NAME ..]` prints a line for every measurement, or for those
+//! named; `bench once NAME` makes both programs do one of them once, for
+//! counting instructions; `bench names` lists them with the library's calls in
+//! them; `bench input NAME` writes what the listing programs are given.
 
 mod degree;
 mod listing;
@@ -9,29 +10,30 @@ mod member;
 mod message;
 mod read;
 mod session;
-mod straight;
 
 use std::io::Write;
 use std::time::Instant;
 
-/// One measurement: the same work by the library and by another program.
+/// One measurement: the same work by the library and by the good program.
 pub struct Work {
     pub name: &'static str,
-    /// What is done, and to how many bytes.
+    /// The library's calls in it, whose instructions are counted.
+    pub calls: &'static str,
+    /// What is done.
     pub what: String,
-    /// Who else does it.
-    pub other: &'static str,
+    /// How often the question is put in it: the times are for one of them.
+    pub questions: u32,
     /// Sees that both come to the same.
     pub same: Box<dyn Fn()>,
     pub library: Box<dyn Fn()>,
-    pub second: Box<dyn Fn()>,
+    pub good: Box<dyn Fn()>,
 }
 
 /// Rounds, in each of which both programs have their turn.
-const ROUNDS: usize = 101;
+const ROUNDS: usize = 201;
 /// How often each does the work in its turn: as often as fills a turn, once at
 /// least and 50 times at most.
-const TURN: f64 = 1_000_000.0;
+const TURN: f64 = 500_000.0;
 const MOST_TIMES: f64 = 50.0;
 
 /// A further measurement is a module of its own and a line here.
@@ -59,36 +61,40 @@ fn main() {
             .filter(move |work| names.is_empty() || names.iter().any(|name| name == work.name))
     };
     match words.split_first() {
-        Some((first, _)) if first == "input" => std::io::stdout()
-            .write_all(&listing::input())
+        Some((first, rest)) if first == "input" => std::io::stdout()
+            .write_all(&listing::input(rest.first().map_or("", |name| name)))
             .expect("the input is written"),
+        Some((first, _)) if first == "names" => works
+            .iter()
+            .for_each(|work| println!("{} {}", work.name, work.calls)),
         Some((first, names)) if first == "once" => named(names).for_each(|work| {
             (work.library)();
-            (work.second)();
+            (work.good)();
         }),
         _ => named(&words).for_each(measure),
     }
 }
 
+/// Prints name, what, both times and their ratio, between bars: the least of
+/// all turns, for one question.
 fn measure(work: &Work) {
     (work.same)();
     // Warm: what stands in a cache stands there for both.
-    let once = turn(&work.library, 1).max(turn(&work.second, 1));
+    let once = turn(&work.library, 1).max(turn(&work.good, 1));
     let times = (TURN / once).clamp(1.0, MOST_TIMES) as u32;
-    let mut library = Vec::new();
-    let mut second = Vec::new();
+    let (mut library, mut good) = (f64::MAX, f64::MAX);
     for _ in 0..ROUNDS {
-        library.push(turn(&work.library, times));
-        second.push(turn(&work.second, times));
+        library = library.min(turn(&work.library, times));
+        good = good.min(turn(&work.good, times));
     }
-    println!("{}: {}", work.name, work.what);
-    let ours = told("library", &mut library);
-    let theirs = told(work.other, &mut second);
+    let each = f64::from(work.questions);
     println!(
-        "  library / {}: {:.2}, of the least {:.2}",
-        work.other,
-        ours.middle / theirs.middle,
-        ours.least / theirs.least
+        "{}|{}|{}|{}|{:.2}",
+        work.name,
+        work.what,
+        told(library / each),
+        told(good / each),
+        library / good
     );
 }
 
@@ -101,22 +107,16 @@ fn turn(work: &dyn Fn(), times: u32) -> f64 {
     began.elapsed().as_nanos() as f64 / f64::from(times)
 }
 
-/// Of the turns, in nanoseconds.
-struct Told {
-    least: f64,
-    middle: f64,
-}
-
-/// Prints the least, middle and greatest of the turns.
-fn told(who: &str, turns: &mut [f64]) -> Told {
-    turns.sort_by(f64::total_cmp);
-    let least = turns[0];
-    let middle = turns[turns.len() / 2];
-    println!(
-        "  {who}: {:.1} µs (least {:.1}, greatest {:.1})",
-        middle / 1000.0,
-        least / 1000.0,
-        turns[turns.len() - 1] / 1000.0,
-    );
-    Told { least, middle }
+/// So many nanoseconds with three digits.
+fn told(nanoseconds: f64) -> String {
+    let (number, unit) = match nanoseconds {
+        n if n >= 1_000_000.0 => (n / 1_000_000.0, "ms"),
+        n => (n / 1_000.0, "µs"),
+    };
+    let digits = match number {
+        n if n >= 100.0 => 0,
+        n if n >= 10.0 => 1,
+        _ => 2,
+    };
+    format!("{number:.digits$} {unit}")
 }

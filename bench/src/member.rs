@@ -1,75 +1,94 @@
-//! The yes or no on the largest register: 16 thresholds whose inner concepts
-//! have 64 nodes, and none.
+//! The yes or no: on the largest register with 16 thresholds whose inner
+//! concepts have 64 nodes, and with none; and where links go at random.
 
 use std::hint::black_box;
 use std::rc::Rc;
 
 use compare::library;
 use compare::worst::{bushy, comb, fans, sixteen_thresholds, wide};
-use second::register;
+use good::calls;
+use second::register::{self, Register};
 use second::requirement::{self, Node};
 
-use crate::{straight, Work};
+use crate::degree::{scattered, spread};
+use crate::Work;
 
 pub fn works() -> Vec<Work> {
-    // The outer tree is one that every item meets, so that a map is written.
-    let outer = || Node {
-        children: (0..8).map(|role| (role, wide_branch())).collect(),
-        ..Node::leaf(0)
-    };
+    // An outer tree that every item meets, so that a map is written.
+    let outer = || fan(8, &fan(6, &Node::leaf(0)));
+    let sixteen = |inner: &Node| sixteen_thresholds(outer(), inner);
+    let largest = fans();
+    // One that some items meet, thresholds on its leaves.
+    let random = sixteen_thresholds(fan(4, &fan(4, &Node::leaf(0))), &scattered(61, 3, 0));
     vec![
-        member("member", "no threshold, 57 nodes", &outer()),
+        member("member", "57 nodes, no threshold", &largest, &outer()),
         member(
             "sixteen",
-            "16 thresholds with inner concepts of 64 nodes, 61 kept",
-            &sixteen_thresholds(outer(), &bushy()),
+            "the same with 16 thresholds, inner concepts of 64 nodes, 61 kept",
+            &largest,
+            &sixteen(&bushy()),
         ),
         member(
             "sixteen-comb",
-            "16 thresholds with inner concepts of 64 nodes, 61 kept, to depth 16",
-            &sixteen_thresholds(outer(), &comb()),
+            "the same with inner concepts down to depth 16",
+            &largest,
+            &sixteen(&comb()),
         ),
         member(
             "sixteen-wide",
-            "16 thresholds with inner concepts of 64 nodes, 2 kept",
-            &sixteen_thresholds(outer(), &wide()),
+            "the same with inner concepts of which 2 nodes are kept",
+            &largest,
+            &sixteen(&wide()),
+        ),
+        member(
+            "sixteen-random",
+            "512 items, 4,096 random links over 4 roles, 21 nodes, 16 thresholds as random",
+            &spread(512, 4096),
+            &random,
         ),
     ]
 }
 
-fn wide_branch() -> Node {
+/// A node with so many children, each under a role of its own.
+pub fn fan(children: u8, child: &Node) -> Node {
     Node {
-        children: (0..6).map(|role| (role, Node::leaf(0))).collect(),
+        children: (0..children).map(|role| (role, child.clone())).collect(),
         ..Node::leaf(0)
     }
 }
 
-fn member(name: &'static str, what: &str, root: &Node) -> Work {
-    let image: Rc<[u8]> = register::encode(&fans()).into();
+/// The first item that meets the tree is asked for.
+fn member(name: &'static str, what: &str, register: &Register, root: &Node) -> Work {
+    let image: Rc<[u8]> = register::encode(register).into();
     let message: Rc<[u8]> = requirement::encode(root).into();
-    let (same_image, same_message) = (image.clone(), message.clone());
-    let both = (image.clone(), message.clone());
+    let item = (0..register.items() as u64)
+        .find(|item| calls::member(&image, &message, *item, &mut [0; 64])[0] == 1)
+        .expect("an item that meets it");
+    let (one, other) = (
+        (image.clone(), message.clone()),
+        (image.clone(), message.clone()),
+    );
     Work {
         name,
-        what: format!("{what}, {} bytes", image.len() + message.len()),
-        other: "straightforward program",
+        calls: "svelgandur_member",
+        what: what.to_string(),
+        questions: 1,
         same: Box::new(move || {
-            let (image, message) = &both;
-            let (mut map, mut other) = ([7; 64], [7; 64]);
-            let answer = library::member(image, message, 0, &mut map);
-            let same = straight::member(image, message, 0, &mut other);
-            assert_eq!((answer[0], Some(answer[1]), map), (1, same, other));
+            let (mut map, mut same) = ([7; 64], [7; 64]);
+            let answer = library::member(&image, &message, item, &mut map);
+            let good = calls::member(&image, &message, item, &mut same);
+            assert_eq!((answer, map), (good, same));
         }),
         library: Box::new(move || {
             let mut map = [0; 64];
-            let answer = library::member(black_box(&image), black_box(&message), 0, &mut map);
-            assert_eq!(black_box(answer)[0], 1);
+            let (image, message) = (black_box(&one.0), black_box(&one.1));
+            black_box(library::member(image, message, item, &mut map));
             black_box(map);
         }),
-        second: Box::new(move || {
+        good: Box::new(move || {
             let mut map = [0; 64];
-            let (image, message) = (black_box(&same_image), black_box(&same_message));
-            black_box(straight::member(image, message, 0, &mut map));
+            let (image, message) = (black_box(&other.0), black_box(&other.1));
+            black_box(calls::member(image, message, item, &mut map));
             black_box(map);
         }),
     }

@@ -7,7 +7,8 @@ use std::rc::Rc;
 use compare::library;
 use compare::sheet::{asking, threshold};
 use compare::worst::wide;
-use second::requirement::{encode, read, Comparison, Node};
+use good::calls;
+use second::requirement::{encode, Comparison, Node};
 
 use crate::Work;
 
@@ -17,7 +18,8 @@ pub fn longest() -> Work {
     root.thresholds = (0..16)
         .map(|_| threshold(Comparison::AtLeast, 1, 1, wide()))
         .collect();
-    reading("message", "the longest message", &root)
+    let what = "the longest message, 12,066 bytes: 64 nodes, 16 thresholds of 64 nodes each";
+    reading("message", what, &root)
 }
 
 /// Inner concepts of two equal halves, each with equal halves in turn: every
@@ -35,25 +37,28 @@ pub fn costly() -> Work {
     }
     let thresholds = (0..16).map(|_| threshold(Comparison::AtLeast, 1, 1, halves(5)));
     let root = asking(thresholds.collect());
-    reading("reduction", "16 inner concepts of equal halves", &root)
+    let what = "16 inner concepts of equal halves: each node has a sibling to be compared with";
+    reading("reduction", what, &root)
 }
 
 fn reading(name: &'static str, what: &str, root: &Node) -> Work {
     let message: Rc<[u8]> = encode(root).into();
-    let same_message = message.clone();
+    let (one, other) = (message.clone(), message.clone());
     Work {
         name,
-        what: format!("{what}, {} bytes", message.len()),
-        other: "second program",
-        // Each looks at its own answer.
-        same: Box::new(|| {}),
-        library: Box::new(move || {
-            let answer = black_box(library::read_requirement(black_box(&message)));
-            assert_eq!(answer[0], 1);
+        calls: "svelgandur_read_requirement",
+        what: what.to_string(),
+        questions: 1,
+        same: Box::new(move || {
+            let good = calls::read_requirement(&message);
+            assert_eq!(good[0], 1);
+            assert_eq!(library::read_requirement(&message), good);
         }),
-        second: Box::new(move || {
-            let answer = black_box(read(black_box(&same_message)));
-            assert!(answer.is_ok());
+        library: Box::new(move || {
+            black_box(library::read_requirement(black_box(&one)));
+        }),
+        good: Box::new(move || {
+            black_box(calls::read_requirement(black_box(&other)));
         }),
     }
 }

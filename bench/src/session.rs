@@ -1,52 +1,66 @@
 //! An edit and its undo in the largest image: the link before all others, so
-//! that all of them move, and the one behind all others.
+//! that all of them move, the one in the middle, and the one behind all others.
 
 use std::cell::RefCell;
 use std::hint::black_box;
 
 use compare::library;
 use compare::worst::fans;
+use good::session;
 use second::register::{self, Link};
 
-use crate::{straight, Work};
+use crate::Work;
 
 pub fn works() -> Vec<Work> {
     let links = fans().links;
+    let work = |name, what, at: usize| edit_and_undo(name, what, links[at]);
     vec![
-        edit_and_undo("edit-first", "the first link away and back", links[0]),
-        edit_and_undo(
-            "edit-last",
-            "the last link away and back",
-            links[links.len() - 1],
+        work(
+            "edit-first",
+            "the first of 4,096 links away and back: all others move",
+            0,
         ),
+        work("edit-middle", "the middle one", links.len() / 2),
+        work("edit-last", "the last one", links.len() - 1),
     ]
 }
 
 fn edit_and_undo(name: &'static str, what: &str, link: Link) -> Work {
     let image = register::encode(&fans());
-    let lent = RefCell::new((image.clone(), [0u64; 64]));
-    let buffer = RefCell::new(image.clone());
-    let (from, role, to) = link;
+    let link = [link.0.into(), link.1.into(), link.2.into()];
+    let lent = || RefCell::new((image.clone(), [0; 64]));
+    let (one, other, both) = (lent(), lent(), lent());
+    let before = image.clone();
     Work {
         name,
-        what: format!("{what}, {} bytes", image.len()),
-        other: "straightforward program",
-        // Each looks at its own answers.
-        same: Box::new(|| {}),
-        library: Box::new(move || {
-            let (buffer, log) = &mut *lent.borrow_mut();
-            let link = [from.into(), role.into(), to.into()];
-            let edited = library::edit_link(black_box(buffer), log, 0, 0, link);
+        calls: "svelgandur_edit_link svelgandur_undo",
+        what: what.to_string(),
+        questions: 1,
+        same: Box::new(move || {
+            let (buffer, log) = &mut *both.borrow_mut();
+            let (mut same, mut same_log) = (buffer.clone(), *log);
+            let edited = library::edit_link(buffer, log, 0, 0, link);
             assert_eq!(edited, [1, 1, 0, 0]);
-            let undone = library::undo(black_box(buffer), log, 1);
+            assert_eq!(
+                edited,
+                session::edit_link(&mut same, &mut same_log, 0, 0, link)
+            );
+            assert_eq!((&*buffer, &*log), (&same, &same_log));
+            assert_ne!(same, before);
+            let undone = library::undo(buffer, log, 1);
             assert_eq!(undone, [1, 0, 0, 0]);
+            assert_eq!(undone, session::undo(&mut same, &same_log, 1));
+            assert_eq!((&*buffer, same), (&before, before.clone()));
         }),
-        second: Box::new(move || {
-            let buffer = &mut *buffer.borrow_mut();
-            let was = straight::set_link(black_box(buffer), link, false);
-            assert!(was);
-            let was = straight::set_link(black_box(buffer), link, true);
-            assert!(!was);
+        library: Box::new(move || {
+            let (buffer, log) = &mut *one.borrow_mut();
+            black_box(library::edit_link(black_box(buffer), log, 0, 0, link));
+            black_box(library::undo(black_box(buffer), log, 1));
+        }),
+        good: Box::new(move || {
+            let (buffer, log) = &mut *other.borrow_mut();
+            black_box(session::edit_link(black_box(buffer), log, 0, 0, link));
+            black_box(session::undo(black_box(buffer), log, 1));
         }),
     }
 }

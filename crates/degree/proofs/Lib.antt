@@ -13,9 +13,3 @@ pub mod Working
 pub mod Walk
 pub mod Blank
 pub mod Entry
-pub mod Plain
-pub mod Both
-pub mod Against
-pub mod Calls
-pub mod Table
-pub mod Promise

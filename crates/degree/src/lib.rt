@@ -1,6 +1,4 @@
-// The degree of an item in a concept tree that is held as rows, over a register image that was read; the map shown for it; lowest terms.
-pub mod call; // call.rt: the degree call and the margin call
-
+// The degree of an item in a concept tree that is held as rows, over a register image that was read; and the map shown for it.
 use fields::bits;
 ghost use mathlib.Core.Path.{_≡_};
 ghost use mathlib.Core.Bool.{true, false, _&&_, _||_, not};
@@ -15,8 +13,6 @@ ghost use Rattle.meaning.specs.Register.{targets};
 ghost use Rattle.meaning.specs.Session.{withName};
 ghost use Rattle.meaning.specs.Shown.{pick};
 ghost use Rattle.meaning.specs.Degree.{orOne, best};
-ghost use Rattle.meaning.specs.Fraction.{_//_};
-ghost use Rattle.meaning.specs.Fraction.{lowest as lowestOf};
 ghost use Rattle.register.specs.Image.{Asked, Image, Begins};
 ghost use Rattle.degree.specs.Case.{Case};
 ghost use Rattle.meaning.specs.Bounds.{mostScale};
@@ -51,12 +47,6 @@ pub struct Sum {
 pub struct Degree {
     pub number: u64,
     pub scale: u64,
-}
-
-// A fraction.
-pub struct Fraction {
-    pub num: u64,
-    pub den: u64,
 }
 
 // An end of value v is taken: it is under the role, and the first or of greater value than the one before.
@@ -667,16 +657,4 @@ pub fn shown_at(
         sum = joined(sum, b);
     }
     ended(sum)
-}
-
-// A fraction in lowest terms.
-pub fn lowest(num: u64, den: u64) -> Fraction
-    requires { ⌜ 0 < den ⌝ }
-    ensures { λ r. ⌜ (r .num ≡ lowestOf (num // den) .num) × (r .den ≡ lowestOf (num // den) .den) ⌝ }
-{
-    let d = requirement::common_divisor(num as usize, den as usize) as u64;
-    Fraction {
-        num: num / d,
-        den: den / d,
-    }
 }

@@ -14,7 +14,7 @@ use Rattle.meaning.specs.Names.{common}
 use Rattle.meaning.specs.Names.{names as many}
 use Rattle.meaning.specs.Tree.{node, Forest, none, more, Concept, labelOf, children, under}
 use Rattle.meaning.specs.Graph.{Graph}
-use Rattle.meaning.specs.Reduce.{dropped, keep, reduce, reduceF}
+use Rattle.meaning.specs.Reduce.{dropped, keptOf, reduce, reduceF}
 use Rattle.meaning.specs.Degree.{orOne, best}
 use Rattle.meaning.specs.InPlace.{countIn, scaleIn, scaleInF, degreeIn, degreeInF}
 use Rattle.meaning.specs.Rows.{Holds, HoldsF, mark, Marked, MarkedF}
@@ -30,13 +30,13 @@ use Rattle.degrees.proofs.But.{stands-marked, countBut, scaleBut, degre
 -- ---- laws of the scale and the degree over the tree as it is written
 
 pub scaleF-in-pos : (f b : Forest ℕ) → 0 < scaleInF f b
-scaleF-in-pos f b = rw (← scaleF-in f b) (scaleF-pos (keep (reduceF b) (reduceF f)))
+scaleF-in-pos f b = rw (← scaleF-in f b) (scaleF-pos (keptOf (reduceF b) (reduceF f)))
 
 pub degree-in-le : (G : Graph ℕ) (t : Concept) (x : ℕ) → degreeIn G t x ≤ scaleIn t
 degree-in-le G t x = rw (← degree-in G t x, ← scale-in t) (degree-le G (reduce t) x)
 
 degreeF-in-le : (G : Graph ℕ) (f b : Forest ℕ) (x : ℕ) → degreeInF G f b x ≤ countIn f b * scaleInF f b
-degreeF-in-le G f b x = rw (← degreeF-in G f b x, ← count-in f b, ← scaleF-in f b) (degreeF-le G (keep (reduceF b) (reduceF f)) x)
+degreeF-in-le G f b x = rw (← degreeF-in G f b x, ← count-in f b, ← scaleF-in f b) (degreeF-le G (keptOf (reduceF b) (reduceF f)) x)
 
 -- the names and the kept children of a node
 abbrev pub fullCount : Concept → ℕ

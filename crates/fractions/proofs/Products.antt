@@ -6,11 +6,10 @@ use Prim.Native.Nat.{ℕ, zero, suc, _*_, _-_, _≤_}
 use native.Mathlib.Nat.{le-trans, mul-le-mul}
 use native.Mathlib.Omega.{arith}
 use lib.Dec.{ltb}
-use lib.IntN.{ℤ, pos, negsuc, subℕ, _-ℤ_}
+use lib.IntN.{pos, negsuc, subℕ, _-ℤ_}
 use mir.Syntax.{w64}
 use mir.Val.{SFits, toZ, ofZ, sel}
 use mir.Facts.{toZ-ofZ}
-use Rattle.meaning.specs.Fraction.{_//_}
 use Rattle.meaning.proofs.Reading.{below, not-below}
 use Rattle.meaning.specs.Bounds.{mostScale, mostQ, mostMargin}
 

@@ -13,8 +13,8 @@ use Rattle.meaning.specs.Session.{Call, opens, edits, undoes, keeps, Session, p
 use Rattle.meaning.proofs.Tests.{is-true, is-false, is-eqb}
 use Rattle.session.specs.declared.Counted.{Counted}
 use Rattle.session.specs.Calls.{anEdit}
-use Rattle.session.specs.Played.{Lent, lent, Called, steps}
-use Rattle.session.proofs.Played.{one-call}
+use Rattle.numbered.specs.Played.{Lent, lent, Called, steps}
+use Rattle.numbered.proofs.Played.{one-call}
 use Rattle.history.specs.Histories.{callOf, callsOf}
 
 -- ---- the call of a kind

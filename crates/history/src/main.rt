@@ -2,13 +2,10 @@
 // answer, then the whole buffer and the log in hex.
 use meaning::Fact;
 use session::Counted;
-
-mod calls;
-
 ghost use mathlib.Core.Path.{_≡_};
 ghost use Rattle.meaning.specs.Session.{play, countAfter};
-ghost use Rattle.session.specs.Calls.{paper};
-ghost use Rattle.session.specs.Played.{lent, steps, Called};
+ghost use Rattle.session.specs.Calls.{paperCount};
+ghost use Rattle.numbered.specs.Played.{lent, steps, Called};
 ghost use Rattle.history.specs.Histories.{callOf, callsOf};
 
 fn write_byte(b: u8) {
@@ -45,7 +42,7 @@ fn print_log(log: &[u64]) {
 
 // Prints an answer. The count for the next call is the one that was handed back, and after a refusal that of this call.
 fn print_answer(r: Counted, count: usize) -> usize
-    ensures { λ n. ⌜ n ≡ countAfter count (paper r) ⌝ }
+    ensures { λ n. ⌜ n ≡ countAfter count (paperCount r) ⌝ }
 {
     match r {
         Counted::Good { count: handed } => {
@@ -74,7 +71,7 @@ fn call(
     b: usize,
     c: usize,
 ) -> Counted
-    ensures { λ r. ⌜ Called (lent (now (s .entry)) (now (log .entry)) count) (callOf kind a b c) r (lent (now (s .exit)) (now (log .exit)) (countAfter count (paper r))) ⌝ }
+    ensures { λ r. ⌜ Called (lent (now (s .entry)) (now (log .entry)) count) (callOf kind a b c) r (lent (now (s .exit)) (now (log .exit)) (countAfter count (paperCount r))) ⌝ }
 {
     let name = Fact::Name { item: a, name: b };
     let link = Fact::Link {
@@ -83,24 +80,24 @@ fn call(
         to: c,
     };
     if kind == b'o' {
-        return calls::open(s, log, count);
+        return session::open(s);
     }
     if kind == b'n' {
-        return calls::edit(s, log, count, name, true);
+        return numbered::edit(s, log, count, name, true);
     }
     if kind == b'N' {
-        return calls::edit(s, log, count, name, false);
+        return numbered::edit(s, log, count, name, false);
     }
     if kind == b'l' {
-        return calls::edit(s, log, count, link, true);
+        return numbered::edit(s, log, count, link, true);
     }
     if kind == b'L' {
-        return calls::edit(s, log, count, link, false);
+        return numbered::edit(s, log, count, link, false);
     }
     if kind == b'u' {
-        return calls::undo(s, log, count);
+        return numbered::undo(s, log, count);
     }
-    calls::keep(s, log, count)
+    numbered::keep(s, log, count)
 }
 
 // Runs a history, four bytes for each call: its kind, a, b and c. What is lent afterwards is what the history makes of it.

@@ -1,4 +1,1 @@
-pub mod Writing
-pub mod Lines
-pub mod Items
-pub mod NoRefusals
+pub mod Reading

@@ -1,12 +1,57 @@
 // The listing program: reads one register and then one requirement from standard input, and prints a line for each item.
-// All that is printed is worked out by `listing::listing`, whose promise names every byte; what stands here is reading and writing.
-mod listing;
-mod text;
+// All that is printed is worked out by `listing::plan` and `listing::row`, whose promises name every byte; what stands here is reading and writing.
+// Where either fails, one line on standard error says so: the kit has no exit status.
+mod standard;
+
+ghost use mathlib.Core.Path.{_≡_};
+ghost use Prim.Native.Nat.{_+_, _≤_};
+ghost use lib.ListN.{length};
+ghost use Rattle.listing.specs.Listing.{mostInput};
+
+// Prints the row of one item, and says whether it could.
+fn print_row(input: &[u8], end: usize, degrees: bool, item: usize) -> bool
+    requires { ⌜ end ≤ length (now input) ⌝ }
+{
+    let mut line = [0u8; lines::ROOM];
+    let k = listing::row(&mut line, input, end, degrees, item);
+    io::write_all(libc::STDOUT_FILENO, &line[..k])
+}
+
+// Prints the rows, up to the first that cannot be written.
+fn print_rows(input: &[u8], end: usize, degrees: bool, rows: usize) -> bool
+    requires { ⌜ end ≤ length (now input) ⌝ }
+{
+    let mut i = 0;
+    while i < rows {
+        if !print_row(input, end, degrees, i) {
+            return false;
+        }
+        i += 1;
+    }
+    true
+}
+
+// Prints the listing of the input, of which so many bytes stand at the front of the buffer.
+fn print(buffer: &[u8], count: usize) -> bool
+    requires { ⌜ (length (now buffer) ≡ mostInput + 1) × (count ≤ mostInput + 1) ⌝ }
+{
+    let mut line = [0u8; lines::ROOM];
+    let p = listing::plan(&mut line, buffer, count);
+    let first = p.first;
+    if !io::write_all(libc::STDOUT_FILENO, &line[..first]) {
+        return false;
+    }
+    print_rows(&buffer[..count], p.end, p.degrees, p.rows)
+}
 
 fn main() {
-    let mut input = [0u8; 65537];
-    let count = io::read_full(0, &mut input);
-    let mut out = [0u8; 229392];
-    let end = listing::listing(&input[..count], &mut out);
-    let _done = io::write_all(1, &out[..end]);
+    let mut buffer = [0u8; 65537];
+    let got = standard::read_input(&mut buffer);
+    if !got.whole {
+        os::fail(b"list: standard input");
+        return;
+    }
+    if !print(&buffer, got.count) {
+        os::fail(b"list: standard output");
+    }
 }

@@ -9,7 +9,7 @@ use lib.Dec.{T, not-T}
 use lib.ListN.{getElem?}
 use Rattle.meaning.specs.Tree.{node, Forest, none, more, Concept, children, under, subtree, subtreeF}
 use Rattle.meaning.specs.Whole.{any}
-use Rattle.meaning.specs.Reduce.{subsumes, dropped, keep, reduce, reduceF}
+use Rattle.meaning.specs.Reduce.{subsumes, dropped, keptOf, reduce, reduceF}
 use Rattle.meaning.proofs.Tests.{both-and, or-left, or-right, found-any, some-inj, not-some}
 use Rattle.meaning.proofs.Keep.{above, keepL, under-kept, kept-child}
 
@@ -65,19 +65,19 @@ kept-apart b (x ∷ l) i j c d p q s = go (dropped b x l) refl i j p q (λ i j p
 
 -- each is the reduced form of a concept
 mutual
-  unfolding subtree reduce keep
+  unfolding subtree reduce keptOf
 
   reduced-node : (t : Concept) (p : List ℕ) (s : Concept) → subtree (reduce t) p ≡ some s → (u : Concept) × (s ≡ reduce u)
   reduced-node (node a f) [] s e = (node a f, sym (some-inj e))
   reduced-node (node a f) (k ∷ p) s e = reduced-nodeF f none k p s e
 
-  reduced-nodeF : (f b : Forest ℕ) (k : ℕ) (p : List ℕ) (s : Concept) → subtreeF (keep b (reduceF f)) k p ≡ some s → (u : Concept) × (s ≡ reduce u)
+  reduced-nodeF : (f b : Forest ℕ) (k : ℕ) (p : List ℕ) (s : Concept) → subtreeF (keptOf b (reduceF f)) k p ≡ some s → (u : Concept) × (s ≡ reduce u)
   reduced-nodeF none b k p s e = absurd (not-some s e)
   reduced-nodeF (more r t f) b k p s e =
       go (dropped (under r b) (reduce t) (under r (reduceF f))) k (λ e. reduced-node t p s e) (λ i e. reduced-nodeF f (more r (reduce t) b) i p s e) e
     where
       K : Forest ℕ
-      K = keep (more r (reduce t) b) (reduceF f)
+      K = keptOf (more r (reduce t) b) (reduceF f)
 
       R : Type 0
       R = (u : Concept) × (s ≡ reduce u)

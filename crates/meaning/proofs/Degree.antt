@@ -23,6 +23,7 @@ module _ {N : Type 0} (G : Graph N) (t : Concept) (x : N) where
 
   pub degree-is : IsDegree G t x (degreeOf G t x)
   degree-is = record {
+    positive = scale-pos (reduce t);
     noMore = λ h. rw (value-number G (reduce t) x (h .map)) (mul-le-mul-right (valueOf G (reduce t) x (h .map) .den) (number-le G (reduce t) x h));
     reached = (chosen-map G (reduce t) x, chosen-value);
   }
@@ -51,6 +52,7 @@ module _ {N : Type 0} (G : Graph N) (t : Concept) (x : N) where
       let pos = scale-pos (reduce t) in
       let e = sym (answered-lowest .same) in
       record {
+        positive = answered-lowest .positive;
         noMore = λ h. at-most-trans (valueOf G (reduce t) x (h .map)) (degreeOf G t x) (answered G t x) pos (degree-is .noMore h) (le-of-eq e);
         reached = let h = degree-is .reached in (h .0, same-trans (valueOf G (reduce t) x (h .0 .map)) (degreeOf G t x) (answered G t x) pos (h .1) e);
       }

@@ -74,7 +74,7 @@ module _ (s : Session) (g : Register) (b : Bytes (s .buffer)) (r : readBuffer (s
   unfolding answer noSteps
   open-answer = ap noSteps opened-good
 
-  open-next : next s opens ≡ record { buffer = cleared (s .buffer) g; log = s .log; count = 0 }
+  pub open-next : next s opens ≡ record { buffer = cleared (s .buffer) g; log = s .log; count = 0 }
   unfolding next answer buffer log noSteps bufferOpened
   open-next = ap (λ (a : Answer Register). record { buffer = bufferOpened (s .buffer) a; log = s .log; count = countAfter (s .count) (noSteps a) }) opened-good
 

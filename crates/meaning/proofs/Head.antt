@@ -11,7 +11,9 @@ use Rattle.meaning.specs.declared.Side.{Side}
 use Rattle.meaning.specs.Refusal.{good, refused, at, refuseIf, _>>=_, _>>_}
 use Rattle.meaning.specs.Bytes.{number, bytes, Bytes, readHead, unequal, headed}
 use Rattle.meaning.proofs.Tests.{is-not, of-not}
-use Rattle.meaning.proofs.Reading.{good-inj, pass, passed, stop, below, number-one, not-below, le-of-not-below, not-not, not-unequal, eq-of-unequal, Stands, stands-self, stands-whole, number-stands, stands-left, stands-right, stands-both, bytes-length, number-of}
+use Rattle.meaning.proofs.Reading.{good-inj, pass, passed, stop, below, number-one, not-below, le-of-not-below, not-not, not-unequal}
+use Rattle.meaning.proofs.Reading.{eq-of-unequal, Stands, stands-self, stands-whole, number-stands, stands-left, stands-right, stands-both}
+use Rattle.meaning.proofs.Reading.{bytes-length, number-of}
 
 -- the version byte and the length's two, and the body behind them
 pub headed-length : (body : List ℕ) → length (headed body) ≡ 3 + length body

@@ -12,14 +12,17 @@ use native.Mathlib.Omega.{arith}
 use lib.Dec.{T, ltb, leb, ltb→lt, leb→le, lt→ltb, le→leb}
 use lib.ListN.{length, getD, length-append}
 use Rattle.meaning.specs.declared.Side.the-variants.{Register as register}
-use Rattle.meaning.specs.Refusal.{good, _>>=_, _>>_}
+use Rattle.meaning.specs.Refusal.{good, refused, at, _>>=_, _>>_}
 use Rattle.meaning.specs.Bytes.{number, bytes, Bytes, readHead, unequal, moreThan}
 use Rattle.meaning.specs.Names.{isSet}
-use Rattle.meaning.specs.Register.{Link, Register, above, allSets, linksOf, wellFormed, linkBytes, itemsBytes, linksBytes, encode, linkAt, readItems, readLink, readLinks, readBody, readRegisterBy, readRegister, readBuffer}
+use Rattle.meaning.specs.Register.{Link, Register, above, allSets, linksOf, wellFormed, linkBytes, itemsBytes, linksBytes, encode, linkAt}
+use Rattle.meaning.specs.Register.{readItems, readLink, readLinks, readBody, readRegisterBy, readRegister, readBuffer}
 use Rattle.meaning.specs.Bounds.{mostItems, mostLinks}
-use Rattle.meaning.proofs.Tests.{of-not, and-both, both-and, neither, neither-of}
-use Rattle.meaning.proofs.Head.{headed-length, body-stands, head-stands, head-read, read-head}
-use Rattle.meaning.proofs.Reading.{good-inj, pass, passed, took, taken, not-below, le-of-not-below, not-le, lt-of-not-le, not-not, not-unequal, eq-of-unequal, total, fitted, fields-fitted, Stands, stands-self, stands-left, stands-right, stands-both, stands-whole, bytes-length, number-of, bytes-of, number-below}
+use Rattle.meaning.proofs.Tests.{is-true, of-not, and-both, both-and, or-right, neither, neither-of}
+use Rattle.meaning.proofs.Head.{headed-length, body-stands, head-stands, head-read, read-head, headed-stands, headed-read}
+use Rattle.meaning.proofs.Reading.{good-inj, pass, stop, passed, took, taken, below, not-below, le-of-not-below, not-le, lt-of-not-le, not-not}
+use Rattle.meaning.proofs.Reading.{not-unequal, eq-of-unequal, total, fitted, fields-fitted, Stands, stands-self, stands-left, stands-right}
+use Rattle.meaning.proofs.Reading.{stands-both, stands-whole, bytes-length, number-of, bytes-of, number-below}
 
 -- ---- lengths
 
@@ -40,7 +43,8 @@ links-length (l ∷ ls) = length-append (linkBytes l) (linksBytes ls) ∙ omega 
 
 -- ---- items
 
-items-read : (s : List ℕ) (end : ℕ) (as′ : List ℕ) (p : ℕ) → T (allSets as′) → Stands s p (itemsBytes as′) → p + 8 * length as′ ≤ end → readItems s end (length as′) p ≡ good as′
+items-read : (s : List ℕ) (end : ℕ) (as′ : List ℕ) (p : ℕ) → T (allSets as′) → Stands s p (itemsBytes as′) → p + 8 * length as′ ≤ end
+    → readItems s end (length as′) p ≡ good as′
 unfolding readItems allSets itemsBytes total
 items-read s end [] p w h b = refl
 items-read s end (a ∷ as′) p w h b =
@@ -68,7 +72,9 @@ read-items s end (suc k) p as′ h l e =
     subst (λ z. ItemsRead s end (suc k) p z) (good-inj (r .2)) (record {
       many = ap suc (m .many);
       sets = both-and (isSet (number s p 8)) (allSets (r .0)) (lt→ltb _ _ (number-below s p 8 h)) (m .sets);
-      stand = stands-both s p (bytes 8 (number s p 8)) (itemsBytes (r .0)) (bytes-of s p 8 h) (subst (λ (z : ℕ). Stands s (p + z) (itemsBytes (r .0))) (sym (bytes-length 8 (number s p 8))) (m .stand));
+      stand =
+          let later = subst (λ (z : ℕ). Stands s (p + z) (itemsBytes (r .0))) (sym (bytes-length 8 (number s p 8))) (m .stand) in
+          stands-both s p (bytes 8 (number s p 8)) (itemsBytes (r .0)) (bytes-of s p 8 h) later;
       fit = omega (arith, m .fit);
     })
 
@@ -460,3 +466,46 @@ pub whole-buffer : (s : List ℕ) (g : Register) → Bytes s → readRegister s 
 whole-buffer s g b e =
     let q = read-image s g b e in
     buffer-read s g (q .0) (subst (λ (z : List ℕ). Stands z 0 (encode g)) (sym (q .1)) (stands-self (encode g))) (le-of-eq (ap length (sym (q .1))))
+
+-- ---- too many items or links: 4 at their count
+
+module _ (g : Register) (short : length (encode g) < 65536) where
+  abbrev last : ℕ
+  last = 3 + length (bodyOf g)
+
+  to-body : readRegister (encode g) ≡ readBody (encode g) last
+  unfolding readRegisterBy encode
+  to-body =
+      took (readHead register unequal (encode g)) _ last
+      (headed-read register (bodyOf g) (omega (arith, short, image-length g, body-length g)))
+
+  here : Body (encode g) g
+  unfolding encode
+  here = body-parts (encode g) g (headed-stands (bodyOf g))
+
+  items-here : number (encode g) 3 2 ≡ length (g .names)
+  items-here = number-of (encode g) 3 2 (length (g .names)) (omega (arith, short, image-length g)) (here .0)
+
+  links-here : number (encode g) (5 + 8 * length (g .names)) 2 ≡ length (g .links)
+  links-here = number-of (encode g) (5 + 8 * length (g .names)) 2 (length (g .links)) (omega (arith, short, image-length g)) (here .2)
+
+  pub items-above : mostItems < length (g .names) → readRegister (encode g) ≡ refused (at register 4 3)
+  unfolding readBody total
+  items-above h =
+      let n = length (g .names) in
+      to-body ∙ fitted register last (2 ∷ []) 3 _ (omega (arith, body-length g))
+      ∙ rw items-here (stop (ltb n 1 || ltb mostItems n) _ _ (is-true _ (or-right (ltb n 1) (ltb mostItems n) (lt→ltb mostItems n h))))
+
+  pub links-above : 1 ≤ length (g .names) → length (g .names) ≤ mostItems → T (allSets (g .names)) → mostLinks < length (g .links)
+      → readRegister (encode g) ≡ refused (at register 4 (5 + 8 * length (g .names)))
+  unfolding readBody total
+  links-above a b c h =
+      let n = length (g .names) in
+      let m = length (g .links) in
+      let bl = body-length g in
+      to-body ∙ fitted register last (2 ∷ []) 3 _ (omega arith)
+      ∙ rw (items-here, links-here) (
+      pass (ltb n 1 || ltb mostItems n) _ _ (neither (ltb n 1) (ltb mostItems n) (not-below n 1 a) (not-below mostItems n b))
+      ∙ took (readItems (encode g) last n 5) _ (g .names) (items-read (encode g) last (g .names) 5 c (here .1) (omega arith))
+      ∙ fitted register last (2 ∷ []) (5 + 8 * n) _ (omega arith)
+      ∙ stop (ltb mostLinks m) _ _ (below mostLinks m h))

@@ -8,23 +8,23 @@ use Prim.Native.Nat.{ℕ}
 use lib.Dec.{T, T-not, eqb, eqb→eq}
 use Rattle.meaning.specs.Tree.{Forest, none, more, Concept, under}
 use Rattle.meaning.specs.Whole.{any}
-use Rattle.meaning.specs.Reduce.{subsumes, dropped, keep}
+use Rattle.meaning.specs.Reduce.{subsumes, dropped, keptOf}
 use Rattle.meaning.proofs.Tests.{holds, and-both, or-cases, or-left, or-right, any-found, found-any}
 use Rattle.meaning.proofs.Subsumes.{subsumes-refl, subsumes-trans}
 
--- `keep` over the children under one role
+-- `keptOf` over the children under one role
 unfoldable pub keepL : List Concept → List Concept → List Concept
 unfolding dropped
 keepL b [] = []
 keepL b (c ∷ l) = cond (dropped b c l) (keepL (c ∷ b) l) (c ∷ keepL (c ∷ b) l)
 
-under-keep : (r : ℕ) (b f : Forest ℕ) → under r (keep b f) ≡ keepL (under r b) (under r f)
-unfolding under keep keepL
+under-keep : (r : ℕ) (b f : Forest ℕ) → under r (keptOf b f) ≡ keepL (under r b) (under r f)
+unfolding under keptOf keepL
 under-keep r b none = refl
 under-keep r b (more s c f) = go (eqb r s) refl (under-keep r (more s c b) f)
   where
     K : Forest ℕ
-    K = keep (more s c b) f
+    K = keptOf (more s c b) f
 
     same : (d : Bool) → eqb r s ≡ true → under r (cond d K (more s c K)) ≡ cond d (under r K) (c ∷ under r K)
     same true e = refl
@@ -35,14 +35,14 @@ under-keep r b (more s c f) = go (eqb r s) refl (under-keep r (more s c b) f)
     other false e = rw e
 
     go : (t : Bool) → eqb r s ≡ t → under r K ≡ keepL (cond (eqb r s) (c ∷ under r b) (under r b)) (under r f)
-        → under r (keep b (more s c f)) ≡ keepL (under r b) (cond t (c ∷ under r f) (under r f))
+        → under r (keptOf b (more s c f)) ≡ keepL (under r b) (cond t (c ∷ under r f) (under r f))
     go true e h =
         let p : s ≡ r = sym (eqb→eq r s (holds e)) in
         same (dropped (under s b) c (under s f)) e
         ∙ ap₂ (λ (d : Bool) (l : List Concept). cond d l (c ∷ l)) (ap (λ (z : ℕ). dropped (under z b) c (under z f)) p) (rw e at h)
     go false e h = other (dropped (under s b) c (under s f)) e ∙ (rw e at h)
 
-pub under-kept : (r : ℕ) (f : Forest ℕ) → under r (keep none f) ≡ keepL [] (under r f)
+pub under-kept : (r : ℕ) (f : Forest ℕ) → under r (keptOf none f) ≡ keepL [] (under r f)
 unfolding under
 under-kept r f = under-keep r none f
 

@@ -41,15 +41,21 @@ pub mod Picked
 pub mod Kept
 pub mod Shown
 pub mod YesShown
+pub mod Answers
 -- Sessions, and demand 3
 pub mod SessionNames
 pub mod NamesChanged
 pub mod SessionLinks
 pub mod SessionFacts
+pub mod Refusing
 pub mod SessionCalls
+pub mod Behind
 pub mod History
 pub mod Demand3
+pub mod Worked
 -- Examples
 pub mod Sheet
 pub mod Orders
+pub mod SessionOrders
+pub mod Bounds
 pub mod Slips

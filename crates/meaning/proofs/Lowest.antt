@@ -4,7 +4,8 @@ use mathlib.Core.Path.{_≡_, sym, ap, ap₂, subst, _∙_}
 use mathlib.Core.Logic.{_↔_}
 use Prim.Native.Nat.{ℕ, zero, suc, _*_, _/_, _%_, _≤_, _<_, _∣_}
 use native.Mathlib.Nat.{le-refl, le-antisymm, le-of-mul-le-mul-right, not-suc-le-zero, zero-lt-suc, mul-comm, mul-le-mul-right, eq-of-mul-eq-mul-right}
-use native.Mathlib.Nat.{mod-lt, dvd-refl, dvd-zero, dvd-mod-iff, dvd-antisymm, dvd-mul-left, dvd-of-mul-dvd-mul-right, mul-dvd-mul-right, div-mul-cancel, le-of-dvd, le-div-iff-mul-le, div-le-self, pos-of-dvd-of-pos}
+use native.Mathlib.Nat.{mod-lt, dvd-refl, dvd-zero, dvd-mod-iff, dvd-antisymm, dvd-mul-left, dvd-of-mul-dvd-mul-right, mul-dvd-mul-right}
+use native.Mathlib.Nat.{div-mul-cancel, le-of-dvd, le-div-iff-mul-le, div-le-self, pos-of-dvd-of-pos}
 use native.Mathlib.Omega.{arith}
 use lib.Dec.{T, eqb, eqb→eq}
 use Rattle.meaning.specs.Fraction.{Frac, Same, gcdIn, gcd, lowest, Lowest}

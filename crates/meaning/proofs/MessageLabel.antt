@@ -147,10 +147,6 @@ coded (suc zero) h = refl
 coded (suc (suc zero)) h = refl
 coded (suc (suc (suc n))) h = omega arith
 
--- number 13's test
-abbrev rules : ℕ → ℕ → ℕ → Bool
-rules n p q = leb n 3 && lawful p q
-
 pub lawful-open : (p q : ℕ) → T (lawful p q) → (q ≤ mostQ) × (p ≤ q)
 lawful-open p q h =
     let c = and-both (leb 1 q && leb q mostQ && leb p q) (eqb (gcd p q) 1) h in
@@ -314,14 +310,13 @@ module _ (s : List ℕ) (end : ℕ) where
       let d = decoded (h .how) in
       let k = and-both (lawful (h .limit .num) (h .limit .den)) (soundInner (h .inner)) (f .sound) in
       let inside : n ≤ end = f .inside in
-      let rule = both-and (leb (code (h .how)) 3) (lawful (h .limit .num) (h .limit .den)) (le→leb (code (h .how)) 3 (d .1)) (k .0) in
       rw (f .how, f .num, f .den, f .len) (
       then-test _ _ _ (not-below 15 (length (w .parts)) few) (then-fit requirement end (1 ∷ 2 ∷ 2 ∷ []) p _ (omega arith)
-      (then-test _ _ _ (ap not (is-true (rules (code (h .how)) (h .limit .num) (h .limit .den)) rule))
+      (then-test _ _ _ (not-below 3 (code (h .how)) (d .1)) (then-test _ _ _ (ap not (is-true (lawful (h .limit .num) (h .limit .den)) (k .0)))
       (then-fit requirement end (2 ∷ []) (p + 5) _ (omega arith) (then-test _ _ _ (not-below end n inside)
       (then-take _ _ (h .inner, v) (inner-read s (p + 7) (h .inner) (k .1) (f .stands))
       (then-test _ _ _ (not-below n n (omega arith)) (then-test _ _ _ (not-below 60 _ (sound-inner (h .inner) (k .1) .1))
-      (ap (λ (z : Comparison). good (record { how = z; limit = h .limit; inner = h .inner }, pastOne owner h w)) (d .0))))))))))
+      (ap (λ (z : Comparison). good (record { how = z; limit = h .limit; inner = h .inner }, pastOne owner h w)) (d .0)))))))))))
 
   thresholds-read : (owner : ℕ) (hs : List Threshold) (w : Spot) → ThresholdsAt owner hs w
       → readThresholds s end owner (length hs) w ≡ good (hs, pastAll owner hs w)
@@ -345,22 +340,22 @@ module _ (s : List ℕ) (end : ℕ) where
       let p = w .next in
       let len = number s (p + 5) 2 in
       let last = p + 7 + len in
-      of-test _ _ _ e (λ b₀ e₀. of-fit requirement end 1 (2 ∷ 2 ∷ []) p _ e₀ (λ l₁ e₁. of-test _ _ _ e₁ (λ b₂ e₂.
-      of-fit requirement end 2 [] (p + 5) _ e₂ (λ l₃ e₃. of-test _ _ _ e₃ (λ b₄ e₄. of-take _ _ e₄ (λ x ex e₅. of-test _ _ _ e₅ (λ b₆ e₆.
+      of-test _ _ _ e (λ b₀ e₀. of-fit requirement end 1 (2 ∷ 2 ∷ []) p _ e₀ (λ l₁ e₁. of-test _ _ _ e₁ (λ b₁ e₂. of-test _ _ _ e₂ (λ b₂ e₃′.
+      of-fit requirement end 2 [] (p + 5) _ e₃′ (λ l₃ e₃. of-test _ _ _ e₃ (λ b₄ e₄. of-take _ _ e₄ (λ x ex e₅. of-test _ _ _ e₅ (λ b₆ e₆.
       of-test _ _ _ e₆ (λ b₇ e₇.
       let c = inner-back s last (p + 7) x bs (omega arith) ex in
       let next = ap (λ (z : Spot). z .next) (c .1) in
       let same : len ≡ length (conceptBytes (x .0)) = omega (arith, le-of-not-below (x .1 .next) last b₆, c .0 .fits .reached) in
       let n = number s p 1 in
       let t : Threshold = record { how = comparison n; limit = number s (p + 1) 2 // number s (p + 3) 2; inner = x .0 } in
-      let rule = and-both (leb n 3) (lawful (t .limit .num) (t .limit .den)) (of-not (rules n (t .limit .num) (t .limit .den)) b₂) in
+      let rule = of-not (lawful (t .limit .num) (t .limit .den)) b₂ in
       let few : nodes (x .0) ≤ mostNodes = omega (arith, c .0 .fits .few) in
       let inner = bounded-close isSet (x .0) (c .0 .allowed) (c .0 .shallow) few in
       let small = le→leb (size (reduce (x .0))) mostSize (le-of-not-below 60 (size (reduce (x .0))) b₇) in
       let inside : p + 7 + length (conceptBytes (x .0)) ≤ end = omega (arith, le-of-not-below end last b₄) in
       let f : ThresholdAt t p = record {
-        sound = both-and (lawful (t .limit .num) (t .limit .den)) (soundInner (x .0)) (rule .1) (both-and (bounded isSet (x .0)) _ inner small);
-        how = coded n (leb→le n 3 (rule .0));
+        sound = both-and (lawful (t .limit .num) (t .limit .den)) (soundInner (x .0)) rule (both-and (bounded isSet (x .0)) _ inner small);
+        how = coded n (le-of-not-below 3 n b₁);
         num = refl;
         den = refl;
         len = same;
@@ -369,7 +364,7 @@ module _ (s : List ℕ) (end : ℕ) where
       } in
       let room = le-of-not-below 15 (length (w .parts)) b₀ in
       let past′ = ap (λ (z : ℕ). record { next = p + 7 + z; nodes = w .nodes; parts = w .parts ++ (record { owner = owner; first = p; len = z } ∷ []) }) same in
-      subst (ThresholdRead owner w) (good-inj e₇) (f, room, past′)))))))))
+      subst (ThresholdRead owner w) (good-inj e₇) (f, room, past′))))))))))
 
   abbrev ThresholdsRead : ℕ → ℕ → Spot → List Threshold × Spot → Type 0
   ThresholdsRead owner k w r = ThresholdsAt owner (r .0) w × (k ≡ length (r .0)) × (r .1 ≡ pastAll owner (r .0) w)

@@ -15,7 +15,7 @@ use Rattle.meaning.specs.Fraction.{gcd, lowest}
 use Rattle.meaning.specs.Register.{targets, itemsBytes, linksBytes, readItems, readLink, readLinks, readBody, readRegisterBy, readRegister, readBuffer}
 use Rattle.meaning.specs.Register.{encode as image}
 use Rattle.meaning.specs.Whole.{any, meetsBy}
-use Rattle.meaning.specs.Reduce.{dropped, keep, reduce, size, scale}
+use Rattle.meaning.specs.Reduce.{dropped, keptOf, reduce, size, scale}
 use Rattle.meaning.specs.Degree.{best, degree}
 use Rattle.meaning.specs.Requirement.{every, plain}
 use Rattle.meaning.specs.Message.{conceptBytes, nodeBytes, thresholdsBytes, readChildren, readNode, noThresholds, readThreshold, readThresholds, withThresholds, readRequirement}
@@ -24,7 +24,7 @@ use Rattle.meaning.specs.Shown.{shown, yesBy}
 use Rattle.meaning.specs.Calls.{readPlain, degreeCall, marginCall, memberCall}
 use Rattle.meaning.specs.Sheet.{R1, Q1, leaf, allTrue}
 
-sameSide : Side → Side → Bool
+unfoldable pub sameSide : Side → Side → Bool
 sameSide register register = true
 sameSide register requirement = false
 sameSide register call = false
@@ -35,16 +35,16 @@ sameSide call register = false
 sameSide call requirement = false
 sameSide call call = true
 
-is : {A : Type 0} → Side → ℕ → ℕ → Answer A → Bool
+unfoldable pub is : {A : Type 0} → Side → ℕ → ℕ → Answer A → Bool
 is side n p (good a) = false
 is side n p (refused r) = sameSide (r .side) side && eqb (r .number) n && eqb (r .place) p
 
 -- ---- registers of one item with no names: the first link stands at place 15
 
-linkBytes : ℕ → ℕ → ℕ → List ℕ
+unfoldable pub linkBytes : ℕ → ℕ → ℕ → List ℕ
 linkBytes a r b = bytes 2 a ++ bytes 1 r ++ bytes 2 b
 
-oneItem : ℕ → List ℕ → List ℕ
+unfoldable pub oneItem : ℕ → List ℕ → List ℕ
 oneItem links rest = headed (bytes 2 1 ++ bytes 8 0 ++ bytes 2 links ++ rest)
 
 pub registers : List Bool
@@ -80,28 +80,28 @@ registers =
 
 -- ---- messages: the root stands at place 3, and what follows its fixed fields at 13
 
-root : ℕ → ℕ → List ℕ → List ℕ
+unfoldable pub root : ℕ → ℕ → List ℕ → List ℕ
 root thresholds kids rest = headed (bytes 8 0 ++ (thresholds ∷ kids ∷ []) ++ rest)
 
 -- a threshold ≥ 1/1 of these bytes
-asked : List ℕ → List ℕ
+unfoldable pub asked : List ℕ → List ℕ
 asked inner = 3 ∷ bytes 2 1 ++ bytes 2 1 ++ bytes 2 (lib.ListN.length inner) ++ inner
 
-repeat : ℕ → List ℕ → List ℕ
+unfoldable pub repeat : ℕ → List ℕ → List ℕ
 repeat zero l = []
 repeat (suc k) l = l ++ repeat k l
 
-empty : List ℕ
+unfoldable pub empty : List ℕ
 unfolding bytes
 empty = bytes 10 0
 
 -- a chain of nodes, each the only child of the one before
-chain : ℕ → List ℕ
+unfoldable pub chain : ℕ → List ℕ
 chain zero = bytes 8 0 ++ (0 ∷ 0 ∷ [])
 chain (suc k) = bytes 8 0 ++ (0 ∷ 1 ∷ 0 ∷ []) ++ chain k
 
 -- children under the roles 0 to k − 1, each with one name: size 2 k
-fan : ℕ → Forest ℕ
+unfoldable pub fan : ℕ → Forest ℕ
 fan zero = none
 fan (suc k) = more k (leaf 1) (fan k)
 
@@ -179,5 +179,5 @@ unfolding
     registers messages calls is sameSide root asked repeat empty chain fan wide wideAsked oneItem linkBytes R1 Q1
     allTrue degreeCall marginCall memberCall readPlain readRequirement readRegisterBy readBody readItems readLink readLinks readHead number bytes fields headed
     image message nodeBytes thresholdsBytes itemsBytes linksBytes readNode readChildren noThresholds readThreshold readThresholds withThresholds shown yesBy degree best lowest gcd
-    reduce keep dropped size scale meetsBy any every targets count under nodes relabel ones refuseIf _>>=_ _>>_
+    reduce keptOf dropped size scale meetsBy any every targets count under nodes relabel ones refuseIf _>>=_ _>>_
 orders = tt

@@ -10,7 +10,7 @@ use lib.Dec.{T}
 use Rattle.meaning.specs.Tree.{node, Forest, none, more, Concept, under}
 use Rattle.meaning.specs.Graph.{Graph, treeGraph}
 use Rattle.meaning.specs.Whole.{any, meetsBy, WholeMap, held, meets, meetsF}
-use Rattle.meaning.specs.Reduce.{subsumes, keep, reduce, reduceF}
+use Rattle.meaning.specs.Reduce.{subsumes, keptOf, reduce, reduceF}
 use Rattle.meaning.proofs.Tests.{bool-eq, any-found}
 use Rattle.meaning.proofs.Whole.{meets-whole}
 use Rattle.meaning.proofs.Under.{met-each, each-met}
@@ -18,16 +18,16 @@ use Rattle.meaning.proofs.Subsumes.{compose-served, subsumes-refl, subs
 use Rattle.meaning.proofs.Keep.{keepL, under-kept, kept-child, kept-below}
 
 module _ {N : Type 0} (G : Graph N) where
-  keep-meets : (f : Forest ℕ) (x : N) → meetsF G (keep none f) x ≡ meetsF G f x
-  keep-meets f x = bool-eq (meetsF G (keep none f) x) (meetsF G f x) widen narrow
+  keep-meets : (f : Forest ℕ) (x : N) → meetsF G (keptOf none f) x ≡ meetsF G f x
+  keep-meets f x = bool-eq (meetsF G (keptOf none f) x) (meetsF G f x) widen narrow
     where
-      widen : T (meetsF G (keep none f) x) → T (meetsF G f x)
+      widen : T (meetsF G (keptOf none f) x) → T (meetsF G f x)
       widen h = each-met (held G) G f x (λ r e m.
           let d = any-found (λ z. subsumes e z) (keepL [] (under r f)) (kept-below m) in
-          compose-served G e (d .0) x r (d .2) (met-each (held G) G (keep none f) x h r (d .0) (rw (under-kept r f) (d .1))))
+          compose-served G e (d .0) x r (d .2) (met-each (held G) G (keptOf none f) x h r (d .0) (rw (under-kept r f) (d .1))))
 
-      narrow : T (meetsF G f x) → T (meetsF G (keep none f) x)
-      narrow h = each-met (held G) G (keep none f) x (λ r e m. met-each (held G) G f x h r e (kept-child [] (under r f) (rw (under-kept r f) at m)))
+      narrow : T (meetsF G f x) → T (meetsF G (keptOf none f) x)
+      narrow h = each-met (held G) G (keptOf none f) x (λ r e m. met-each (held G) G f x h r e (kept-child [] (under r f) (rw (under-kept r f) at m)))
 
   mutual
     unfolding reduce meetsBy

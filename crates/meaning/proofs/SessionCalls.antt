@@ -1,11 +1,11 @@
 -- What an accepted call of a session says of its tests; and the buffer that an image leaves.
 -- Assumes nothing.
 use mathlib.Core.Path.{_≡_, refl, sym, ap, _∙_, subst}
-use mathlib.Core.Bool.{false, _||_}
+use mathlib.Core.Bool.{false}
 use mathlib.Core.List.{List, _++_, append-assoc}
 use Prim.Native.Nat.{ℕ, zero, suc, _+_, _-_, _≤_, _<_, max}
 use native.Mathlib.Omega.{arith}
-use lib.Dec.{T, ltb, eqb}
+use lib.Dec.{T}
 use lib.ListN.{length, drop, length-append, length-replicate, replicate-append-replicate}
 use lib.Seq.{drop-append-add, take-at}
 use Rattle.meaning.specs.declared.Step.{Step}
@@ -13,15 +13,12 @@ use Rattle.meaning.specs.Refusal.{good, _>>=_, _>>_}
 use Rattle.meaning.specs.Bytes.{number, bytes, headed}
 use Rattle.meaning.specs.Register.{Register, wellFormed, itemsBytes, linksBytes, encode, readBuffer}
 use Rattle.meaning.specs.Session.{Edit, setFact, zeros, cleared, rewritten, imageOf, room, outOfRange, roleAbove, noPlace, Changed, openCall, editCall, undoCall}
-use Rattle.meaning.proofs.Tests.{neither-of, true-false, is-true, is-eqb}
-use Rattle.meaning.proofs.Reading.{good-inj, passed, taken, le-of-not-below, Stands, stands-self, stands-left, number-of}
+use Rattle.meaning.proofs.Reading.{good-inj, taken, Stands, stands-self, stands-left, number-of}
 use Rattle.meaning.proofs.Image.{buffer-read, largest-image}
+use Rattle.meaning.proofs.Refusing.{tells-outside, tells-role, tells-room, edit-takes, edit-exactly, undo-takes, undo-exactly}
 use Rattle.meaning.proofs.Head.{headed-length, length-stands}
 
 -- ---- calls
-
-pub differs : (m n : ℕ) → eqb m n ≡ false → m ≡ n → ⊥
-differs m n e d = true-false (is-true (eqb m n) (is-eqb d)) e
 
 pub record EditPassed (s : List ℕ) (log count : ℕ) (e : Edit) (c : Changed) : Type 0 where
   pub read : readBuffer s ≡ good (c .before)
@@ -33,21 +30,15 @@ pub record EditPassed (s : List ℕ) (log count : ℕ) (e : Edit) (c : Changed) 
   pub more : c .count ≡ count + 1
 
 pub edit-passed : (s : List ℕ) (log count : ℕ) (e : Edit) (c : Changed) → editCall s log count e ≡ good c → EditPassed s log count e c
-unfolding editCall
 edit-passed s log count e c h =
-    let q = taken (readBuffer s) _ h in
-    let g = q .0 in
-    let a = passed (ltb (room log) count) _ _ (q .2) in
-    let b = passed (outOfRange (length (g .names)) (e .fact)) _ _ (a .1) in
-    let d = passed (roleAbove (e .fact)) _ _ (b .1) in
-    let f = passed (eqb count (room log)) _ _ (d .1) in
-    let o = passed (noPlace s g (e .adds) (e .fact)) _ _ (f .1) in
-    subst (λ (z : Changed). EditPassed s log count e z) (good-inj (o .1)) (record {
-      read = q .1;
-      steps = let l = le-of-not-below (room log) count (a .0) in let n = differs count (room log) (f .0) in omega arith;
-      range = b .0;
-      role = d .0;
-      place = o .0;
+    let x = edit-exactly s log count e .takes .0 (c, h) in
+    let g = x .counts .register in
+    subst (λ (z : Changed). EditPassed s log count e z) (good-inj (sym (edit-takes s log count e x) ∙ h)) (record {
+      read = x .counts .read;
+      steps = omega (arith, x .inLog, x .inUse);
+      range = tells-outside (length (g .names)) (e .fact) .no-is (x .inside);
+      role = tells-role (e .fact) .no-is (x .role);
+      place = tells-room s g (e .adds) (e .fact) .no-is (x .room);
       after = refl;
       more = refl;
     })
@@ -63,22 +54,16 @@ pub record UndoPassed (s : List ℕ) (log count : ℕ) (last : Step) (c : Change
   pub fewer : c .count ≡ count - 1
 
 pub undo-passed : (s : List ℕ) (log count : ℕ) (last : Step) (c : Changed) → undoCall s log count last ≡ good c → UndoPassed s log count last c
-unfolding undoCall
 undo-passed s log count last c h =
-    let q = taken (readBuffer s) _ h in
-    let g = q .0 in
-    let a = passed (ltb (room log) count) _ _ (q .2) in
-    let b = passed (eqb count 0) _ _ (a .1) in
-    let d = passed (outOfRange (length (g .names)) (last .fact) || roleAbove (last .fact)) _ _ (b .1) in
-    let f = neither-of (outOfRange (length (g .names)) (last .fact)) (roleAbove (last .fact)) (d .0) in
-    let o = passed (noPlace s g (last .was) (last .fact)) _ _ (d .1) in
-    subst (λ (z : Changed). UndoPassed s log count last z) (good-inj (o .1)) (record {
-      read = q .1;
-      steps = le-of-not-below (room log) count (a .0);
-      used = let n = differs count 0 (b .0) in omega arith;
-      range = f .0;
-      role = f .1;
-      place = o .0;
+    let x = undo-exactly s log count last .takes .0 (c, h) in
+    let g = x .counts .register in
+    subst (λ (z : Changed). UndoPassed s log count last z) (good-inj (sym (undo-takes s log count last x) ∙ h)) (record {
+      read = x .counts .read;
+      steps = omega (arith, x .counts .inLog, x .counts .inUse);
+      used = x .used;
+      range = tells-outside (length (g .names)) (last .fact) .no-is (x .inside);
+      role = tells-role (last .fact) .no-is (x .role);
+      place = tells-room s g (last .was) (last .fact) .no-is (x .room);
       after = refl;
       fewer = refl;
     })

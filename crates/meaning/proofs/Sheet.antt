@@ -9,7 +9,7 @@ use Rattle.meaning.specs.Fraction.{gcd, lowest}
 use Rattle.meaning.specs.Register.{targets, itemsBytes, linksBytes, readItems, readLink, readLinks, readBody, readRegisterBy}
 use Rattle.meaning.specs.Register.{encode as image}
 use Rattle.meaning.specs.Whole.{any, meetsBy}
-use Rattle.meaning.specs.Reduce.{dropped, keep, reduce, size, scale}
+use Rattle.meaning.specs.Reduce.{dropped, keptOf, reduce, size, scale}
 use Rattle.meaning.specs.Degree.{best, degree}
 use Rattle.meaning.specs.Requirement.{every}
 use Rattle.meaning.specs.Message.{nodeBytes, thresholdsBytes, readChildren, readNode, noThresholds, readThreshold, readThresholds, withThresholds, readRequirement}
@@ -20,7 +20,8 @@ use Rattle.meaning.specs.Sheet.{sameList, sameWhole, rows, allTrue}
 
 pub sheet : T (allTrue rows)
 unfolding
-    rows allTrue sameList sameWhole degreeCall marginCall memberCall readPlain readRequirement readRegisterBy readBody readItems readLink readLinks itemsBytes linksBytes readHead number bytes fields headed
-    image message nodeBytes thresholdsBytes readNode readChildren noThresholds readThreshold readThresholds withThresholds shown yesBy degree best lowest gcd reduce keep dropped size scale
+    rows allTrue sameList sameWhole degreeCall marginCall memberCall readPlain readRequirement readRegisterBy readBody readItems readLink readLinks
+    itemsBytes linksBytes readHead number bytes fields headed image message nodeBytes thresholdsBytes
+    readNode readChildren noThresholds readThreshold readThresholds withThresholds shown yesBy degree best lowest gcd reduce keptOf dropped size scale
     meetsBy any every refuseIf _>>=_ _>>_ targets count under nodes relabel ones
 sheet = tt

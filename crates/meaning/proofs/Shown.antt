@@ -13,7 +13,7 @@ use Rattle.meaning.specs.Tree.{node, Forest, none, more, Concept, under,
 use Rattle.meaning.specs.Graph.{Graph}
 use Rattle.meaning.specs.Register.{Register, judged, wellFormed}
 use Rattle.meaning.specs.Fraction.{Same}
-use Rattle.meaning.specs.Reduce.{dropped, keep, reduce, reduceF, kept}
+use Rattle.meaning.specs.Reduce.{dropped, keptOf, reduce, reduceF, kept}
 use Rattle.meaning.specs.Partial.{PartialMap, valueOf}
 use Rattle.meaning.specs.Degree.{degree, degreeOf}
 use Rattle.meaning.specs.Shown.{pick, Mark, out, goes, goesTo, shown, shownF}
@@ -66,19 +66,19 @@ module _ {N : Type 0} (G : Graph N) where
   child-first r t f (some x) = refl
 
   mutual
-    unfolding shown keptMarks reduce keep along
+    unfolding shown keptMarks reduce keptOf along
 
     shown-along : (t : Concept) (o : Option N) → keptMarks (shown G t o) ≡ along (reduce t) (from (reduce t) o)
-    shown-along (node a f) o = ap {B = List (Option N)} (λ z. o ∷ z) (shownF-along f none o) ∙ sym (root-first a (keep none (reduceF f)) o)
+    shown-along (node a f) o = ap {B = List (Option N)} (λ z. o ∷ z) (shownF-along f none o) ∙ sym (root-first a (keptOf none (reduceF f)) o)
 
     shownF-along : (f b : Forest ℕ) (o : Option N)
-        → keptMarks (shownF G f b o) ≡ alongF (keep (reduceF b) (reduceF f)) (fromF (keep (reduceF b) (reduceF f)) o)
+        → keptMarks (shownF G f b o) ≡ alongF (keptOf (reduceF b) (reduceF f)) (fromF (keptOf (reduceF b) (reduceF f)) o)
     shownF-along none b o = refl
     shownF-along (more r t f) b o =
         go (dropped (under r (reduceF b)) (reduce t) (under r (reduceF f))) (shown-along t (goesTo G o r t)) (shownF-along f (more r t b) o)
       where
         K : Forest ℕ
-        K = keep (more r (reduce t) (reduceF b)) (reduceF f)
+        K = keptOf (more r (reduce t) (reduceF b)) (reduceF f)
 
         go : (d : Bool) → keptMarks (shown G t (goesTo G o r t)) ≡ along (reduce t) (from (reduce t) (goesTo G o r t))
             → keptMarks (shownF G f (more r t b) o) ≡ alongF K (fromF K o)

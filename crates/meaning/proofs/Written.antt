@@ -8,7 +8,7 @@ use lib.Dec.{eqb}
 use lib.ListN.{replicate}
 use Rattle.meaning.specs.Tree.{Forest, none, more, Concept, under, nodes}
 use Rattle.meaning.specs.Whole.{any}
-use Rattle.meaning.specs.Reduce.{subsumes, dropped, keep, reduce, reduceF, kept, keptF}
+use Rattle.meaning.specs.Reduce.{subsumes, dropped, keptOf, reduce, reduceF, kept, keptF}
 use Rattle.meaning.proofs.Reduced.{subsumes-reduce}
 
 under-reduce : (r : ℕ) (f : Forest ℕ) → under r (reduceF f) ≡ map reduce (under r f)
@@ -45,13 +45,13 @@ kept-written r t f b = rw (dropped-written r b t f)
 
 -- and for whatever is asked of the kept children: those of f, before which the children b are written
 pub over-kept : {A : Type 0} (m : Forest ℕ → A) (r : ℕ) (t : Concept) (f b : Forest ℕ)
-    → m (keep (reduceF b) (reduceF (more r t f)))
-    ≡ cond (dropped (under r b) t (under r f)) (m (keep (reduceF (more r t b)) (reduceF f))) (m (more r (reduce t) (keep (reduceF (more r t b)) (reduceF f))))
-unfolding keep reduce
+    → m (keptOf (reduceF b) (reduceF (more r t f)))
+    ≡ cond (dropped (under r b) t (under r f)) (m (keptOf (reduceF (more r t b)) (reduceF f))) (m (more r (reduce t) (keptOf (reduceF (more r t b)) (reduceF f))))
+unfolding keptOf reduce
 over-kept {A} m r t f b = rw (dropped-written r b t f) (go (dropped (under r b) t (under r f)))
   where
     K : Forest ℕ
-    K = keep (more r (reduce t) (reduceF b)) (reduceF f)
+    K = keptOf (more r (reduce t) (reduceF b)) (reduceF f)
 
     go : (d : Bool) → m (cond d K (more r (reduce t) K)) ≡ cond d (m K) (m (more r (reduce t) K))
     go true = refl

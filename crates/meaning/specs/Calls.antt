@@ -1,7 +1,7 @@
 -- The answer of each public call as a function of what is handed in, in the document's order of tests:
 -- "A degree or yes/no reads the register, the requirement, then 11 and 14 (degree and margin only), 15, 13 (margin only), 16 (no margin)."
 -- Assumes nothing.
-use mathlib.Core.Bool.{Bool, true, false, not}
+use mathlib.Core.Bool.{Bool, true, false}
 use mathlib.Core.List.{List, [], _∷_}
 use Prim.Native.Nat.{ℕ}
 use lib.Dec.{ltb, leb}
@@ -11,13 +11,13 @@ use lib.Seq.{sets}
 use Rattle.meaning.specs.declared.Side.the-variants.{Requirement as requirement}
 use Rattle.meaning.specs.Refusal.{Answer, good, refused, at, onCall, refuseIf, _>>=_, _>>_}
 use Rattle.meaning.specs.Tree.{Concept, nodes}
-use Rattle.meaning.specs.Fraction.{Frac, _//_, margin, marginOver}
+use Rattle.meaning.specs.Fraction.{Frac, _//_, fraction, margin, marginOver}
 use Rattle.meaning.specs.Register.{Register, judged, readRegister}
 use Rattle.meaning.specs.Reduce.{reduce, size}
 use Rattle.meaning.specs.Bounds.{mostSize}
 use Rattle.meaning.specs.Degree.{answered}
 use Rattle.meaning.specs.Requirement.{bare, member}
-use Rattle.meaning.specs.Message.{Part, readRequirement, lawful}
+use Rattle.meaning.specs.Message.{Part, readRequirement}
 use Rattle.meaning.specs.Shown.{degreeMap, yesMap}
 
 -- a requirement that must be plain: 11 at its first threshold, then 14 for the outer concept, whose root is at place 3
@@ -65,7 +65,7 @@ marginCall image message item p q = do
   g ← readRegister image
   t ← readPlain message
   inRange g item
-  refuseIf (not (lawful p q)) (onCall 13)
+  fraction (onCall 13) p q
   let d = answered (judged g) t item
   good (record { margin = margin d (p // q); over = marginOver d (p // q) })
 

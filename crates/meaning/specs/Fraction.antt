@@ -1,10 +1,13 @@
--- Fractions, lowest terms, the margin, and the four comparisons.
+-- Fractions, lowest terms, what is wrong with a fraction, the margin, and the four comparisons.
 -- Assumes nothing.
 use mathlib.Core.Path.{_≡_}
-use mathlib.Core.Bool.{Bool}
+use mathlib.Core.Bool.{Bool, _&&_, not}
 use Prim.Native.Nat.{ℕ, zero, suc, _+_, _*_, _/_, _%_, _≤_, _<_, _∣_}
-use lib.Dec.{leb, ltb}
+use lib.Dec.{leb, ltb, eqb}
 use lib.IntN.{ℤ, subℕ}
+use Rattle.meaning.specs.declared.Refusal.{Refusal}
+use Rattle.meaning.specs.Bounds.{mostQ}
+use Rattle.meaning.specs.Refusal.{Answer, refuseIf}
 
 pub record Frac : Type 0 where
   pub num : ℕ
@@ -51,6 +54,16 @@ pub record Lowest (p low : Frac) : Type 0 where
   pub positive : 0 < low .den
   pub same : Same low p
   pub bare : (k : ℕ) → k ∣ low .num → k ∣ low .den → k ≤ 1
+
+-- ---- the fraction of a threshold
+
+-- "The threshold is p/q, q from 1 to 1,000, p at most q, no common factor above 1"
+abbrev pub lawful : ℕ → ℕ → Bool
+lawful p q = leb 1 q && leb q mostQ && leb p q && eqb (gcd p q) 1
+
+-- what is wrong with a fraction: the step that reading and the margin share
+abbrev pub fraction : Refusal → ℕ → ℕ → Answer (Unit {0})
+fraction r p q = refuseIf (not (lawful p q)) r
 
 -- ---- a degree against a threshold
 

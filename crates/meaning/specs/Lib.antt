@@ -16,6 +16,7 @@ pub mod Shown
 pub mod InPlace
 pub mod Rows
 pub mod Session
+pub mod Refusing
 pub mod Calls
 pub mod Demand3
 pub mod Sheet

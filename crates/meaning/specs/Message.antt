@@ -1,25 +1,22 @@
 -- Document 01, "Requirement message": the bytes of a requirement, and their reading with every refusal.
 -- Assumes nothing.
-use mathlib.Core.Bool.{Bool, _&&_, not}
+use mathlib.Core.Bool.{Bool, _&&_}
 use mathlib.Core.List.{List, [], _∷_, _++_}
 use Prim.Native.Nat.{ℕ, zero, suc, _+_}
-use lib.Dec.{ltb, leb, eqb}
+use lib.Dec.{ltb, leb}
 use lib.ListN.{length, take, drop}
 use Rattle.meaning.specs.declared.Side.the-variants.{Requirement as requirement}
 use Rattle.meaning.specs.Refusal.{Answer, good, refused, at, refuseIf, _>>=_, _>>_}
 use Rattle.meaning.specs.Bytes.{number, bytes, fields, readHead, unequal, headed}
 use Rattle.meaning.specs.Names.{isSet}
 use Rattle.meaning.specs.Tree.{Tree, node, Forest, none, more, Concept, count, nodes, levels, each, written}
-use Rattle.meaning.specs.Fraction.{_//_, gcd, Comparison, less, atMost, greater, atLeast}
+use Rattle.meaning.specs.Fraction.{_//_, fraction, Comparison, less, atMost, greater, atLeast}
+pub use Rattle.meaning.specs.Fraction.{lawful}
 use Rattle.meaning.specs.Reduce.{reduce, size}
-use Rattle.meaning.specs.Bounds.{mostRole, mostLevels, mostNodes, mostThresholds, mostQ, mostSize}
+use Rattle.meaning.specs.Bounds.{mostRole, mostLevels, mostNodes, mostThresholds, mostSize}
 use Rattle.meaning.specs.Requirement.{Threshold, Label, Requirement, every}
 
 -- ---- which requirements there are
-
--- "The threshold is p/q, q from 1 to 1,000, p at most q, no common factor above 1"
-abbrev pub lawful : ℕ → ℕ → Bool
-lawful p q = leb 1 q && leb q mostQ && leb p q && eqb (gcd p q) 1
 
 abbrev pub code : Comparison → ℕ
 code less = 0
@@ -149,7 +146,8 @@ readThreshold s end owner w = do
   let p = w .next
   refuseIf (leb mostThresholds (length (w .parts))) (at requirement 12 p)
   fields requirement end (1 ∷ 2 ∷ 2 ∷ []) p
-  refuseIf (not (leb (number s p 1) 3 && lawful (number s (p + 1) 2) (number s (p + 3) 2))) (at requirement 13 p)
+  refuseIf (ltb 3 (number s p 1)) (at requirement 13 p)
+  fraction (at requirement 13 p) (number s (p + 1) 2) (number s (p + 3) 2)
   fields requirement end (2 ∷ []) (p + 5)
   let len = number s (p + 5) 2
   refuseIf (ltb end (p + 7 + len)) (at requirement 1 (p + 5))

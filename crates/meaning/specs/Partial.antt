@@ -4,7 +4,7 @@ use mathlib.Core.Path.{_≡_}
 use mathlib.Core.List.{List, [], _∷_, _++_, List·Memᴰ}
 use mathlib.Core.Option.{Option, some}
 use mathlib.Core.Option.{none as nowhere}
-use Prim.Native.Nat.{ℕ, zero, suc, _+_}
+use Prim.Native.Nat.{ℕ, zero, suc, _+_, _<_}
 use Rattle.meaning.specs.Names.{names, common}
 use Rattle.meaning.specs.Tree.{node, Forest, none, more, Concept, count, roleAt}
 use Rattle.meaning.specs.Graph.{Graph}
@@ -41,7 +41,8 @@ module _ {N : Type 0} (G : Graph N) where
     valuesOf none h = 0 // 1
     valuesOf (more r t f) h = addIf (h 0 []) (λ y. valueOf t y (h 0)) (valuesOf f (λ j. h (suc j)))
 
-  -- Definition 20: d is the greatest value that a partial map of the reduced concept reaches with its root at x
+  -- Definition 20: d is a number, and the greatest value that a partial map of the reduced concept reaches with its root at x
   pub record IsDegree (t : Concept) (x : N) (d : Frac) : Type 0 where
+    pub positive : 0 < d .den
     pub noMore : (h : PartialMap (reduce t) x) → AtMost (valueOf (reduce t) x (h .map)) d
     pub reached : (h : PartialMap (reduce t) x) × Same (valueOf (reduce t) x (h .map)) d

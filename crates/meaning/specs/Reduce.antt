@@ -20,17 +20,17 @@ unfolding any
 dropped earlier c later = any (λ d. subsumes c d) earlier || any (λ d. subsumes c d && not (subsumes d c)) later
 
 -- the kept ones of the second children; the first stand before them
-unfoldable pub keep : Forest ℕ → Forest ℕ → Forest ℕ
+unfoldable pub keptOf : Forest ℕ → Forest ℕ → Forest ℕ
 unfolding dropped under
-keep b none = none
-keep b (more r c f) = cond (dropped (under r b) c (under r f)) (keep (more r c b) f) (more r c (keep (more r c b) f))
+keptOf b none = none
+keptOf b (more r c f) = cond (dropped (under r b) c (under r f)) (keptOf (more r c b) f) (more r c (keptOf (more r c b) f))
 
 -- "Reduce from the leaves up."
 unfoldable mutual
-  unfolding keep
+  unfolding keptOf
 
   pub reduce : Concept → Concept
-  reduce (node a f) = node a (keep none (reduceF f))
+  reduce (node a f) = node a (keptOf none (reduceF f))
 
   pub reduceF : Forest ℕ → Forest ℕ
   reduceF none = none

@@ -1,6 +1,8 @@
 -- Document 01, "Refusal numbers": an answer is what was asked for, or a refusal with side, number and byte place.
 -- A call is written as a list of steps in the document's order: the first that refuses is the answer.
 -- Assumes nothing.
+use mathlib.Core.Path.{_≡_}
+use mathlib.Core.Logic.{_↔_}
 use mathlib.Core.Bool.{Bool, true, false}
 use Prim.Native.Nat.{ℕ}
 use Rattle.meaning.specs.declared.Side.{Side}
@@ -23,6 +25,11 @@ onCall n = at Call n 0
 unfoldable pub refuseIf : Bool → Refusal → Answer (Unit {0})
 refuseIf true r = refused r
 refuseIf false r = good tt
+
+-- an answer that is refused exactly when a row holds, with that row's refusal, and good exactly when what is handed in is one that is taken
+pub record Exactly {A : Type 0} (a : Answer A) (Row : Refusal → Type 0) (Takes : Type 0) : Type 0 where
+  pub refuses : (f : Refusal) → (a ≡ refused f) ↔ Row f
+  pub takes : ((x : A) × (a ≡ good x)) ↔ Takes
 
 -- one step, and then what follows it
 infixl 10 _>>=_

@@ -24,10 +24,11 @@ use Rattle.graph.specs.Judged.{Judged}
 use Rattle.graph.specs.Sets.{inSet, Among, With, Spread}
 use Rattle.graph.proofs.Empty.{zeros, none-in, among-none}
 use Rattle.graph.proofs.Use.{next-inside}
-use Rattle.meeting.specs.Cells.{cell, placeOf, Sifted, Stored, Outside}
-use Rattle.meeting.specs.Standing.{ruledAt}
+use Rattle.screening.specs.Sifting.{Sifted}
+use Rattle.meeting.specs.Cells.{cell, placeOf, Stored, Outside}
+use Rattle.screening.specs.Standing.{ruledAt}
 use Rattle.meeting.specs.Case.{Case, Done, Walk, Settled}
-use Rattle.meeting.proofs.Sifting.{stayed}
+use Rattle.screening.proofs.Sifting.{stayed}
 use Rattle.meeting.proofs.Table.{stored-cell, outside-part, part-row}
 use Rattle.meeting.proofs.Children.{Rest, Child, rest-start, rest-child, rest-step, rest-empty, rest-whole, all-met}
 use Rattle.meeting.proofs.Trail.{Trail, Next, trail-start, trail-next, trail-end, whole-map}

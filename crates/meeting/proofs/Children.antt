@@ -17,12 +17,13 @@ use Rattle.meaning.proofs.Rows.{opened}
 use Rattle.meaning.proofs.Tests.{true-false}
 use Rattle.graph.specs.Sets.{inSet, Spread, Closed}
 use Rattle.graph.proofs.Same.{any-same}
-use Rattle.meeting.specs.Cells.{rowOf, cell, Sifted, Outside, Right, RightF}
-use Rattle.meeting.specs.Standing.{ruledAt, Ruled, RuledF}
+use Rattle.screening.specs.Sifting.{Sifted}
+use Rattle.meeting.specs.Cells.{rowOf, cell, Outside, Right, RightF}
+use Rattle.screening.specs.Standing.{ruledAt, Ruled, RuledF}
 use Rattle.meeting.specs.Case.{Done}
-use Rattle.meeting.proofs.Sifting.{stayed}
+use Rattle.screening.proofs.Sifting.{stayed}
 use Rattle.meeting.proofs.Table.{SameRows, same-cell}
-use Rattle.meeting.proofs.Through.{and-assoc}
+use Rattle.screening.proofs.Through.{and-assoc}
 
 -- a requirement's children without their thresholds
 abbrev pub bareF : Forest Label → Forest ℕ

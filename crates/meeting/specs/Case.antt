@@ -14,8 +14,9 @@ use Rattle.meaning.specs.Rows.{Holds}
 use Rattle.meaning.specs.Shown.{yesMap}
 use Rattle.graph.specs.Judged.{Judged}
 use Rattle.graph.specs.Sets.{inSet}
-use Rattle.meeting.specs.Cells.{rowOf, Sifted, Outside, Right}
-use Rattle.meeting.specs.Standing.{AllStand, Ruled}
+use Rattle.screening.specs.Sifting.{Sifted}
+use Rattle.meeting.specs.Cells.{rowOf, Outside, Right}
+use Rattle.screening.specs.Standing.{AllStand, Ruled}
 
 -- a register that was read, and the requirement at a row of at most `left` levels, with its thresholds
 pub record Case (s : List ℕ) (items : ℕ) (index message names roles ends owners firsts : List ℕ) (parts node left : ℕ) : Type 0 where

@@ -21,15 +21,6 @@ rowOf m n = take 8 (drop (n * 8) m)
 abbrev pub cell : List ℕ → ℕ → ℕ → Bool
 cell m n x = inSet (rowOf m n) x
 
--- of a set stay the items that say yes
-pub record Sifted (p : ℕ → Bool) (old new : List ℕ) : Type 0 where
-  pub each : (x : ℕ) → inSet new x ≡ (inSet old x && p x)
-
--- whether one item stays in a set that had it
-pub record Retained (x : ℕ) (yes : Bool) (old new : List ℕ) : Type 0 where
-  pub here : inSet new x ≡ yes
-  pub others : (y : ℕ) → (y ≡ x → ⊥) → inSet new y ≡ inSet old y
-
 -- no rows have changed but those from n up to e
 pub record Outside (n e : ℕ) (old new : List ℕ) : Type 0 where
   pub before : (k : ℕ) → k < n * 8 → getD new k 0 ≡ getD old k 0

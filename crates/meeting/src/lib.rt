@@ -1,14 +1,12 @@
 // Which items meet a requirement that is held as rows, over a register image that was read, and the map shown for a yes.
 // Going down from a set of items, those that meet a node stay; what stays at each node is noted in a table, a set for each written node.
-pub mod limit; // limit.rt: the items that satisfy a threshold
-
 use graph::sets;
 ghost use mathlib.Core.Path.{_≡_};
 ghost use mathlib.Core.Bool.{true};
 ghost use Prim.Native.Nat.{_+_, _*_, _≤_, _<_};
 ghost use lib.ListN.{length, getD};
 ghost use lib.Seq.{sets};
-ghost use Rattle.meaning.specs.Bounds.{mostItems, mostThresholds};
+ghost use Rattle.meaning.specs.Bounds.{mostItems};
 ghost use Rattle.meaning.specs.Names.{within};
 ghost use Rattle.meaning.specs.Register.{judged};
 ghost use Rattle.meaning.specs.Whole.{any};
@@ -16,20 +14,9 @@ ghost use Rattle.meaning.specs.Shown.{first, yesMap};
 ghost use Rattle.register.specs.Image.{Asked, Image};
 ghost use Rattle.graph.specs.Judged.{Judged};
 ghost use Rattle.graph.specs.Sets.{inSet, Among};
-ghost use Rattle.meeting.specs.Cells.{Sifted, Retained, Stored, placeOf};
-ghost use Rattle.meeting.specs.Standing.{AllStand, ruledAt};
+ghost use Rattle.screening.specs.Sifting.{Sifted};
+ghost use Rattle.meeting.specs.Cells.{Stored, placeOf};
 ghost use Rattle.meeting.specs.Case.{Case, Done, Walk, Settled};
-
-// An item of a set stays in it or not.
-fn retain(set: &mut [u64], x: usize, yes: bool)
-    requires { ⌜ (length (now set) ≡ 8) × (x < mostItems) × (inSet (now set) x ≡ true) ⌝ }
-    ensures { λ _. ⌜ Retained x yes (now (set .entry)) (now (set .exit)) ⌝ }
-{
-    if yes {
-        return;
-    }
-    sets::exclude(set, x);
-}
 
 // Of a set stay the items that hold these names.
 fn hold(s: &[u8], names: u64, set: &mut [u64])
@@ -39,37 +26,8 @@ fn hold(s: &[u8], names: u64, set: &mut [u64])
 {
     let mut x = sets::next_in(set, 0);
     while x < meaning::MOST_ITEMS {
-        retain(set, x, names & graph::names(s, x) == names);
+        screening::retain(set, x, names & graph::names(s, x) == names);
         x = sets::next_in(set, x + 1);
-    }
-}
-
-// Of a set stay the items that satisfy each threshold of a node.
-fn screen(
-    s: &[u8],
-    items: usize,
-    index: &[u16],
-    message: &[u8],
-    owners: &[u8; 16],
-    firsts: &[u16; 16],
-    parts: usize,
-    node: usize,
-    set: &mut [u64],
-)
-    requires { ⌜ Judged (now s) items (now index) ⌝ }
-    requires { ⌜ AllStand (now message) (now firsts) parts ⌝ }
-    requires { ⌜ (parts ≤ mostThresholds) × (length (now set) ≡ 8) × Among items (now set) ⌝ }
-    ensures { λ _. ⌜ ((j : Judged (now (s .entry)) items (now (index .entry))) (a : AllStand (now (message .entry)) (now (firsts .entry)) parts)
-        → Sifted (λ x. ruledAt (judged (j .register)) (now (owners .entry)) (a .thresholds) parts node x) (now (set .entry)) (now (set .exit))) ⌝ }
-{
-    let mut k = 0;
-    while k < parts {
-        let at = k;
-        k += 1;
-        if fields::octet(owners[at]) != node {
-            continue;
-        }
-        limit::judge(s, items, index, message, fields::pair(firsts[at]), set);
     }
 }
 
@@ -103,7 +61,7 @@ fn fold(s: &[u8], items: usize, index: &[u16], role: usize, child: &[u64], set: 
     let mut x = sets::next_in(set, 0);
     while x < meaning::MOST_ITEMS {
         let to = seek(s, items, index, x, role, child);
-        retain(set, x, to != meaning::NOWHERE);
+        screening::retain(set, x, to != meaning::NOWHERE);
         x = sets::next_in(set, x + 1);
     }
 }
@@ -144,7 +102,7 @@ fn meet(
         → Done (now (ends .entry)) (judged (k .graph .register)) (k .tree) node (now (set .entry)) (now (set .exit)) (now (met .entry)) (now (met .exit))) ⌝ }
 {
     hold(s, names[node], set);
-    screen(s, items, index, message, owners, firsts, parts, node, set);
+    screening::screen(s, items, index, message, owners, firsts, parts, node, set);
     let e = fields::octet(ends[node]);
     let mut c = node + 1;
     while c < e {

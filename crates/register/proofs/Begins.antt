@@ -1,4 +1,5 @@
--- The links of a register rise, so those of one item stand together, and a search by halves finds where they begin.
+-- The links of a register rise, in where they lead from and in their numbers. So those of one item stand together, and a search by halves finds where
+-- they begin.
 -- Assumes nothing.
 use mathlib.Core.Path.{_≡_, sym, _∙_, subst}
 use mathlib.Core.Bool.{Bool, _&&_, _||_}
@@ -9,14 +10,18 @@ use mathlib.Core.Option.{none as nowhere}
 use Prim.Native.Nat.{ℕ, zero, suc, _+_, _≤_, _<_}
 use native.Mathlib.Nat.{le-refl, le-trans, le-of-eq}
 use native.Mathlib.Omega.{arith}
-use lib.Dec.{T, eqb, ltb, eqb→eq, ltb→lt}
+use lib.Dec.{T, eqb, ltb, eqb→eq, ltb→lt, leb→le}
 use lib.ListN.{length, getD}
 use Rattle.meaning.specs.Bytes.{Bytes}
 use Rattle.meaning.specs.Refusal.{good}
 use Rattle.meaning.specs.Register.{Link, Register, rises, linksOf, readBuffer}
 use Rattle.meaning.proofs.Tests.{and-both, or-cases}
 use Rattle.meaning.proofs.Image.{right, image-fits}
+use Rattle.meaning.proofs.SessionLinks.{Sound}
 use Rattle.register.specs.Image.{Asked, Image, noLink, linkNo, Begins}
+use Rattle.register.specs.Reading.{key, Small}
+use Rattle.register.proofs.Rising.{rises-key}
+use Rattle.register.proofs.Halves.{Narrowed}
 
 -- what is asked holds of the register that was read
 pub asked-image : {s : List ℕ} {P : Register → Type 0} → Asked s P → Image s P
@@ -32,51 +37,49 @@ from-le l m t = go (or-cases (ltb (l .from) (m .from)) (eqb (l .from) (m .from) 
     go (inl h) = let k = ltb→lt (l .from) (m .from) h in omega arith
     go (inr h) = le-of-eq (eqb→eq (l .from) (m .from) (and-both (eqb (l .from) (m .from)) later h .0))
 
--- the links behind l lead from no earlier item
-behind : (n : ℕ) (l : Link) (ls : List Link) (k : ℕ) → T (linksOf n (some l) ls) → k < length ls → l .from ≤ getD ls k noLink .from
-behind n l [] k w h = absurd (omega arith)
-behind n l (m ∷ ls) zero w h = from-le l m (right n (some l) m ls w .0 .rises)
-behind n l (m ∷ ls) (suc k) w h =
-    let q = right n (some l) m ls w in
-    le-trans (from-le l m (q .0 .rises)) (behind n m ls k (q .1) (omega arith))
+-- ---- what rises with the links
 
-pub from-rises : (n : ℕ) (before : Option Link) (ls : List Link) (j k : ℕ) → T (linksOf n before ls) → j ≤ k → k < length ls
-    → getD ls j noLink .from ≤ getD ls k noLink .from
-from-rises n before [] j k w h l = absurd (omega arith)
-from-rises n before (x ∷ ls) zero zero w h l = le-refl _
-from-rises n before (x ∷ ls) zero (suc k) w h l = behind n x ls k (right n before x ls w .1) (omega arith)
-from-rises n before (x ∷ ls) (suc j) zero w h l = absurd (omega arith)
-from-rises n before (x ∷ ls) (suc j) (suc k) w h l = from-rises n (some x) ls j k (right n before x ls w .1) (omega arith) (omega arith)
+module _ (n : ℕ) (value : Link → ℕ) (up : (l m : Link) → Sound n l → Sound n m → T (rises l m) → value l ≤ value m) where
+  sound : (before : Option Link) (l : Link) (ls : List Link) → T (linksOf n before (l ∷ ls)) → Sound n l
+  sound before l ls w = let q = right n before l ls w .0 in (q .from, q .role, q .to)
 
-pub links-rise : (s : List ℕ) → Bytes s → (g : Register) → readBuffer s ≡ good g → (j k : ℕ) → j ≤ k → k < length (g .links)
-    → linkNo g j .from ≤ linkNo g k .from
-links-rise s b g h j k = from-rises (length (g .names)) nowhere (g .links) j k (image-fits s g b h .0 .rising)
+  behind : (l : Link) (ls : List Link) (k : ℕ) → Sound n l → T (linksOf n (some l) ls) → k < length ls → value l ≤ value (getD ls k noLink)
+  behind l [] k o w h = absurd (omega arith)
+  behind l (m ∷ ls) zero o w h = up l m o (sound (some l) m ls w) (right n (some l) m ls w .0 .rises)
+  behind l (m ∷ ls) (suc k) o w h =
+      let q = right n (some l) m ls w in
+      let u = sound (some l) m ls w in
+      le-trans (up l m o u (q .0 .rises)) (behind m ls k u (q .1) (omega arith))
 
--- ---- the search: what is known of the links outside low to high
+  value-rises : (before : Option Link) (ls : List Link) (j k : ℕ) → T (linksOf n before ls) → j ≤ k → k < length ls
+      → value (getD ls j noLink) ≤ value (getD ls k noLink)
+  value-rises before [] j k w h l = absurd (omega arith)
+  value-rises before (x ∷ ls) zero zero w h l = le-refl _
+  value-rises before (x ∷ ls) zero (suc k) w h l = behind x ls k (sound before x ls w) (right n before x ls w .1) (omega arith)
+  value-rises before (x ∷ ls) (suc j) zero w h l = absurd (omega arith)
+  value-rises before (x ∷ ls) (suc j) (suc k) w h l = value-rises (some x) ls j k (right n before x ls w .1) (omega arith) (omega arith)
 
-pub record Narrowed (ls : List Link) (item low high : ℕ) : Type 0 where
-  pub before : (j : ℕ) → j < low → getD ls j noLink .from < item
-  pub behind : (j : ℕ) → high ≤ j → j < length ls → item ≤ getD ls j noLink .from
+module _ (s : List ℕ) (b : Bytes s) (g : Register) (h : readBuffer s ≡ good g) where
+  -- where they lead from
+  pub links-rise : (j k : ℕ) → j ≤ k → k < length (g .links) → linkNo g j .from ≤ linkNo g k .from
+  links-rise j k =
+      value-rises (length (g .names)) (λ l. l .from) (λ l m o u t. from-le l m t) nowhere (g .links) j k (image-fits s g b h .0 .rising)
 
-pub narrowed-none : (ls : List Link) (item high : ℕ) → high ≡ length ls → Narrowed ls item 0 high
-narrowed-none ls item high e = record { before = λ j h. absurd (let z : j < 0 = h in omega arith); behind = λ j h l. absurd (omega arith) }
+  -- their numbers
+  pub keys-rise : (j k : ℕ) → j ≤ k → k < length (g .links) → key (linkNo g j) ≤ key (linkNo g k)
+  keys-rise j k =
+      value-rises (length (g .names)) (λ l. key l) up nowhere (g .links) j k (image-fits s g b h .0 .rising)
+    where
+      small : (l : Link) → Sound (length (g .names)) l → Small l
+      small l o = (o .1, omega (arith, o .2, image-fits s g b h .0 .items))
 
-module _ (s : List ℕ) (b : Bytes s) (item : ℕ) (g : Register) (h : readBuffer s ≡ good g) where
-  pub narrowed-up : (low high mid f : ℕ) → Narrowed (g .links) item low high → mid < length (g .links) → f ≡ linkNo g mid .from → f < item
-      → Narrowed (g .links) item (mid + 1) high
-  narrowed-up low high mid f w m e l = record {
-    before = λ j k. let r = links-rise s b g h j mid (omega arith) m in omega arith;
-    behind = w .behind;
-  }
+      up : (l m : Link) → Sound (length (g .names)) l → Sound (length (g .names)) m → T (rises l m) → key l ≤ key m
+      up l m o u t = let q = leb→le (key l + 1) (key m) (subst T (rises-key l m (small l o) (small m u)) t) in omega arith
 
-  pub narrowed-down : (low high mid f : ℕ) → Narrowed (g .links) item low high → mid < length (g .links) → f ≡ linkNo g mid .from → item ≤ f
-      → Narrowed (g .links) item low mid
-  narrowed-down low high mid f w m e l = record {
-    before = w .before;
-    behind = λ j k n. let r = links-rise s b g h mid j k n in omega arith;
-  }
+-- ---- the search for the links of an item
 
-pub narrowed-all : (ls : List Link) (item low high : ℕ) → Narrowed ls item low high → low ≡ high → high ≤ length ls → Begins ls item low
+pub narrowed-all : (ls : List Link) (item low high : ℕ) → Narrowed (λ j. getD ls j noLink .from) (length ls) item low high → low ≡ high → high ≤ length ls
+    → Begins ls item low
 narrowed-all ls item low high w e h = record {
   within = omega arith;
   before = w .before;

@@ -1,6 +1,6 @@
 -- The end of each test under the head, as the code comes to it. The items are passed over at once: any eight bytes are a set of names.
 -- Assumes nothing.
-use mathlib.Core.Path.{_≡_, refl, sym, ap, _∙_}
+use mathlib.Core.Path.{_≡_, refl, sym, ap, ap₂, _∙_, subst}
 use mathlib.Core.Bool.{Bool, true, false, _||_}
 use mathlib.Core.List.{List, [], _∷_}
 use mathlib.Core.Option.{none as nowhere}
@@ -17,6 +17,7 @@ use Rattle.meaning.specs.Register.{Link, readItems, readLinks, readBody}
 use Rattle.meaning.specs.Bounds.{mostItems, mostLinks}
 use Rattle.meaning.proofs.Tests.{neither}
 use Rattle.meaning.proofs.Reading.{pass, stop, stopped, halted, took, below, not-below, fitted}
+use Rattle.register.specs.Layout.{countAt, linkPlace, cutNames}
 use Rattle.register.specs.Reading.{Counts, counted, linksAnswer}
 
 -- one field that does not fit
@@ -74,49 +75,56 @@ module _ (s : List ℕ) (end : ℕ) where
     unfolding readBody
     body-items-few h = counted-refused _ (fit-field end 2 3 _ long ∙ stop (ltb n 1 || ltb mostItems n) _ _ (ap (λ b. b || ltb mostItems n) (below n 1 h)))
 
-    pub body-items-many : 1 ≤ n → 512 < n → answer ≡ refused (at register 4 3)
+    pub body-items-many : 1 ≤ n → mostItems < n → answer ≡ refused (at register 4 3)
     unfolding readBody
     body-items-many l h =
         counted-refused _ (fit-field end 2 3 _ long
         ∙ stop (ltb n 1 || ltb mostItems n) _ _ (ap (λ b. b || ltb mostItems n) (not-below n 1 l) ∙ below mostItems n h))
 
-    module _ (some′ : 1 ≤ n) (few : n ≤ 512) where
+    module _ (some′ : 1 ≤ n) (few : n ≤ mostItems) where
       in-range : (ltb n 1 || ltb mostItems n) ≡ false
       in-range = neither (ltb n 1) (ltb mostItems n) (not-below n 1 some′) (not-below mostItems n few)
 
-      pub body-names-cut : {place : ℕ} → end < 5 + 8 * n → place ≡ 5 + (end - 5) / 8 * 8 → answer ≡ refused (at register 1 place)
+      pub body-names-cut : {place : ℕ} → end < countAt n → place ≡ cutNames end → answer ≡ refused (at register 1 place)
       unfolding readBody
       body-names-cut h e =
           counted-refused _ (fit-field end 2 3 _ long ∙ pass (ltb n 1 || ltb mostItems n) _ _ in-range
           ∙ stopped (readItems s end n 5) _ _ (items-cut s end n 5 long h))
           ∙ ap (λ (z : ℕ). refused (at register 1 z)) (sym e)
 
-      module _ (items : 5 + 8 * n ≤ end) where
+      module _ (items : countAt n ≤ end) where
         abbrev p : ℕ
-        p = 5 + 8 * n
+        p = countAt n
 
         abbrev m : ℕ
         m = number s p 2
 
-        pub body-links-cut : end < p + 2 → answer ≡ refused (at register 1 p)
+        pub body-links-cut : {place : ℕ} → place ≡ p → end < place + 2 → answer ≡ refused (at register 1 place)
         unfolding readBody
-        body-links-cut h =
+        body-links-cut e h =
             let q = items-all s end n 5 items in
             counted-refused _ (fit-field end 2 3 _ long ∙ pass (ltb n 1 || ltb mostItems n) _ _ in-range ∙ took (readItems s end n 5) _ (q .0) (q .1)
-            ∙ halted (fields register end (2 ∷ []) p) _ _ (cut-field end 2 p h))
+            ∙ halted (fields register end (2 ∷ []) p) _ _ (cut-field end 2 p (omega arith)))
+            ∙ ap (λ (z : ℕ). refused (at register 1 z)) (sym e)
 
-        module _ (counts : p + 2 ≤ end) where
-          pub body-links-many : 4096 < m → answer ≡ refused (at register 4 p)
+        module _ (place : ℕ) (stands : place ≡ p) (counts : place + 2 ≤ end) where
+          pub body-links-many : mostLinks < number s place 2 → answer ≡ refused (at register 4 place)
           unfolding readBody
           body-links-many h =
               let q = items-all s end n 5 items in
+              let many : mostLinks < m = subst (λ (z : ℕ). mostLinks < number s z 2) stands h in
               counted-refused _ (fit-field end 2 3 _ long ∙ pass (ltb n 1 || ltb mostItems n) _ _ in-range ∙ took (readItems s end n 5) _ (q .0) (q .1)
-              ∙ fit-field end 2 p _ counts ∙ stop (ltb mostLinks m) _ _ (below mostLinks m h))
+              ∙ fit-field end 2 p _ (omega arith) ∙ stop (ltb mostLinks m) _ _ (below mostLinks m many))
+              ∙ ap (λ (z : ℕ). refused (at register 4 z)) (sym stands)
 
-          pub body-links : m ≤ 4096 → answer ≡ linksAnswer s end n m (p + 2)
+          -- the counts as the code has them
+          pub body-links : (i l start : ℕ) → i ≡ n → l ≡ number s place 2 → start ≡ linkPlace i 0 → l ≤ mostLinks → answer ≡ linksAnswer s end i l start
           unfolding readBody counted linksAnswer
-          body-links h =
+          body-links i l start ei el es h =
               let q = items-all s end n 5 items in
+              let em : l ≡ m = el ∙ ap (λ (z : ℕ). number s z 2) stands in
+              let ep : p + 2 ≡ start = omega arith in
               ap counted (fit-field end 2 3 _ long ∙ pass (ltb n 1 || ltb mostItems n) _ _ in-range ∙ took (readItems s end n 5) _ (q .0) (q .1)
-              ∙ fit-field end 2 p _ counts ∙ pass (ltb mostLinks m) _ _ (not-below mostLinks m h))
+              ∙ fit-field end 2 p _ (omega arith) ∙ pass (ltb mostLinks m) _ _ (not-below mostLinks m (omega arith)))
               ∙ count-links (q .0) n (q .2) (readLinks s end n m nowhere (p + 2)) (ltb (p + 2 + 5 * m) end) (at register 8 (p + 2 + 5 * m))
+              ∙ ap (linksAnswer s end n m) ep ∙ ap₂ (λ (x y : ℕ). linksAnswer s end x y start) (sym ei) (sym em)

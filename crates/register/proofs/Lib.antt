@@ -4,6 +4,8 @@ pub mod Links
 pub mod Body
 pub mod Whole
 pub mod Facts
+pub mod Halves
 pub mod Begins
 pub mod Targets
+pub mod Once
 pub mod Promise

@@ -1,7 +1,7 @@
 -- What the readers of an image answer, in the document's words.
 -- Assumes nothing.
 use mathlib.Core.Path.{_≡_}
-use mathlib.Core.Bool.{cond}
+use mathlib.Core.Bool.{Bool, cond}
 use mathlib.Core.List.{List}
 use mathlib.Core.Option.{Option, some}
 use mathlib.Core.Option.{none as nowhere}
@@ -10,7 +10,9 @@ use lib.Dec.{ltb}
 use lib.ListN.{length}
 use Rattle.meaning.specs.declared.Side.the-variants.{Register as register}
 use Rattle.meaning.specs.Refusal.{Answer, good, refused, at, refuseIf, _>>=_, _>>_}
-use Rattle.meaning.specs.Register.{Link, Register, readLinks}
+use Rattle.meaning.specs.Bounds.{mostRole}
+use Rattle.meaning.specs.Register.{Link, Register, readLinks, readRegisterBy}
+use Rattle.fields.specs.Head.{wrongIn}
 use Rattle.register.specs.declared.Reading.{Reading}
 use Rattle.register.specs.declared.Reading.the-variants.{Good, Refused}
 use Rattle.register.specs.declared.Linked.{Linked}
@@ -21,9 +23,13 @@ pub record Counts : Type 0 where
   pub items : ℕ
   pub links : ℕ
 
+abbrev pub paperReading : Reading → Answer Counts
+paperReading (Good n m) = good (record { items = n; links = m })
+paperReading (Refused r) = refused r
+
+-- the former name, for crates that still say it
 abbrev pub paper : Reading → Answer Counts
-paper (Good n m) = good (record { items = n; links = m })
-paper (Refused r) = refused r
+paper r = paperReading r
 
 -- of a register that was read, its counts
 abbrev pub sizes : Register → Answer Counts
@@ -31,6 +37,10 @@ sizes g = good (record { items = length (g .names); links = length (g .links) })
 
 unfoldable pub counted : Answer Register → Answer Counts
 counted a = a >>= sizes
+
+-- The promise of `read`: of bytes, whole or in a session's buffer, and a result.
+abbrev pub ReadPromise : List ℕ → Bool → Reading → Type 0
+ReadPromise s session r = paperReading r ≡ counted (readRegisterBy (wrongIn session) s)
 
 abbrev pub refusedAt : ℕ → ℕ → Reading
 refusedAt n p = Refused (at register n p)
@@ -41,10 +51,14 @@ refusedAt n p = Refused (at register n p)
 abbrev pub key : Link → ℕ
 key l = (l .from * 256 + l .role) * 65536 + l .to
 
+-- the fields behind `from` are small enough not to reach into it
+abbrev pub Small : Link → Type 0
+Small l = (l .role ≤ mostRole) × (l .to < 65536)
+
 -- the least number that a link behind this one may have
 abbrev pub Floor : Option Link → ℕ → Type 0
 Floor nowhere f = f ≡ 0
-Floor (some l) f = (f ≡ key l + 1) × (l .role ≤ 31) × (l .to < 65536)
+Floor (some l) f = (f ≡ key l + 1) × (l .role ≤ mostRole) × (l .to < 65536)
 
 abbrev pub paperLink : Linked → Answer ℕ
 paperLink (GoodLink f) = good f

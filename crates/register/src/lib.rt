@@ -1,4 +1,6 @@
 // Reading a register image, whole or in a session's buffer, and reading one fact of an image that was read.
+pub mod layout; // layout.rt: where the parts of an image stand
+
 use fields::Head;
 use meaning::Refusal;
 use meaning::Side;
@@ -6,10 +8,10 @@ ghost use mathlib.Core.Path.{_≡_};
 ghost use mathlib.Core.Option.{Option};
 ghost use Prim.Native.Nat.{_+_, _*_, _≤_, _<_};
 ghost use lib.ListN.{length, getD};
-ghost use Rattle.meaning.specs.Register.{Link, readLink, readBody, readRegisterBy};
-ghost use Rattle.fields.specs.Head.{wrongIn};
+ghost use Rattle.meaning.specs.Register.{Link, linkAt, readLink, readBody};
+ghost use Rattle.meaning.specs.Bounds.{mostItems, mostLinks, mostRole};
 ghost use Rattle.register.specs.Image.{Asked, Image, linkNo, Begins};
-ghost use Rattle.register.specs.Reading.{paper, counted, linksAnswer, refusedAt, Floor, paperLink, keyed, Passed, cutAt};
+ghost use Rattle.register.specs.Reading.{ReadPromise, paperReading, counted, linksAnswer, refusedAt, key, Floor, paperLink, keyed, Passed, cutAt};
 
 // An image: how many items and links it has, or its refusal.
 pub enum Reading {
@@ -25,7 +27,7 @@ pub enum Linked {
 
 // Reads an image: of a whole input, or in a session of what a buffer begins with.
 pub fn read(s: &[u8], session: bool) -> Reading
-    ensures { λ r. ⌜ paper r ≡ counted (readRegisterBy (wrongIn session) (now (s .entry))) ⌝ }
+    ensures { λ r. ⌜ ReadPromise (now (s .entry)) session r ⌝ }
 {
     let h = fields::read_head(s, session);
     match h {
@@ -49,7 +51,7 @@ fn refused(number: usize, place: usize) -> Reading
 // What stands under the head.
 fn read_body(s: &[u8], end: usize) -> Reading
     requires { ⌜ (3 ≤ end) × (end ≤ length (now s)) ⌝ }
-    ensures { λ r. ⌜ paper r ≡ counted (readBody (now (s .entry)) end) ⌝ }
+    ensures { λ r. ⌜ paperReading r ≡ counted (readBody (now (s .entry)) end) ⌝ }
 {
     if end < 5 {
         return refused(1, 3);
@@ -58,27 +60,27 @@ fn read_body(s: &[u8], end: usize) -> Reading
     if items < 1 {
         return refused(4, 3);
     }
-    if 512 < items {
+    if meaning::MOST_ITEMS < items {
         return refused(4, 3);
     }
-    let at = 5 + 8 * items;
+    let at = layout::count_at(items);
     if end < at {
-        return refused(1, 5 + (end - 5) / 8 * 8);
+        return refused(1, layout::cut_names(end));
     }
     if end < at + 2 {
         return refused(1, at);
     }
     let links = fields::two(s, at);
-    if 4096 < links {
+    if meaning::MOST_LINKS < links {
         return refused(4, at);
     }
-    read_links(s, end, items, links, at + 2)
+    read_links(s, end, items, links, layout::link_at(items, 0))
 }
 
 // The links, and that nothing is left behind them.
 fn read_links(s: &[u8], end: usize, items: usize, links: usize, start: usize) -> Reading
-    requires { ⌜ (start ≤ end) × (end ≤ length (now s)) × (items ≤ 512) × (links ≤ 4096) ⌝ }
-    ensures { λ r. ⌜ paper r ≡ linksAnswer (now (s .entry)) end items links start ⌝ }
+    requires { ⌜ (start ≤ end) × (end ≤ length (now s)) × (items ≤ mostItems) × (links ≤ mostLinks) ⌝ }
+    ensures { λ r. ⌜ paperReading r ≡ linksAnswer (now (s .entry)) end items links start ⌝ }
 {
     let mut i = 0;
     let mut at = start;
@@ -104,7 +106,7 @@ fn read_links(s: &[u8], end: usize, items: usize, links: usize, start: usize) ->
 
 // One link, whose number must be at least `floor`. A link's number is that of its five bytes, and so rises with (from, role, to).
 fn read_link(s: &[u8], end: usize, items: usize, at: usize, floor: usize) -> Linked
-    requires { ⌜ (at ≤ end) × (end ≤ length (now s)) × (items ≤ 512) ⌝ }
+    requires { ⌜ (at ≤ end) × (end ≤ length (now s)) × (items ≤ mostItems) ⌝ }
     ensures { λ r. ⌜ ((before : Option Link) → Floor before floor → paperLink r ≡ keyed (readLink (now (s .entry)) end items before at)) ⌝ }
     ensures { λ r. ⌜ Passed at end r ⌝ }
 {
@@ -119,7 +121,7 @@ fn read_link(s: &[u8], end: usize, items: usize, at: usize, floor: usize) -> Lin
         };
     }
     let role = fields::one(s, at + 2);
-    if 31 < role {
+    if meaning::MOST_ROLE < role {
         return Linked::Refused {
             number: 7,
             place: at + 2,
@@ -170,7 +172,7 @@ pub fn names_of(s: &[u8], item: usize) -> u64
     requires { ⌜ Asked (now s) (λ g. item < length (g .names)) ⌝ }
     ensures { λ r. ⌜ Image (now (s .entry)) (λ g. r ≡ getD (g .names) item 0) ⌝ }
 {
-    fields::eight(s, 5 + 8 * item)
+    fields::eight(s, layout::names_at(item))
 }
 
 // Where its k-th link leads from, among so many items.
@@ -178,15 +180,15 @@ pub fn from_of(s: &[u8], items: usize, k: usize) -> usize
     requires { ⌜ Asked (now s) (λ g. (items ≡ length (g .names)) × (k < length (g .links))) ⌝ }
     ensures { λ r. ⌜ Image (now (s .entry)) (λ g. (r ≡ linkNo g k .from) × (r < length (g .names))) ⌝ }
 {
-    fields::two(s, 7 + 8 * items + 5 * k)
+    fields::two(s, layout::link_at(items, k))
 }
 
 // The role of its k-th link.
 pub fn role_of(s: &[u8], items: usize, k: usize) -> usize
     requires { ⌜ Asked (now s) (λ g. (items ≡ length (g .names)) × (k < length (g .links))) ⌝ }
-    ensures { λ r. ⌜ Image (now (s .entry)) (λ g. (r ≡ linkNo g k .role) × (r ≤ 31)) ⌝ }
+    ensures { λ r. ⌜ Image (now (s .entry)) (λ g. (r ≡ linkNo g k .role) × (r ≤ mostRole)) ⌝ }
 {
-    fields::one(s, 7 + 8 * items + 5 * k + 2)
+    fields::one(s, layout::link_at(items, k) + 2)
 }
 
 // Where its k-th link leads to.
@@ -194,7 +196,23 @@ pub fn to_of(s: &[u8], items: usize, k: usize) -> usize
     requires { ⌜ Asked (now s) (λ g. (items ≡ length (g .names)) × (k < length (g .links))) ⌝ }
     ensures { λ r. ⌜ Image (now (s .entry)) (λ g. (r ≡ linkNo g k .to) × (r < length (g .names))) ⌝ }
 {
-    fields::two(s, 7 + 8 * items + 5 * k + 3)
+    fields::two(s, layout::link_at(items, k) + 3)
+}
+
+// The number of the link at a place, that of its five bytes: it rises with (from, role, to).
+fn key_at(s: &[u8], at: usize) -> usize
+    requires { ⌜ at + 5 ≤ length (now s) ⌝ }
+    ensures { λ r. ⌜ r ≡ key (linkAt (now (s .entry)) at) ⌝ }
+{
+    (fields::two(s, at) * 256 + fields::one(s, at + 2)) * 65536 + fields::two(s, at + 3)
+}
+
+// The number of its k-th link.
+pub fn key_of(s: &[u8], items: usize, k: usize) -> usize
+    requires { ⌜ Asked (now s) (λ g. (items ≡ length (g .names)) × (k < length (g .links))) ⌝ }
+    ensures { λ r. ⌜ Image (now (s .entry)) (λ g. r ≡ key (linkNo g k)) ⌝ }
+{
+    key_at(s, layout::link_at(items, k))
 }
 
 // Where the links of an item begin: at the first link that leads from it or from an item behind it.

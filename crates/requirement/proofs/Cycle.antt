@@ -270,16 +270,18 @@ module _ (s : List ℕ) (end owner p parts : ℕ) (O F : List ℕ) (r : Read) (r
       })
 
 -- the comparison, p and q as code tests them
-module _ (s : List ℕ) (p x y : ℕ) (ok : Bool) (ex : x ≡ number s (p + 1) 2) (ey : y ≡ number s (p + 3) 2) (is : ok ≡ lawful x y) where
-  law : ok ≡ lawful (number s (p + 1) 2) (number s (p + 3) 2)
+module _ (s : List ℕ) (p x y : ℕ) (bad : Bool) (ex : x ≡ number s (p + 1) 2) (ey : y ≡ number s (p + 3) 2) (is : bad ≡ not (lawful x y)) where
+  abbrev lawfulAt : Bool
+  lawfulAt = lawful (number s (p + 1) 2) (number s (p + 3) 2)
+
+  law : bad ≡ not lawfulAt
   law = rw (ex, ey) at is
 
-  pub rule-kept : number s p 1 ≤ 3 → not ok ≡ false → (leb (number s p 1) 3 && lawful (number s (p + 1) 2) (number s (p + 3) 2)) ≡ true
-  rule-kept h e = ap (λ (b : Bool). b && lawful (number s (p + 1) 2) (number s (p + 3) 2)) (at-most (number s p 1) 3 h) ∙ sym law ∙ is-true ok (of-not ok e)
+  pub rule-kept : number s p 1 ≤ 3 → bad ≡ false → (leb (number s p 1) 3 && lawfulAt) ≡ true
+  rule-kept h e = ap (λ (b : Bool). b && lawfulAt) (at-most (number s p 1) 3 h) ∙ is-true lawfulAt (of-not lawfulAt (sym law ∙ e))
 
-  pub rule-broken : number s p 1 ≤ 3 → not ok ≡ true → (leb (number s p 1) 3 && lawful (number s (p + 1) 2) (number s (p + 3) 2)) ≡ false
-  rule-broken h e =
-      ap (λ (b : Bool). b && lawful (number s (p + 1) 2) (number s (p + 3) 2)) (at-most (number s p 1) 3 h) ∙ sym law ∙ is-false ok (T-not ok (subst T (sym e) tt))
+  pub rule-broken : number s p 1 ≤ 3 → bad ≡ true → (leb (number s p 1) 3 && lawfulAt) ≡ false
+  rule-broken h e = ap (λ (b : Bool). b && lawfulAt) (at-most (number s p 1) 3 h) ∙ is-false lawfulAt (T-not lawfulAt (subst T (sym e ∙ law) tt))
 
 pub rule-above : (s : List ℕ) (p : ℕ) → 3 < number s p 1 → (leb (number s p 1) 3 && lawful (number s (p + 1) 2) (number s (p + 3) 2)) ≡ false
 rule-above s p h = ap (λ (b : Bool). b && lawful (number s (p + 1) 2) (number s (p + 3) 2)) (not-le (number s p 1) 3 h)

@@ -6,7 +6,7 @@ use mathlib.Core.List.{List, [], _∷_, _++_}
 use Prim.Native.Nat.{ℕ, zero, suc, _+_, _-_, _≤_, _<_}
 use native.Mathlib.Decide.{decLt}
 use native.Mathlib.Omega.{arith}
-use lib.Dec.{ltb, leb}
+use lib.Dec.{ltb, leb, leb→le}
 use lib.ListN.{length, getD, set, length-append}
 use lib.ListN.{List·getD-append as getD-append}
 use lib.Seq.{getD-set-same, getD-set-other, getD-append-seam}
@@ -15,11 +15,12 @@ use Rattle.meaning.specs.declared.Refusal.{Refusal}
 use Rattle.meaning.specs.Refusal.{Answer, good, refused, at, refuseIf, _>>=_, _>>_}
 use Rattle.meaning.specs.Bytes.{number, fields}
 use Rattle.meaning.specs.Tree.{Concept}
-use Rattle.meaning.specs.Fraction.{_//_}
+use Rattle.meaning.specs.Fraction.{_//_, lawful, fraction}
 use Rattle.meaning.specs.Reduce.{reduce, size}
 use Rattle.meaning.specs.Bounds.{mostSize}
 use Rattle.meaning.specs.Requirement.{Threshold}
-use Rattle.meaning.specs.Message.{Part, Spot, lawful, comparison, readInner, readThreshold, readThresholds}
+use Rattle.meaning.specs.Message.{Part, Spot, comparison, readInner, readThreshold, readThresholds}
+use Rattle.meaning.proofs.Tests.{holds, is-true, and-both}
 use Rattle.meaning.proofs.Reading.{pass, stop, stopped, halted, took, below, not-below, at-most, not-le, fitted}
 use Rattle.requirement.specs.Reading.{spot, parted, noPart, PartsHeld, nodeIn, wholeInner}
 
@@ -126,12 +127,39 @@ module _ (s : List ℕ) (end owner p n : ℕ) (ps : List Part) where
       whole : {B : Type 0} (k : Answer B) → (fields requirement end (1 ∷ 2 ∷ 2 ∷ []) p >> k) ≡ k
       whole k = fitted requirement end (1 ∷ 2 ∷ 2 ∷ []) p k (omega arith)
 
+      -- 13 of the comparison, then of the fraction, are one rule here
+      abbrev compared : Bool
+      compared = leb (number s p 1) 3
+
+      abbrev low : Bool
+      low = lawful (number s (p + 1) 2) (number s (p + 3) 2)
+
       abbrev rule : Bool
-      rule = leb (number s p 1) 3 && lawful (number s (p + 1) 2) (number s (p + 3) 2)
+      rule = compared && low
+
+      abbrev ruled : {B : Type 0} → Answer B → Answer B
+      ruled k =
+          refuseIf (ltb 3 (number s p 1)) (at requirement 13 p)
+          >> (fraction (at requirement 13 p) (number s (p + 1) 2) (number s (p + 3) 2) >> k)
+
+      broken : {B : Type 0} (k : Answer B) → rule ≡ false → ruled k ≡ refused (at requirement 13 p)
+      broken k e = go (decLt 3 (number s p 1))
+        where
+          go : Dec (3 < number s p 1) → ruled k ≡ refused (at requirement 13 p)
+          go (yes a) = stop (ltb 3 (number s p 1)) _ _ (below 3 (number s p 1) a)
+          go (no a) =
+              pass (ltb 3 (number s p 1)) _ _ (not-below 3 (number s p 1) (omega arith))
+              ∙ stop (not low) _ _ (ap not (ap (λ (b : Bool). b && low) (sym (at-most (number s p 1) 3 (omega arith))) ∙ e))
+
+      kept-rule : {B : Type 0} (k : Answer B) → rule ≡ true → ruled k ≡ k
+      kept-rule k e =
+          let c = and-both compared low (holds e) in
+          pass (ltb 3 (number s p 1)) _ _ (not-below 3 (number s p 1) (leb→le (number s p 1) 3 (c .0)))
+          ∙ pass (not low) _ _ (ap not (is-true low (c .1)))
 
       pub threshold-rule : rule ≡ false → readThreshold s end owner w ≡ refused (at requirement 13 p)
       unfolding readThreshold
-      threshold-rule e = open-room _ ∙ whole _ ∙ stop (not rule) _ _ (ap not e)
+      threshold-rule e = open-room _ ∙ whole _ ∙ broken _ e
 
       module _ (kept : rule ≡ true) where
         abbrev len : ℕ
@@ -140,14 +168,14 @@ module _ (s : List ℕ) (end owner p n : ℕ) (ps : List Part) where
         pub threshold-length-cut : end < p + 7 → readThreshold s end owner w ≡ refused (at requirement 1 (p + 5))
         unfolding readThreshold fields
         threshold-length-cut h =
-            open-room _ ∙ whole _ ∙ pass (not rule) _ _ (ap not kept)
+            open-room _ ∙ whole _ ∙ kept-rule _ kept
             ∙ halted (fields requirement end (2 ∷ []) (p + 5)) _ _ (stop (ltb end (p + 5 + 2)) _ _ (below end (p + 5 + 2) (omega arith)))
 
         module _ (long : p + 7 ≤ end) where
           pub threshold-past : end < p + 7 + len → readThreshold s end owner w ≡ refused (at requirement 1 (p + 5))
           unfolding readThreshold
           threshold-past h =
-              open-room _ ∙ whole _ ∙ pass (not rule) _ _ (ap not kept) ∙ fitted requirement end (2 ∷ []) (p + 5) _ (omega arith)
+              open-room _ ∙ whole _ ∙ kept-rule _ kept ∙ fitted requirement end (2 ∷ []) (p + 5) _ (omega arith)
               ∙ stop (ltb end (p + 7 + len)) _ _ (below end (p + 7 + len) h)
 
           module _ (inside : p + 7 + len ≤ end) where
@@ -160,7 +188,7 @@ module _ (s : List ℕ) (end owner p n : ℕ) (ps : List Part) where
             to-inner : readThreshold s end owner w ≡ (wholeInner s (p + 7 + len) (p + 7) >>= λ x. good (threshold (x .0), after))
             unfolding readThreshold wholeInner
             to-inner =
-                open-room _ ∙ whole _ ∙ pass (not rule) _ _ (ap not kept) ∙ fitted requirement end (2 ∷ []) (p + 5) _ (omega arith)
+                open-room _ ∙ whole _ ∙ kept-rule _ kept ∙ fitted requirement end (2 ∷ []) (p + 5) _ (omega arith)
                 ∙ pass (ltb end (p + 7 + len)) _ _ (not-below end (p + 7 + len) inside) ∙ regroup (readInner s (p + 7 + len) (p + 7)) (p + 7 + len) (p + 7) (λ t. (threshold t, after))
 
             pub threshold-inner : (r : Refusal) → wholeInner s (p + 7 + len) (p + 7) ≡ refused r → readThreshold s end owner w ≡ refused r

@@ -9,8 +9,7 @@ ghost use mathlib.Core.Bool.{true, _&&_};
 ghost use Prim.Native.Nat.{_+_, _≤_, _<_};
 ghost use lib.Dec.{ltb};
 ghost use lib.ListN.{length};
-ghost use Rattle.meaning.specs.Message.{lawful, readRequirement, innerPart};
-ghost use Rattle.meaning.specs.Fraction.{gcd};
+ghost use Rattle.meaning.specs.Message.{readRequirement, innerPart};
 ghost use Rattle.requirement.specs.Reading.{MessageDone, placeOf, refusedAt, RowsRoom, ConceptDone, Here, Room, PartsRoom, arrays, parted, nodeCut, thresholdCut, NodeDone, ChildrenDone, ThresholdsDone, ThresholdDone, InnerDone};
 
 // What was read: the next byte, the nodes of this tree and the thresholds of the message so far; or the number and place of a fault.
@@ -403,7 +402,7 @@ fn read_threshold(
             place: at,
         };
     }
-    if !allowed(fields::two(s, at + 1), fields::two(s, at + 3)) {
+    if fractions::wrong(fields::two(s, at + 1), fields::two(s, at + 3)) {
         return Read::Refused {
             number: 13,
             place: at,
@@ -534,34 +533,4 @@ fn threshold_cut(room: usize, at: usize) -> Read
         number: 1,
         place: at + 3,
     }
-}
-
-// Whether p/q is a threshold: q from 1 to 1,000, p at most q, no common factor above 1.
-pub fn allowed(p: usize, q: usize) -> bool
-    ensures { λ r. ⌜ r ≡ lawful p q ⌝ }
-{
-    if q < 1 {
-        return false;
-    }
-    if 1000 < q {
-        return false;
-    }
-    if q < p {
-        return false;
-    }
-    common_divisor(p, q) == 1
-}
-
-// The greatest common divisor, by Euclid's remainders.
-pub fn common_divisor(p: usize, q: usize) -> usize
-    ensures { λ r. ⌜ r ≡ gcd p q ⌝ }
-{
-    let mut a = p;
-    let mut b = q;
-    while 0 < b {
-        let rest = a % b;
-        a = b;
-        b = rest;
-    }
-    a
 }

@@ -11,6 +11,7 @@ use Rattle.meaning.specs.declared.Fact.{Fact}
 use Rattle.meaning.specs.declared.Fact.the-variants.{Name as nameOn, Link as linkOf}
 use Rattle.meaning.specs.declared.Step.{Step}
 use Rattle.meaning.specs.declared.Refusal.{Refusal}
+use Rattle.meaning.specs.Bounds.{mostItems, mostLinks, mostName, mostRole, mostSteps}
 use Rattle.meaning.specs.Refusal.{Answer, good, refused, onCall, refuseIf, _>>=_, _>>_}
 use Rattle.meaning.specs.Bytes.{Bytes}
 use Rattle.meaning.specs.Register.{Register, isFact, encode, readBuffer, readRegisterBy}
@@ -24,27 +25,27 @@ use Rattle.meaning.proofs.SessionFacts.{Sounds, sounds}
 use Rattle.fields.specs.Head.{wrongIn}
 use Rattle.register.specs.declared.Reading.{Reading}
 use Rattle.register.specs.declared.Reading.the-variants.{Good as GoodReading, Refused as RefusedReading}
+use Rattle.register.specs.Layout.{imageLength}
 use Rattle.register.specs.Image.{Asked}
 use Rattle.register.specs.Reading.{Counts}
-use Rattle.register.specs.Reading.{paper as paperReading, counted as sized}
-use Rattle.session.specs.declared.Setting.{Setting}
-use Rattle.session.specs.declared.Setting.the-variants.{Done, NoPlace}
+use Rattle.register.specs.Reading.{paperReading, counted as sized}
+use Rattle.setting.specs.declared.Setting.{Setting}
+use Rattle.setting.specs.declared.Setting.the-variants.{Done, NoPlace}
 use Rattle.session.specs.declared.Counted.{Counted}
 use Rattle.session.specs.declared.Counted.the-variants.{Good, Refused}
 use Rattle.session.specs.declared.Edited.{Edited}
 use Rattle.session.specs.declared.Edited.the-variants.{Accepted, Refused as NotEdited}
-use Rattle.session.specs.Setting.{Ranged, SettingOf}
-use Rattle.session.specs.Calls.{paper, paperEdit, Was, wasBefore, anEdit, numbersAfter}
-use Rattle.session.specs.Coded.{codeOf}
-use Rattle.session.proofs.Changes.{image-first}
+use Rattle.setting.specs.Setting.{Ranged, SettingOf}
+use Rattle.session.specs.Calls.{paperCount, paperEdit, Was, wasBefore, anEdit}
+use Rattle.setting.proofs.Changes.{image-first}
 
 -- ---- tests of a fact
 
 pub range-item : (n i k : ℕ) (f : Fact) → f ≡ nameOn i k → n ≤ i → true ≡ outOfRange n f
-range-item n i k f e h = sym (ap (outOfRange n) e ∙ ap (λ (b : Bool). b || ltb 63 k) (at-most n i h))
+range-item n i k f e h = sym (ap (outOfRange n) e ∙ ap (λ (b : Bool). b || ltb mostName k) (at-most n i h))
 
-pub range-name : (n i k : ℕ) (f : Fact) → f ≡ nameOn i k → i < n → ltb 63 k ≡ outOfRange n f
-range-name n i k f e h = sym (ap (outOfRange n) e ∙ ap (λ (b : Bool). b || ltb 63 k) (not-le n i h))
+pub range-name : (n i k : ℕ) (f : Fact) → f ≡ nameOn i k → i < n → ltb mostName k ≡ outOfRange n f
+range-name n i k f e h = sym (ap (outOfRange n) e ∙ ap (λ (b : Bool). b || ltb mostName k) (not-le n i h))
 
 pub range-from : (n a r b : ℕ) (f : Fact) → f ≡ linkOf a r b → n ≤ a → true ≡ outOfRange n f
 range-from n a r b f e h = sym (ap (outOfRange n) e ∙ ap (λ (x : Bool). x || leb n b) (at-most n a h))
@@ -55,14 +56,14 @@ range-to n a r b f e h = sym (ap (outOfRange n) e ∙ ap (λ (x : Bool). x || le
 pub role-name : (i k : ℕ) (f : Fact) → f ≡ nameOn i k → false ≡ roleAbove f
 role-name i k f e = sym (ap roleAbove e)
 
-pub role-link : (a r b : ℕ) (f : Fact) → f ≡ linkOf a r b → ltb 31 r ≡ roleAbove f
+pub role-link : (a r b : ℕ) (f : Fact) → f ≡ linkOf a r b → ltb mostRole r ≡ roleAbove f
 role-link a r b f e = sym (ap roleAbove e)
 
 pub ranged : (n : ℕ) (f : Fact) (x y : Bool) → x ≡ outOfRange n f → x ≡ false → y ≡ roleAbove f → y ≡ false → Ranged n f
 ranged n f x y e d i j = go f (sounds n f (sym e ∙ d) (sym i ∙ j))
   where
     go : (f : Fact) → Sounds n f → Ranged n f
-    go (nameOn a b) q = q
+    go (nameOn a b) q = (q .0, omega (arith, q .1))
     go (linkOf a b c) q = q
 
 -- ---- the register
@@ -104,7 +105,7 @@ module _ (s : List ℕ) (log count : ℕ) (f : Fact) (v : Bool) where
   unfolding editCall
   edit-unread x e = edit-no x x refl (stopped (readBuffer s) _ x e)
 
-  module _ (items links n : ℕ) (range role : Bool) (a : Asked s (λ g. (items ≡ length (g .names)) × (links ≡ length (g .links)))) (en : n ≡ min log 64)
+  module _ (items links n : ℕ) (range role : Bool) (a : Asked s (λ g. (items ≡ length (g .names)) × (links ≡ length (g .links)))) (en : n ≡ min log mostSteps)
       (er : range ≡ outOfRange items f) (el : role ≡ roleAbove f) where
     abbrev g : Register
     g = a .register
@@ -167,7 +168,7 @@ module _ (s : List ℕ) (log count : ℕ) (last : Step) where
   undone = undoCall s log count last
 
   abbrev Finished : List ℕ → Counted → Type 0
-  Finished t r = (paper r ≡ counted undone) × (t ≡ bufferAfter s undone)
+  Finished t r = (paperCount r ≡ counted undone) × (t ≡ bufferAfter s undone)
 
   pub undo-no : (x y : Refusal) → x ≡ y → undone ≡ refused y → Finished s (Refused x)
   unfolding bufferAfter counted
@@ -177,7 +178,7 @@ module _ (s : List ℕ) (log count : ℕ) (last : Step) where
   unfolding undoCall
   undo-unread x e = undo-no x x refl (stopped (readBuffer s) _ x e)
 
-  module _ (items links n : ℕ) (range role : Bool) (a : Asked s (λ g. (items ≡ length (g .names)) × (links ≡ length (g .links)))) (en : n ≡ min log 64)
+  module _ (items links n : ℕ) (range role : Bool) (a : Asked s (λ g. (items ≡ length (g .names)) × (links ≡ length (g .links)))) (en : n ≡ min log mostSteps)
       (er : range ≡ outOfRange items (last .fact)) (el : role ≡ roleAbove (last .fact)) where
     abbrev k : Register
     k = a .register
@@ -236,19 +237,19 @@ module _ (s : List ℕ) (log count : ℕ) (last : Step) where
 
 module _ (s : List ℕ) where
   abbrev Opens : List ℕ → Counted → Type 0
-  Opens t r = (paper r ≡ noSteps (openCall s)) × (t ≡ bufferOpened s (openCall s))
+  Opens t r = (paperCount r ≡ noSteps (openCall s)) × (t ≡ bufferOpened s (openCall s))
 
   pub open-unread : (x : Refusal) → readBuffer s ≡ refused x → Opens s (Refused x)
   unfolding openCall bufferOpened noSteps
   open-unread x e = let d = stopped (readBuffer s) _ x e in (sym (ap noSteps d), sym (ap (bufferOpened s) d))
 
-  pub open-done : (by : Bytes s) (items links : ℕ) (t : List ℕ) → Asked s (λ g. (items ≡ length (g .names)) × (links ≡ length (g .links)))
-      → t ≡ take (7 + 8 * items + 5 * links) s ++ zeros (length s - (7 + 8 * items + 5 * links)) → Opens t (Good 0)
+  pub open-done : (by : Bytes s) (items links at : ℕ) (t : List ℕ) → at ≡ imageLength items links → Asked s (λ g. (items ≡ length (g .names)) × (links ≡ length (g .links)))
+      → t ≡ take at s ++ zeros (length s - at) → Opens t (Good 0)
   unfolding openCall bufferOpened noSteps cleared
-  open-done by items links t a e =
+  open-done by items links at t ea a e =
       let g = a .register in
       let d = took (readBuffer s) (λ g. good g) g (a .read) in
-      let l : 7 + 8 * items + 5 * links ≡ length (encode g) = omega (arith, image-length g, a .holds .0, a .holds .1) in
+      let l : at ≡ length (encode g) = omega (arith, image-length g, a .holds .0, a .holds .1) in
       let f : take (length (encode g)) s ≡ encode g =
       ap (take (length (encode g))) (image-first s g by (a .read)) ∙ lib.Seq.take-append-seam (encode g) (drop (length (encode g)) s) in (
         sym (ap noSteps d),
@@ -256,23 +257,23 @@ module _ (s : List ℕ) where
       )
 
 module _ (s : List ℕ) (log count : ℕ) where
-  pub keep-unread : (x : Refusal) → readBuffer s ≡ refused x → paper (Refused x) ≡ noSteps (keepCall s log count)
+  pub keep-unread : (x : Refusal) → readBuffer s ≡ refused x → paperCount (Refused x) ≡ noSteps (keepCall s log count)
   unfolding keepCall noSteps
   keep-unread x e = sym (ap noSteps (stopped (readBuffer s) _ x e))
 
-  pub keep-17 : (n : ℕ) (g : Register) (x : Refusal) → x ≡ onCall 17 → readBuffer s ≡ good g → n ≡ min log 64 → n < count → paper (Refused x) ≡ noSteps (keepCall s log count)
+  pub keep-17 : (n : ℕ) (g : Register) (x : Refusal) → x ≡ onCall 17 → readBuffer s ≡ good g → n ≡ min log mostSteps → n < count → paperCount (Refused x) ≡ noSteps (keepCall s log count)
   unfolding keepCall noSteps
   keep-17 n g x e r en h =
       ap refused e ∙ sym (ap noSteps (took (readBuffer s) _ g r ∙ stop (ltb (room log) count) _ _ (below (room log) count (omega arith))))
 
-  pub keep-done : (n : ℕ) (g : Register) → readBuffer s ≡ good g → n ≡ min log 64 → count ≤ n → paper (Good 0) ≡ noSteps (keepCall s log count)
+  pub keep-done : (n : ℕ) (g : Register) → readBuffer s ≡ good g → n ≡ min log mostSteps → count ≤ n → paperCount (Good 0) ≡ noSteps (keepCall s log count)
   unfolding keepCall noSteps
   keep-done n g r en h = sym (ap noSteps (took (readBuffer s) _ g r ∙ pass (ltb (room log) count) _ _ (not-below (room log) count (omega arith))))
 
 -- ---- the sizes of an image that was read
 
 pub sizes-fit : (s : List ℕ) → Bytes s → (items links : ℕ) → Asked s (λ g. (items ≡ length (g .names)) × (links ≡ length (g .links)))
-    → (items ≤ 512) × (links ≤ 4096) × (7 + 8 * items + 5 * links ≤ length s)
+    → (items ≤ mostItems) × (links ≤ mostLinks) × (imageLength items links ≤ length s)
 sizes-fit s by items links a =
     let q = image-fits s (a .register) by (a .read) in
     (omega (arith, q .0 .items, a .holds .0), omega (arith, q .0 .few, a .holds .1), omega (arith, q .1, a .holds .0, a .holds .1))
@@ -287,41 +288,3 @@ accepted f a was next r e d = go a refl (sym (ap paperEdit e) ∙ d)
         → (c : Changed) × (a ≡ good c) × (was ≡ isFact (c .before) f) × (next ≡ c .count)
     go (good c) i h = let z = good-inj h in (c, i, ap (λ (w : Was). w .was) z, ap (λ (w : Was). w .count) z)
     go (refused y) i h = let z : _≡_ {A = ℕ} 0 1 = cc in absurd (omega arith)
-
--- ---- the log of numbers after an edit
-
-module _ (s log : List ℕ) (count : ℕ) (f : Fact) (v : Bool) where
-  abbrev edited : Answer Changed
-  edited = editCall s (length log) count (anEdit f v)
-
-  pub face-no : (x : Refusal) (r : Edited) (t : List ℕ) → r ≡ NotEdited x → paperEdit r ≡ wasBefore f edited → t ≡ bufferAfter s edited
-      → (paper (Refused x) ≡ counted edited) × ((t ≡ bufferAfter s edited) × (log ≡ numbersAfter log count f edited))
-  unfolding counted
-  face-no x r t e d b = go edited (sym (ap paperEdit e) ∙ d) b
-    where
-      go : (a : Answer Changed) → refused x ≡ wasBefore f a → t ≡ bufferAfter s a
-          → (refused x ≡ counted a) × ((t ≡ bufferAfter s a) × (log ≡ numbersAfter log count f a))
-      go (good c) h b = let z : _≡_ {A = ℕ} 0 1 = cc in absurd (omega arith)
-      go (refused y) h b = (ap refused (refused-inj h), (b, refl))
-
-  -- the step can be written, and coded
-  pub face-room : (by : Bytes s) (was : Bool) (next : ℕ) (r : Edited) → r ≡ Accepted was next → paperEdit r ≡ wasBefore f edited → (count < length log) × Ranged 512 f
-  face-room by was next r e d =
-      let q = accepted f edited was next r e d in
-      let p = edit-passed s (length log) count (anEdit f v) (q .0) (q .1) in
-      let few = image-fits s (q .0 .before) by (p .read) .0 .items in
-      (omega (arith, p .steps), go f few (sounds (length (q .0 .before .names)) f (p .range) (p .role)))
-    where
-      go : (f : Fact) {n : ℕ} → n ≤ 512 → Sounds n f → Ranged 512 f
-      go (nameOn i k) l o = (omega (arith, o .0), o .1)
-      go (linkOf a r b) l o = (omega (arith, o .0), o .1, omega (arith, o .2))
-
-  pub face-done : (was : Bool) (next x : ℕ) (r : Edited) (t : List ℕ) → r ≡ Accepted was next → paperEdit r ≡ wasBefore f edited → t ≡ bufferAfter s edited
-      → x ≡ codeOf (record { fact = f; was = was })
-      → (paper (Good next) ≡ counted edited) × ((t ≡ bufferAfter s edited) × (lib.ListN.set log count x ≡ numbersAfter log count f edited))
-  unfolding counted
-  face-done was next x r t e d b i =
-      let q = accepted f edited was next r e d in (
-        ap good (q .3) ∙ sym (ap counted (q .1)),
-        (b, ap (lib.ListN.set log count) (i ∙ ap (λ (z : Bool). codeOf (record { fact = f; was = z })) (q .2)) ∙ sym (ap (numbersAfter log count f) (q .1))),
-      )

@@ -1,15 +1,4 @@
-pub mod Walk
-pub mod Local
-pub mod Log
-pub mod Recorded
-pub mod Stores
-pub mod Place
-pub mod Parts
-pub mod Changes
-pub mod Set
-pub mod Chains
+pub mod Clearing
 pub mod Answered
-pub mod Codes
+pub mod Promise
 pub mod Followed
-pub mod Played
-pub mod PlayedRecords

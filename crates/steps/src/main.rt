@@ -3,8 +3,8 @@
 // away and undoes that, keeps, takes a name away, undoes that, and asks for one undo too many.
 use meaning::Fact;
 use meaning::Step;
+use recorded::held;
 use session::Counted;
-use session::held;
 
 fn text(t: &[u8]) {
     let _done = io::write_all(1, t);

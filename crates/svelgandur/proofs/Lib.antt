@@ -1,3 +1,2 @@
-pub mod Numbers
-pub mod Messages
-pub mod Margins
+pub mod OneResult
+pub mod Played

@@ -1,15 +1,6 @@
 // The degree and the margin from C.
-use super::answer;
-use degree::call::Answered;
-use degree::call::Margin;
-ghost use mathlib.Core.Path.{_≡_};
-ghost use Prim.Native.Nat.{_≤_};
-ghost use lib.IntN.{natAbs};
-ghost use lib.ListN.{length};
-ghost use Rattle.meaning.specs.Calls.{degreeCall, afterDegree, marginCall};
-ghost use Rattle.degree.specs.Answers.{told};
-ghost use Rattle.meaning.specs.Bounds.{mostMargin};
-ghost use Rattle.svelgandur.specs.Numbers.{numbers, degreeNumbers, marginNumbers, belowZero};
+use answers;
+ghost use Rattle.svelgandur.specs.Promises.{DegreePromise, MarginPromise};
 
 // The degree of an item in a plain requirement, in lowest terms, and its map.
 // Good: 1, numerator, denominator, places written. Refused: 0, side, number, place; the map is then untouched.
@@ -21,16 +12,10 @@ pub extern "C" fn svelgandur_degree(
     map: &mut [u16],
     answer: &mut [u64; 4],
 )
-    ensures { λ _. ⌜ now (answer .exit)
-        ≡ numbers degreeNumbers (told (degreeCall (now (image .entry)) (now (message .entry)) item (length (now (map .entry))))) ⌝ }
-    ensures { λ _. ⌜ now (map .exit)
-        ≡ afterDegree (now (map .entry)) (degreeCall (now (image .entry)) (now (message .entry)) item (length (now (map .entry)))) ⌝ }
+    ensures { λ _. ⌜ DegreePromise (now (image .entry)) (now (message .entry)) item (now (map .entry)) (now (map .exit)) (now (answer .exit)) ⌝ }
 {
-    let r = degree::call::degree_of(image, message, item as usize, map);
-    match r {
-        Answered::Good { num, den, nodes } => answer::put(answer, 1, num, den, nodes as u64),
-        Answered::Refused { refusal } => answer::refuse(answer, refusal),
-    }
+    let r = asking::degree_of(image, message, item as usize, map);
+    answers::of_degree(answer, r);
 }
 
 // The margin of an item's degree in a plain requirement against p/q.
@@ -44,34 +29,8 @@ pub extern "C" fn svelgandur_margin(
     q: u64,
     answer: &mut [u64; 4],
 )
-    ensures { λ _. ⌜ now (answer .exit) ≡ numbers marginNumbers (marginCall (now (image .entry)) (now (message .entry)) item p q) ⌝ }
+    ensures { λ _. ⌜ MarginPromise (now (image .entry)) (now (message .entry)) item p q (now (answer .exit)) ⌝ }
 {
-    let r = degree::call::margin_of(image, message, item as usize, p as usize, q as usize);
-    match r {
-        Margin::Good { margin, over } => {
-            answer::put(answer, 1, magnitude(margin), over, below_zero(margin));
-        }
-        Margin::Refused { refusal } => answer::refuse(answer, refusal),
-    }
-}
-
-// A margin without its sign.
-fn magnitude(margin: i64) -> u64
-    requires { ⌜ natAbs margin ≤ mostMargin ⌝ }
-    ensures { λ r. ⌜ r ≡ natAbs margin ⌝ }
-{
-    if margin < 0 {
-        return (0 - margin) as u64;
-    }
-    margin as u64
-}
-
-// Its sign: 1 below zero, else 0.
-fn below_zero(margin: i64) -> u64
-    ensures { λ r. ⌜ r ≡ belowZero margin ⌝ }
-{
-    if margin < 0 {
-        return 1;
-    }
-    0
+    let r = asking::margin_of(image, message, item as usize, p as usize, q as usize);
+    answers::of_margin(answer, r);
 }

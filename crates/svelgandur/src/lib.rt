@@ -1,40 +1,29 @@
 // The C boundary: each call of the libraries as a C function, declared in include/svelgandur.h. A call answers in four numbers that the
-// caller lends: the kind of the answer, then three numbers that go with the kind (specs/Numbers.antt). Everything handed in is bytes or
+// caller lends: the kind of the answer, then three numbers that go with the kind (crate `answers`). Everything handed in is bytes or
 // numbers, so no bit pattern that a caller hands in is undefined.
-use register::Reading;
-use requirement::Message;
+use answers;
 
-mod answer;
 mod degrees;
 mod trial;
 pub mod yes_no;
 
-ghost use mathlib.Core.Path.{_≡_};
-ghost use Rattle.meaning.specs.Register.{readRegisterBy};
-ghost use Rattle.fields.specs.Head.{wrongIn};
-ghost use Rattle.register.specs.Reading.{counted};
-ghost use Rattle.meaning.specs.Message.{readRequirement};
-ghost use Rattle.requirement.specs.Reading.{placeOf};
-ghost use Rattle.svelgandur.specs.Numbers.{numbers, counts, isSession, written, placeNumbers};
+ghost use Rattle.svelgandur.specs.Promises.{RegisterPromise, RequirementPromise, InnerPromise};
 
 // Reads a register image: of a whole input where `session` is 0, and otherwise of what a session's buffer begins with.
 // Good: 1, items, links, 0. Refused: 0, side, number, place.
 #[no_mangle]
 pub extern "C" fn svelgandur_read_register(image: &[u8], session: u64, answer: &mut [u64; 4])
-    ensures { λ _. ⌜ now (answer .exit) ≡ numbers counts (counted (readRegisterBy (wrongIn (isSession session)) (now (image .entry)))) ⌝ }
+    ensures { λ _. ⌜ RegisterPromise (now (image .entry)) session (now (answer .exit)) ⌝ }
 {
     let r = register::read(image, session != 0);
-    match r {
-        Reading::Good { items, links } => answer::put(answer, 1, items as u64, links as u64, 0),
-        Reading::Refused { refusal } => answer::refuse(answer, refusal),
-    }
+    answers::of_reading(answer, r);
 }
 
 // Reads a requirement message.
 // Good: 1, written nodes, thresholds, 0. Refused: 0, side, number, place.
 #[no_mangle]
 pub extern "C" fn svelgandur_read_requirement(message: &[u8], answer: &mut [u64; 4])
-    ensures { λ _. ⌜ now (answer .exit) ≡ numbers written (readRequirement (now (message .entry))) ⌝ }
+    ensures { λ _. ⌜ RequirementPromise (now (message .entry)) (now (answer .exit)) ⌝ }
 {
     let mut names = [0u64; 64];
     let mut roles = [0u8; 64];
@@ -49,22 +38,15 @@ pub extern "C" fn svelgandur_read_requirement(message: &[u8], answer: &mut [u64;
         &mut owners,
         &mut firsts,
     );
-    match r {
-        Message::Good { nodes, parts } => answer::put(answer, 1, nodes as u64, parts as u64, 0),
-        Message::Refused { refusal } => answer::refuse(answer, refusal),
-    }
+    answers::of_message(answer, r);
 }
 
 // Where the bytes of the k-th inner concept stand in the message.
 // Found: 1, place of its first byte, length, 0. Refused, message bad or no k-th: 0, 0, 0, 0; this call alone gives no number.
 #[no_mangle]
 pub extern "C" fn svelgandur_inner_part(message: &[u8], k: u64, answer: &mut [u64; 4])
-    ensures { λ _. ⌜ now (answer .exit) ≡ placeNumbers (placeOf k (readRequirement (now (message .entry)))) ⌝ }
+    ensures { λ _. ⌜ InnerPromise (now (message .entry)) k (now (answer .exit)) ⌝ }
 {
     let p = requirement::find_inner(message, k as usize);
-    if p.len == 0 {
-        answer::put(answer, 0, 0, 0, 0);
-        return;
-    }
-    answer::put(answer, 1, p.start as u64, p.len as u64, 0);
+    answers::of_place(answer, p);
 }

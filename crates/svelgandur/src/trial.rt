@@ -1,35 +1,18 @@
 // A session of trial edits: open, edit, undo and keep on a lent buffer, with a lent log of numbers, one for each step.
 // Each call answers 1, the count of steps in use, 0, 0; or, refused, 0, side, number, place. A refused call changes neither buffer nor log.
-use crate::answer;
+use answers;
 use meaning::Fact;
-use session::Counted;
-ghost use mathlib.Core.Path.{_≡_};
-ghost use Prim.Native.Nat.{_-_};
-ghost use lib.ListN.{length, getD};
 ghost use Rattle.meaning.specs.declared.Fact.{Fact};
-ghost use Rattle.meaning.specs.Session.{openCall, editCall, undoCall, keepCall, noSteps, counted, bufferOpened, bufferAfter};
-ghost use Rattle.session.specs.Coded.{decoded};
-ghost use Rattle.session.specs.Calls.{paper, anEdit, numbersAfter};
-ghost use Rattle.svelgandur.specs.Numbers.{numbers, inUse, isAdding};
-
-// Writes what a call of the session hands back.
-fn hand_back(answer: &mut [u64; 4], r: Counted)
-    ensures { λ _. ⌜ now (answer .exit) ≡ numbers inUse (paper r) ⌝ }
-{
-    match r {
-        Counted::Good { count } => answer::put(answer, 1, count as u64, 0, 0),
-        Counted::Refused { refusal } => answer::refuse(answer, refusal),
-    }
-}
+ghost use Rattle.answers.specs.Numbers.{isAdding};
+ghost use Rattle.svelgandur.specs.Promises.{OpenPromise, EditPromise, UndoPromise, KeepPromise};
 
 // Opens the image that the buffer begins with: all behind it becomes zeros. The count is 0.
 #[no_mangle]
 pub extern "C" fn svelgandur_open(buffer: &mut [u8], answer: &mut [u64; 4])
-    ensures { λ _. ⌜ now (answer .exit) ≡ numbers inUse (noSteps (openCall (now (buffer .entry)))) ⌝ }
-    ensures { λ _. ⌜ now (buffer .exit) ≡ bufferOpened (now (buffer .entry)) (openCall (now (buffer .entry))) ⌝ }
+    ensures { λ _. ⌜ OpenPromise (now (buffer .entry)) (now (buffer .exit)) (now (answer .exit)) ⌝ }
 {
     let r = session::open(buffer);
-    hand_back(answer, r);
+    answers::of_count(answer, r);
 }
 
 // Adds a name to an item, or takes it away where `adds` is 0.
@@ -43,16 +26,15 @@ pub extern "C" fn svelgandur_edit_name(
     name: u64,
     answer: &mut [u64; 4],
 )
-    ensures { λ _. ⌜ now (answer .exit) ≡ numbers inUse (counted (editCall (now (buffer .entry)) (length (now (log .entry))) count (anEdit (Fact.Name item name) (isAdding adds)))) ⌝ }
-    ensures { λ _. ⌜ now (buffer .exit) ≡ bufferAfter (now (buffer .entry)) (editCall (now (buffer .entry)) (length (now (log .entry))) count (anEdit (Fact.Name item name) (isAdding adds))) ⌝ }
-    ensures { λ _. ⌜ now (log .exit) ≡ numbersAfter (now (log .entry)) count (Fact.Name item name) (editCall (now (buffer .entry)) (length (now (log .entry))) count (anEdit (Fact.Name item name) (isAdding adds))) ⌝ }
+    ensures { λ _. ⌜ EditPromise (now (buffer .entry)) (now (log .entry)) count (Fact.Name item name) (isAdding adds)
+        (now (buffer .exit)) (now (log .exit)) (now (answer .exit)) ⌝ }
 {
     let named = Fact::Name {
         item: item as usize,
         name: name as usize,
     };
-    let r = session::edit(buffer, log, count as usize, named, adds != 0);
-    hand_back(answer, r);
+    let r = numbered::edit(buffer, log, count as usize, named, adds != 0);
+    answers::of_count(answer, r);
 }
 
 // Adds a link, or takes it away where `adds` is 0.
@@ -67,34 +49,32 @@ pub extern "C" fn svelgandur_edit_link(
     to: u64,
     answer: &mut [u64; 4],
 )
-    ensures { λ _. ⌜ now (answer .exit) ≡ numbers inUse (counted (editCall (now (buffer .entry)) (length (now (log .entry))) count (anEdit (Fact.Link from role to) (isAdding adds)))) ⌝ }
-    ensures { λ _. ⌜ now (buffer .exit) ≡ bufferAfter (now (buffer .entry)) (editCall (now (buffer .entry)) (length (now (log .entry))) count (anEdit (Fact.Link from role to) (isAdding adds))) ⌝ }
-    ensures { λ _. ⌜ now (log .exit) ≡ numbersAfter (now (log .entry)) count (Fact.Link from role to) (editCall (now (buffer .entry)) (length (now (log .entry))) count (anEdit (Fact.Link from role to) (isAdding adds))) ⌝ }
+    ensures { λ _. ⌜ EditPromise (now (buffer .entry)) (now (log .entry)) count (Fact.Link from role to) (isAdding adds)
+        (now (buffer .exit)) (now (log .exit)) (now (answer .exit)) ⌝ }
 {
     let linked = Fact::Link {
         from: from as usize,
         role: role as usize,
         to: to as usize,
     };
-    let r = session::edit(buffer, log, count as usize, linked, adds != 0);
-    hand_back(answer, r);
+    let r = numbered::edit(buffer, log, count as usize, linked, adds != 0);
+    answers::of_count(answer, r);
 }
 
 // Takes the last step in use back.
 #[no_mangle]
 pub extern "C" fn svelgandur_undo(buffer: &mut [u8], log: &[u64], count: u64, answer: &mut [u64; 4])
-    ensures { λ _. ⌜ now (answer .exit) ≡ numbers inUse (counted (undoCall (now (buffer .entry)) (length (now (log .entry))) count (decoded (getD (now (log .entry)) (count - 1) 0)))) ⌝ }
-    ensures { λ _. ⌜ now (buffer .exit) ≡ bufferAfter (now (buffer .entry)) (undoCall (now (buffer .entry)) (length (now (log .entry))) count (decoded (getD (now (log .entry)) (count - 1) 0))) ⌝ }
+    ensures { λ _. ⌜ UndoPromise (now (buffer .entry)) (now (log .entry)) count (now (buffer .exit)) (now (answer .exit)) ⌝ }
 {
-    let r = session::undo(buffer, log, count as usize);
-    hand_back(answer, r);
+    let r = numbered::undo(buffer, log, count as usize);
+    answers::of_count(answer, r);
 }
 
 // Keeps all edits: none can be taken back any more. The count is 0.
 #[no_mangle]
 pub extern "C" fn svelgandur_keep(buffer: &[u8], log: &[u64], count: u64, answer: &mut [u64; 4])
-    ensures { λ _. ⌜ now (answer .exit) ≡ numbers inUse (noSteps (keepCall (now (buffer .entry)) (length (now (log .entry))) count)) ⌝ }
+    ensures { λ _. ⌜ KeepPromise (now (buffer .entry)) (now (log .entry)) count (now (answer .exit)) ⌝ }
 {
-    let r = session::keep(buffer, log, count as usize);
-    hand_back(answer, r);
+    let r = numbered::keep(buffer, log, count as usize);
+    answers::of_count(answer, r);
 }

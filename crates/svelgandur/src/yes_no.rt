@@ -1,11 +1,6 @@
 // The yes/no call from C.
-use crate::answer;
-use member::call::Verdict;
-ghost use mathlib.Core.Path.{_≡_};
-ghost use lib.ListN.{length};
-ghost use Rattle.meaning.specs.Calls.{memberCall, afterMember};
-ghost use Rattle.member.specs.Call.{said};
-ghost use Rattle.svelgandur.specs.Numbers.{numbers, verdicts};
+use answers;
+ghost use Rattle.svelgandur.specs.Promises.{MemberPromise};
 
 // Whether an item meets a requirement; a yes writes the map.
 // Yes: 1, places written, 0, 0. No: 2, 0, 0, 0. Refused: 0, side, number, place.
@@ -17,13 +12,8 @@ pub extern "C" fn svelgandur_member(
     map: &mut [u16],
     answer: &mut [u64; 4],
 )
-    ensures { λ _. ⌜ now (answer .exit) ≡ numbers verdicts (said (memberCall (now (image .entry)) (now (message .entry)) item (length (now (map .entry))))) ⌝ }
-    ensures { λ _. ⌜ now (map .exit) ≡ afterMember (now (map .entry)) (memberCall (now (image .entry)) (now (message .entry)) item (length (now (map .entry)))) ⌝ }
+    ensures { λ _. ⌜ MemberPromise (now (image .entry)) (now (message .entry)) item (now (map .entry)) (now (map .exit)) (now (answer .exit)) ⌝ }
 {
-    let r = member::call::decide(image, message, item as usize, map);
-    match r {
-        Verdict::Yes { nodes } => answer::put(answer, 1, nodes as u64, 0, 0),
-        Verdict::No => answer::put(answer, 2, 0, 0, 0),
-        Verdict::Refused { refusal } => answer::refuse(answer, refusal),
-    }
+    let r = deciding::decide(image, message, item as usize, map);
+    answers::of_verdict(answer, r);
 }

@@ -19,7 +19,9 @@ use crate::library::{self, Answer};
 use crate::part::{hex, refused, Call, Difference, Outcome, Part, Seen, GOOD};
 use crate::sheet;
 use crate::small;
-use crate::worst::{all_linked, broom, bushy, chain, comb, fans, halves, late, late_halves};
+use crate::worst::{
+    all_linked, broom, bushy, chain, comb, deep_halves, fans, halves, late, late_halves,
+};
 
 const DEGREE: &str = "degree";
 const MARGIN: &str = "margin";
@@ -379,7 +381,8 @@ fn large(seen: &mut Seen, rng: &mut Rng) -> Result<(), Difference> {
     each_item(seen, rng, &linked, &chain(|depth| depth as u64 & 7))?;
     each_item(seen, rng, &linked, &chain(|_| 0))?;
     each_item(seen, rng, &linked, &chain(|_| 3))?;
-    for root in [bushy(), comb(), broom(), late(), halves(), late_halves()] {
+    let deep = [late(), halves(), late_halves(), deep_halves()];
+    for root in [bushy(), comb(), broom()].into_iter().chain(deep) {
         each_item(seen, rng, &fans(), &root)?;
         each_item(seen, rng, &linked, &root)?;
     }

@@ -100,14 +100,26 @@ pub fn broom() -> Node {
 /// 61 nodes, all of them kept, without names: below the root the nodes are
 /// shared out evenly between two children, again and again.
 pub fn halves() -> Node {
-    node(0, vec![(0, halved(60))])
+    chained_halves(1, 60)
 }
 
 /// A chain, and at its end 31 nodes that are shared out evenly, the last of
 /// them at the greatest depth: the most ancestors of which a child is worked
 /// out beside another.
 pub fn late_halves() -> Node {
-    (0..MOST_DEPTH - 4).fold(halved(31), |below, _| node(0, vec![(0, below)]))
+    chained_halves(12, 31)
+}
+
+/// A chain of 11 edges, and at its end 50 nodes that are shared out evenly, the
+/// last of them at the greatest depth: as many nodes as can be, as deep as can
+/// be.
+pub fn deep_halves() -> Node {
+    chained_halves(11, 50)
+}
+
+/// A chain of so many edges, and at its end so many nodes that are shared out.
+fn chained_halves(edges: usize, nodes: usize) -> Node {
+    (0..edges).fold(halved(nodes), |below, _| node(0, vec![(0, below)]))
 }
 
 /// So many nodes, shared out evenly between two children, and so on below.

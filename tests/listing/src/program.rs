@@ -11,6 +11,9 @@ pub struct Program {
     pub path: PathBuf,
 }
 
+/// The stack that the program is given, in KiB.
+pub const STACK: usize = 192;
+
 /// How the input comes.
 #[derive(Clone, Copy, PartialEq, Eq, Debug)]
 pub enum Comes {
@@ -59,7 +62,10 @@ impl Program {
     }
 
     fn started(&self, file: Option<File>) -> Result<Child, String> {
-        Command::new(&self.path)
+        Command::new("sh")
+            .arg("-c")
+            .arg(format!("ulimit -s {STACK} && exec \"$0\""))
+            .arg(&self.path)
             .stdin(file.map_or_else(Stdio::piped, Stdio::from))
             .stdout(Stdio::piped())
             .stderr(Stdio::piped())

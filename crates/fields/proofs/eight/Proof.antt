@@ -45,7 +45,8 @@ add-result-3 c = search needs
 
 returns : tie.Need-returns
 returns c =
-    omega (arith, number-eight (c .before .before .before .before .before .args .s .now) (c .before .before .before .before .before .args .at), c .before .before .before .two .ensures .0, c .before .before .two2 .ensures .0, c .before .two3 .ensures .0, c .two4 .ensures .0)
+    let c5 = c .before .before .before .before .before in
+    omega (arith, number-eight (c5 .args .s .now) (c5 .args .at), c .before .before .before .two .ensures .0, c .before .before .two2 .ensures .0, c .before .two3 .ensures .0, c .two4 .ensures .0)
 
 pub eight-spec : {M : Type 1} → statement M
 eight-spec =

@@ -42,7 +42,13 @@ loop-less c = search needs
 
 loop-again : tie.Need-loop-again Inv-loop μ-loop
 loop-again c =
-    (omega arith, length-set (c .before .before .loop .s) _ _ ∙ c .before .before .loop .inv .1, put-more (c .before .before .loop .s) (c .before .before .before .before .args .at) (c .before .before .loop .i) (c .before .before .loop .rest) (c .low .result) (c .before .loop-test .taken) (c .low .ensures) ∙ c .before .before .loop .inv .2)
+    let c2 = c .before .before in
+    let c4 = c2 .before .before in (
+      omega arith,
+      length-set (c2 .loop .s) _ _
+          ∙ c2 .loop .inv .1,
+      put-more (c2 .loop .s) (c4 .args .at) (c2 .loop .i) (c2 .loop .rest) (c .low .result) (c .before .loop-test .taken) (c .low .ensures) ∙ c2 .loop .inv .2,
+    )
 
 same-length : tie.Need-same-length Inv-loop μ-loop
 same-length c =

@@ -33,33 +33,47 @@ two-requires c κs = search needs
 
 returns-3 : tie.Need-returns-3
 returns-3 c =
-    let h : 3 ≤ length (c .before .before .before .before .before .before .args .s .now) = omega arith in
-    let l : length (c .before .before .before .before .before .before .args .s .now) - 3 < number (c .before .before .before .before .before .before .args .s .now) 1 2 = omega (arith, c .before .two .ensures .0) in
-    (λ side. sym (head-length side (wrongIn (c .before .before .before .before .before .before .args .session)) (c .before .before .before .before .before .before .args .s .now) h (c .before .before .if2 .left) (wrong-longer (c .before .before .before .before .before .before .args .session) _ _ l)), tt)
+    let c6 = c .before .before .before .before .before .before in
+    let h : 3 ≤ length (c6 .args .s .now) = omega arith in
+    let l : length (c6 .args .s .now) - 3 < number (c6 .args .s .now) 1 2 = omega (arith, c .before .two .ensures .0) in
+    (λ side. sym (head-length side (wrongIn (c6 .args .session)) (c6 .args .s .now) h (c .before .before .if2 .left) (wrong-longer (c6 .args .session) _ _ l)), tt)
 
 add-t9 : tie.Need-add-t9
 add-t9 c = search needs
 
 returns-4 : tie.Need-returns-4
 returns-4 c =
-    let h : 3 ≤ length (c .before .before .before .before .before .before .before .args .s .now) = omega arith in
-    let l : number (c .before .before .before .before .before .before .before .args .s .now) 1 2 ≤ length (c .before .before .before .before .before .before .before .args .s .now) - 3 = omega (arith, c .before .before .two .ensures .0) in
-    (λ side. ends-at (head-good side (wrongIn (c .before .before .before .before .before .before .before .args .session)) (c .before .before .before .before .before .before .before .args .s .now) h (c .before .before .before .if2 .left) (right-front (c .before .before .before .before .before .before .before .args .session) _ _ (c .if4 .taken) l)) (omega (arith, c .before .before .two .ensures .0)), omega arith)
+    let c2 = c .before .before in
+    let c7 = c2 .before .before .before .before .before in
+    let h : 3 ≤ length (c7 .args .s .now) = omega arith in
+    let l : number (c7 .args .s .now) 1 2 ≤ length (c7 .args .s .now) - 3 = omega (arith, c2 .two .ensures .0) in (
+      λ side. ends-at (head-good side (wrongIn (c7 .args .session)) (c7 .args .s .now) h (c .before .before .before .if2 .left)
+          (right-front (c7 .args .session) _ _ (c .if4 .taken) l)) (omega (arith, c2 .two .ensures .0)),
+      omega arith,
+    )
 
 returns-5 : tie.Need-returns-5
 returns-5 c =
-    let h : 3 ≤ length (c .before .before .before .before .before .before .before .before .args .s .now) = omega arith in
-    let l : number (c .before .before .before .before .before .before .before .before .args .s .now) 1 2 < length (c .before .before .before .before .before .before .before .before .args .s .now) - 3 = omega (arith, c .before .before .before .two .ensures .0) in
-    (λ side. sym (head-length side (wrongIn (c .before .before .before .before .before .before .before .before .args .session)) (c .before .before .before .before .before .before .before .before .args .s .now) h (c .before .before .before .before .if2 .left) (wrong-shorter (c .before .before .before .before .before .before .before .before .args .session) _ _ (c .before .if4 .left) l)), tt)
+    let c4 = c .before .before .before .before in
+    let c8 = c4 .before .before .before .before in
+    let h : 3 ≤ length (c8 .args .s .now) = omega arith in
+    let l : number (c8 .args .s .now) 1 2 < length (c8 .args .s .now) - 3 = omega (arith, c .before .before .before .two .ensures .0) in
+    (λ side. sym (head-length side (wrongIn (c8 .args .session)) (c8 .args .s .now) h (c4 .if2 .left) (wrong-shorter (c8 .args .session) _ _ (c .before .if4 .left) l)), tt)
 
 add-t8 : tie.Need-add-t8
 add-t8 c = search needs
 
 returns-6 : tie.Need-returns-6
 returns-6 c =
-    let h : 3 ≤ length (c .before .before .before .before .before .before .before .before .args .s .now) = omega arith in
-    let l : number (c .before .before .before .before .before .before .before .before .args .s .now) 1 2 ≡ length (c .before .before .before .before .before .before .before .before .args .s .now) - 3 = omega (arith, c .before .before .before .two .ensures .0) in
-    (λ side. ends-at (head-good side (wrongIn (c .before .before .before .before .before .before .before .before .args .session)) (c .before .before .before .before .before .before .before .before .args .s .now) h (c .before .before .before .before .if2 .left) (right-whole (c .before .before .before .before .before .before .before .before .args .session) _ _ (c .before .if4 .left) l)) (omega (arith, c .before .before .before .two .ensures .0)), omega arith)
+    let c3 = c .before .before .before in
+    let c4 = c3 .before in
+    let c8 = c4 .before .before .before .before in
+    let h : 3 ≤ length (c8 .args .s .now) = omega arith in
+    let l : number (c8 .args .s .now) 1 2 ≡ length (c8 .args .s .now) - 3 = omega (arith, c3 .two .ensures .0) in (
+      λ side. ends-at (head-good side (wrongIn (c8 .args .session)) (c8 .args .s .now) h (c4 .if2 .left)
+          (right-whole (c8 .args .session) _ _ (c .before .if4 .left) l)) (omega (arith, c3 .two .ensures .0)),
+      omega arith,
+    )
 
 pub read-head-spec : {M : Type 1} → statement M
 read-head-spec =

@@ -27,7 +27,8 @@ add-result c = search needs
 
 returns : tie.Need-returns
 returns c =
-    (omega (arith, number-two (c .before .before .before .before .before .args .s .now) (c .before .before .before .before .before .args .at), c .before .before .octet .ensures .0, c .octet2 .ensures .0), search needs)
+    let c5 = c .before .before .before .before .before in
+    (omega (arith, number-two (c5 .args .s .now) (c5 .args .at), c .before .before .octet .ensures .0, c .octet2 .ensures .0), search needs)
 
 pub two-spec : {M : Type 1} → statement M
 two-spec =

@@ -1,6 +1,5 @@
 -- `fractions::against` meets its contract: N times q minus p times D, over D times q; no product wraps.
 -- Assumes nothing.
-use borrow.Author.Needs.{needs}
 use Rattle.fractions.proofs.against.Statement.{statement}
 use Rattle.fractions.proofs.against.Tie as tie
 use mathlib.Core.Path.{refl, sym, subst, _∙_}

@@ -1,8 +1,8 @@
--- `history::call` meets its contract: the call is the one that its letter names.
--- Assumes nothing.
 use borrow.Author.Needs.{needs}
 use Rattle.history.proofs.call.Statement.{statement}
 use Rattle.history.proofs.call.Tie as tie
+use mathlib.Core.Path.{refl}
+use Rattle.fields.proofs.Known.{bytes-known}
 use Rattle.history.proofs.Histories.{first, second, third, fourth, fifth, sixth, none-of-them, called}
 
 open-requires : tie.Need-open-requires
@@ -11,131 +11,96 @@ open-requires c κs = search needs
 same-length : tie.Need-same-length
 same-length c = search needs
 
-same-length-2 : tie.Need-same-length-2
-same-length-2 c = search needs
-
 returns : tie.Need-returns
 returns c =
-    let x = c .before .before .before .before .before .before .before .before .args in
-    let d = c .before .before .before .before .before in
-    let h1 = d .if1 .taken in
-    called (first (x .kind) (x .a) (x .b) (x .c) h1) (c .before .before .«open» .ensures)
+    let x = c .before .before .before .before .before .before .before .args in
+    let done = c .before .before .«open» .ensures in
+    called (first (x .kind) (x .a) (x .b) (x .c) (c .before .before .before .before .if1 .taken))
+    (record { bytes = bytes-known (x .s .now) (c .before .before .before .before .before .before .slice-known .given); promised = (done .0, done .1, refl); handed = refl })
 
 edit-requires : tie.Need-edit-requires
 edit-requires c κs = search needs
 
+same-length-2 : tie.Need-same-length-2
+same-length-2 c = search needs
+
 same-length-3 : tie.Need-same-length-3
 same-length-3 c = search needs
-
-same-length-4 : tie.Need-same-length-4
-same-length-4 c = search needs
 
 returns-2 : tie.Need-returns-2
 returns-2 c =
     let x = c .before .before .before .before .before .before .before .before .before .before .before .args in
-    let d = c .before .before .before .before .before .before .before in
-    let h1 = d .before .if1 .left in
-    let h2 = d .if2 .taken in
-    called (second (x .kind) (x .a) (x .b) (x .c) h1 h2) (c .before .before .before .before .edit .ensures)
+    called (second (x .kind) (x .a) (x .b) (x .c) (c .before .before .before .before .before .before .before .before .if1 .left) (c .before .before .before .before .before .before .before .if2 .taken)) (c .before .before .before .before .edit .ensures)
 
 edit-requires-2 : tie.Need-edit-requires-2
 edit-requires-2 c κs = search needs
 
+same-length-4 : tie.Need-same-length-4
+same-length-4 c = search needs
+
 same-length-5 : tie.Need-same-length-5
 same-length-5 c = search needs
-
-same-length-6 : tie.Need-same-length-6
-same-length-6 c = search needs
 
 returns-3 : tie.Need-returns-3
 returns-3 c =
     let x = c .before .before .before .before .before .before .before .before .before .before .before .before .args in
-    let d = c .before .before .before .before .before .before .before in
-    let h1 = d .before .before .if1 .left in
-    let h2 = d .before .if2 .left in
-    let h3 = d .if3 .taken in
-    called (third (x .kind) (x .a) (x .b) (x .c) h1 h2 h3) (c .before .before .before .before .edit2 .ensures)
+    called (third (x .kind) (x .a) (x .b) (x .c) (c .before .before .before .before .before .before .before .before .before .if1 .left) (c .before .before .before .before .before .before .before .before .if2 .left) (c .before .before .before .before .before .before .before .if3 .taken)) (c .before .before .before .before .edit2 .ensures)
 
 edit-requires-3 : tie.Need-edit-requires-3
 edit-requires-3 c κs = search needs
 
+same-length-6 : tie.Need-same-length-6
+same-length-6 c = search needs
+
 same-length-7 : tie.Need-same-length-7
 same-length-7 c = search needs
-
-same-length-8 : tie.Need-same-length-8
-same-length-8 c = search needs
 
 returns-4 : tie.Need-returns-4
 returns-4 c =
     let x = c .before .before .before .before .before .before .before .before .before .before .before .before .before .args in
-    let d = c .before .before .before .before .before .before .before in
-    let h1 = d .before .before .before .if1 .left in
-    let h2 = d .before .before .if2 .left in
-    let h3 = d .before .if3 .left in
-    let h4 = d .if4 .taken in
-    called (fourth (x .kind) (x .a) (x .b) (x .c) h1 h2 h3 h4) (c .before .before .before .before .edit3 .ensures)
+    called (fourth (x .kind) (x .a) (x .b) (x .c) (c .before .before .before .before .before .before .before .before .before .before .if1 .left) (c .before .before .before .before .before .before .before .before .before .if2 .left) (c .before .before .before .before .before .before .before .before .if3 .left) (c .before .before .before .before .before .before .before .if4 .taken)) (c .before .before .before .before .edit3 .ensures)
 
 edit-requires-4 : tie.Need-edit-requires-4
 edit-requires-4 c κs = search needs
 
+same-length-8 : tie.Need-same-length-8
+same-length-8 c = search needs
+
 same-length-9 : tie.Need-same-length-9
 same-length-9 c = search needs
-
-same-length-10 : tie.Need-same-length-10
-same-length-10 c = search needs
 
 returns-5 : tie.Need-returns-5
 returns-5 c =
     let x = c .before .before .before .before .before .before .before .before .before .before .before .before .before .before .args in
-    let d = c .before .before .before .before .before .before .before in
-    let h1 = d .before .before .before .before .if1 .left in
-    let h2 = d .before .before .before .if2 .left in
-    let h3 = d .before .before .if3 .left in
-    let h4 = d .before .if4 .left in
-    let h5 = d .if5 .taken in
-    called (fifth (x .kind) (x .a) (x .b) (x .c) h1 h2 h3 h4 h5) (c .before .before .before .before .edit4 .ensures)
+    called (fifth (x .kind) (x .a) (x .b) (x .c) (c .before .before .before .before .before .before .before .before .before .before .before .if1 .left) (c .before .before .before .before .before .before .before .before .before .before .if2 .left) (c .before .before .before .before .before .before .before .before .before .if3 .left) (c .before .before .before .before .before .before .before .before .if4 .left) (c .before .before .before .before .before .before .before .if5 .taken)) (c .before .before .before .before .edit4 .ensures)
 
 undo-requires : tie.Need-undo-requires
 undo-requires c κs = search needs
 
+same-length-10 : tie.Need-same-length-10
+same-length-10 c = search needs
+
 same-length-11 : tie.Need-same-length-11
 same-length-11 c = search needs
-
-same-length-12 : tie.Need-same-length-12
-same-length-12 c = search needs
 
 returns-6 : tie.Need-returns-6
 returns-6 c =
     let x = c .before .before .before .before .before .before .before .before .before .before .before .before .before .args in
-    let d = c .before .before .before .before .before in
-    let h1 = d .before .before .before .before .before .if1 .left in
-    let h2 = d .before .before .before .before .if2 .left in
-    let h3 = d .before .before .before .if3 .left in
-    let h4 = d .before .before .if4 .left in
-    let h5 = d .before .if5 .left in
-    let h6 = d .if6 .taken in
-    called (sixth (x .kind) (x .a) (x .b) (x .c) h1 h2 h3 h4 h5 h6) (c .before .before .undo .ensures)
+    called (sixth (x .kind) (x .a) (x .b) (x .c) (c .before .before .before .before .before .before .before .before .before .before .if1 .left) (c .before .before .before .before .before .before .before .before .before .if2 .left) (c .before .before .before .before .before .before .before .before .if3 .left) (c .before .before .before .before .before .before .before .if4 .left) (c .before .before .before .before .before .before .if5 .left) (c .before .before .before .before .before .if6 .taken)) (c .before .before .undo .ensures)
 
 keep-requires : tie.Need-keep-requires
 keep-requires c κs = search needs
 
+same-length-12 : tie.Need-same-length-12
+same-length-12 c = search needs
+
 same-length-13 : tie.Need-same-length-13
 same-length-13 c = search needs
-
-same-length-14 : tie.Need-same-length-14
-same-length-14 c = search needs
 
 returns-7 : tie.Need-returns-7
 returns-7 c =
     let x = c .before .before .before .before .before .before .before .before .before .before .before .args in
-    let d = c .before .before .before in
-    let h1 = d .before .before .before .before .before .if1 .left in
-    let h2 = d .before .before .before .before .if2 .left in
-    let h3 = d .before .before .before .if3 .left in
-    let h4 = d .before .before .if4 .left in
-    let h5 = d .before .if5 .left in
-    let h6 = d .if6 .left in
-    called (none-of-them (x .kind) (x .a) (x .b) (x .c) h1 h2 h3 h4 h5 h6) (c .keep .ensures)
+    called (none-of-them (x .kind) (x .a) (x .b) (x .c) (c .before .before .before .before .before .before .before .before .if1 .left) (c .before .before .before .before .before .before .before .if2 .left) (c .before .before .before .before .before .before .if3 .left) (c .before .before .before .before .before .if4 .left) (c .before .before .before .before .if5 .left) (c .before .before .before .if6 .left)) (c .keep .ensures)
 
 pub call-spec : {M : Type 1} → statement M
 call-spec =
@@ -143,29 +108,28 @@ call-spec =
     (tie.spec
     open-requires
     same-length
-    same-length-2
     returns
     edit-requires
+    same-length-2
     same-length-3
-    same-length-4
     returns-2
     edit-requires-2
+    same-length-4
     same-length-5
-    same-length-6
     returns-3
     edit-requires-3
+    same-length-6
     same-length-7
-    same-length-8
     returns-4
     edit-requires-4
+    same-length-8
     same-length-9
-    same-length-10
     returns-5
     undo-requires
+    same-length-10
     same-length-11
-    same-length-12
     returns-6
     keep-requires
+    same-length-12
     same-length-13
-    same-length-14
     returns-7)

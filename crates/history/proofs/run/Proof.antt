@@ -7,7 +7,7 @@ use mathlib.Core.Path.{_≡_, refl, _∙_}
 use Prim.Native.Nat.{_≤_, _-_}
 use native.Mathlib.Omega.{arith}
 use lib.ListN.{length}
-use Rattle.session.specs.Played.{lent}
+use Rattle.numbered.specs.Played.{lent}
 use Rattle.history.proofs.Histories.{Playing, played-on, played-out}
 
 abbrev Inv-loop : tie.InvT-loop

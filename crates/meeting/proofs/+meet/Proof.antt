@@ -9,7 +9,7 @@ use Rattle.graph.proofs.sets.next_in.Reads as next-in-reads
 use Rattle.graph.proofs.spread.Reads as spread-reads
 use Rattle.meeting.proofs.fold.Reads as fold-reads
 use Rattle.meeting.proofs.hold.Reads as hold-reads
-use Rattle.meeting.proofs.screen.Reads as screen-reads
+use Rattle.screening.proofs.screen.Reads as screen-reads
 use Rattle.meeting.proofs.store.Reads as store-reads
 use Rattle.meeting.proofs.+meet.{statement}
 use Rattle.meeting.proofs.+meet.Tie.{close}
@@ -23,7 +23,7 @@ use Rattle.graph.specs.Sets.{Among}
 use Rattle.graph.proofs.Empty.{among-none}
 use Rattle.meeting.specs.Cells.{Outside}
 use Rattle.meeting.specs.Case.{Case}
-use Rattle.meeting.proofs.Sifting.{none-found, stays-among}
+use Rattle.screening.proofs.Sifting.{none-found, stays-among}
 use Rattle.meeting.proofs.Table.{outside-none, outside-part}
 use Rattle.meeting.proofs.Cases.{here, Left, child, child-case, next-left, left-start, left-empty, whole, asked-among, below-named, above-named, zeros-length}
 use borrow.Author.Needs.{needs}

@@ -13,7 +13,7 @@ use Rattle.fields.proofs.Known.{bytes-known}
 use Rattle.graph.specs.Judged.{Judged}
 use Rattle.graph.specs.Sets.{inSet}
 use Rattle.graph.proofs.Use.{next-inside}
-use Rattle.meeting.proofs.Sifting.{Sifting, sifting-start, sifting-old, sifting-step, sifting-end}
+use Rattle.screening.proofs.Sifting.{Sifting, sifting-start, sifting-old, sifting-step, sifting-end}
 use Rattle.meeting.proofs.Search.{found-any}
 use borrow.Author.Needs.{needs}
 

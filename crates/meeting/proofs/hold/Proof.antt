@@ -7,7 +7,7 @@ use lib.ListN.{length}
 use Rattle.meaning.specs.Names.{within}
 use Rattle.meaning.specs.Register.{judged}
 use Rattle.register.specs.Image.{Image}
-use Rattle.meeting.proofs.Sifting.{Sifting, sifting-start, sifting-old, sifting-step, sifting-end}
+use Rattle.screening.proofs.Sifting.{Sifting, sifting-start, sifting-old, sifting-step, sifting-end}
 use borrow.Author.Needs.{needs}
 
 abbrev Inv-loop : tie.InvT-loop

@@ -84,22 +84,30 @@ pub +child-size+size-spec : {M : Type 1} → statement M
     let l = c .named .ensures .1 in
     (e, omega arith, omega arith, size-start _ _ _ _ _ (c .named .ensures .0)))
     (λ c. let o = inside _ _ _ _ _ (c .before .before .before .before .before .before .pre .1 .held) in omega arith)
-    (λ c κs. let o = inside _ _ _ _ _ (c .before .before .before .before .before .before .pre .1 .held) in
-    let f = size-child _ _ _ _ _ _ _ (c .before .loop .inv .3) (c .before .before .before .before .before .before .pre .1) (omega (arith, c .before .loop .inv .0)) in
-    (omega (arith, c .before .before .before .before .before .before .pre .0), record { roles = _; held = f .here }))
-    (λ c. let f = size-child _ _ _ _ _ _ _ (c .before .before .loop .inv .3) (c .before .before .before .before .before .before .before .pre .1) (omega (arith, c .before .before .loop .inv .0)) in
-    let l = c .before .before .before .before .before .before .before .pre .1 .held .fits in
-    omega (arith, c .child-size .ensures .small, c .before .before .loop .inv .0, c .before .before .loop .inv .2))
+    (λ c κs. let c6 = c .before .before .before .before .before .before in
+    let o = inside _ _ _ _ _ (c6 .pre .1 .held) in
+    let f = size-child _ _ _ _ _ _ _ (c .before .loop .inv .3) (c6 .pre .1) (omega (arith, c .before .loop .inv .0)) in
+    (omega (arith, c6 .pre .0), record { roles = _; held = f .here }))
+    (λ c. let c2 = c .before .before in
+    let c7 = c2 .before .before .before .before .before in
+    let f = size-child _ _ _ _ _ _ _ (c2 .loop .inv .3) (c7 .pre .1) (omega (arith, c2 .loop .inv .0)) in
+    let l = c7 .pre .1 .held .fits in
+    omega (arith, c .child-size .ensures .small, c2 .loop .inv .0, c2 .loop .inv .2))
     (λ c. let f = c .before .before .before .before .before .before .before .pre .1 .held .fits in omega (arith, c .before .before .loop .inv .0))
     (λ c κs. search needs)
-    (λ c. let f = size-child _ _ _ _ _ _ _ (c .before .before .before .before .loop .inv .3) (c .before .before .before .before .before .before .before .before .before .pre .1) (omega (arith, c .before .before .before .before .loop .inv .0)) in
+    (λ c. let c4 = c .before .before .before .before in
+    let c9 = c4 .before .before .before .before .before in
+    let f = size-child _ _ _ _ _ _ _ (c4 .loop .inv .3) (c9 .pre .1) (omega (arith, c4 .loop .inv .0)) in
     omega (arith, c .octet2 .ensures .0))
-    (λ c. let f = size-child _ _ _ _ _ _ _ (c .before .before .before .before .loop .inv .3) (c .before .before .before .before .before .before .before .before .before .pre .1) (omega (arith, c .before .before .before .before .loop .inv .0)) in
+    (λ c. let c2 = c .before .before in
+    let c4 = c2 .before .before in
+    let c9 = c4 .before .before .before .before .before in
+    let f = size-child _ _ _ _ _ _ _ (c4 .loop .inv .3) (c9 .pre .1) (omega (arith, c4 .loop .inv .0)) in
     let e = c .octet2 .ensures .0 in (
-      c .before .before .before .before .loop .inv .0,
-      omega (arith, c .before .before .before .before .loop .inv .1),
-      omega (arith, c .before .before .child-size .ensures .small, c .before .before .before .before .loop .inv .0, c .before .before .before .before .loop .inv .2),
-      size-next _ _ _ _ _ _ _ (c .before .before .before .before .loop .inv .3) (omega (arith, c .before .before .before .before .loop .inv .0)) _ (c .before .before .child-size .ensures) e,
+      c4 .loop .inv .0,
+      omega (arith, c4 .loop .inv .1),
+      omega (arith, c2 .child-size .ensures .small, c4 .loop .inv .0, c4 .loop .inv .2),
+      size-next _ _ _ _ _ _ _ (c4 .loop .inv .3) (omega (arith, c4 .loop .inv .0)) _ (c2 .child-size .ensures) e,
     ))
     (λ c. let e = c .before .loop .inv .0 in
     let l = c .before .loop .inv .2 in

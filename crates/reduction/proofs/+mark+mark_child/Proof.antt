@@ -67,15 +67,24 @@ pub +mark+mark-child-spec : {M : Type 1} → statement M
     (λ c. (c .octet .ensures .0, mark-start _ _ _ _ _ _))
     (λ c. let a = in-range _ _ _ _ (c .before .before .before .before .before .pre .1) in omega arith)
     (λ c. let o = inside _ _ _ _ _ (c .before .before .before .before .before .pre .1) in omega arith)
-    (λ c κs. let o = inside _ _ _ _ _ (c .before .before .before .before .before .pre .1) in
-    let e = c .before .before .loop .inv .0 in
-    (omega (arith, c .before .before .before .before .before .pre .0), rw e (next-child _ _ _ _ _ _ _ _ (c .before .before .loop .inv .1) (c .before .before .before .before .before .pre .1) (omega arith))))
+    (λ c κs. let c2 = c .before .before in
+    let c5 = c2 .before .before .before in
+    let o = inside _ _ _ _ _ (c5 .pre .1) in
+    let e = c2 .loop .inv .0 in
+    (omega (arith, c5 .pre .0), rw e (next-child _ _ _ _ _ _ _ _ (c2 .loop .inv .1) (c5 .pre .1) (omega arith))))
     (λ c. let f = c .before .before .before .before .before .before .pre .1 .fits in omega (arith, c .before .before .before .loop .inv .0))
     (λ c κs. search needs)
-    (λ c. let s = next-child _ _ _ _ _ _ _ _ (c .before .before .before .before .before .loop .inv .1) (c .before .before .before .before .before .before .before .before .pre .1) (omega (arith, c .before .before .before .before .before .loop .inv .0)) in
+    (λ c. let c5 = c .before .before .before .before .before in
+    let c8 = c5 .before .before .before in
+    let s = next-child _ _ _ _ _ _ _ _ (c5 .loop .inv .1) (c8 .pre .1) (omega (arith, c5 .loop .inv .0)) in
     let o = inside _ _ _ _ _ (s .here) in
     omega (arith, c .octet2 .ensures .0))
-    (λ c. (c .before .before .before .before .before .loop .inv .0, mark-next _ _ _ _ _ _ _ _ (c .before .before .before .before .before .loop .inv .1) (omega (arith, c .before .before .before .before .before .loop .inv .0)) _ (c .before .before .before .before .before .loop .inv .0) (c .before .before .mark-child .ensures) (c .octet2 .ensures .0) (c .before .before .before .before .before .before .before .before .pre .1)))
+    (λ c. let c5 = c .before .before .before .before .before in
+    let c8 = c5 .before .before .before in (
+      c5 .loop .inv .0,
+      mark-next _ _ _ _ _ _ _ _ (c5 .loop .inv .1) (omega (arith, c5 .loop .inv .0)) _ (c5 .loop .inv .0)
+          (c .before .before .mark-child .ensures) (c .octet2 .ensures .0) (c8 .pre .1),
+    ))
     (λ c. mark-all _ _ _ _ _ _ _ _ (c .before .loop .inv .1) (omega (arith, c .before .loop .inv .0))))
     λ t. mark-child-lts.spec (
       dropped-reads.Asked,
@@ -89,7 +98,11 @@ pub +mark+mark-child-spec : {M : Type 1} → statement M
     mark-child.Post
     (λ c κs. search needs)
     (λ c κs. let a = in-range _ _ _ _ (c .before .before .before .pre .1 .here) in omega arith)
-    (λ c. child-dropped _ _ _ _ _ _ _ _ (inside _ _ _ _ _ (c .before .before .before .before .pre .1 .here) .inside) (c .before .before .before .dropped .ensures) _ (c .before .before .if1 .taken) (c .put .ensures))
+    (λ c. let c4 = c .before .before .before .before in
+    child-dropped _ _ _ _ _ _ _ _ (inside _ _ _ _ _ (c4 .pre .1 .here) .inside) (c .before .before .before .dropped .ensures) _ (c .before .before .if1 .taken) (c .put .ensures))
     (λ c κs. let a = in-range _ _ _ _ (c .before .before .before .pre .1 .here) in omega arith)
     (λ c κs. (omega (arith, c .before .before .before .before .before .pre .0), c .before .before .before .before .before .pre .1 .here))
-    (λ c. child-kept _ _ _ _ _ _ _ _ (inside _ _ _ _ _ (c .before .before .before .before .before .before .pre .1 .here) .inside) (c .before .before .before .before .before .dropped .ensures) _ _ (c .before .before .before .before .if1 .left) (c .before .before .put2 .ensures) (c .mark .ensures))
+    (λ c. let c4 = c .before .before .before .before in
+    let c5 = c4 .before in
+    let c6 = c5 .before in
+    child-kept _ _ _ _ _ _ _ _ (inside _ _ _ _ _ (c6 .pre .1 .here) .inside) (c5 .dropped .ensures) _ _ (c4 .if1 .left) (c .before .before .put2 .ensures) (c .mark .ensures))

@@ -22,7 +22,23 @@ use lib.ListN.{getD}
 use borrow.Author.Tests.{not-true, not-false}
 use Rattle.meaning.specs.Reduce.{subsumes as above}
 use Rattle.reduction.proofs.Held.{in-range, inside, front}
-use Rattle.reduction.proofs.Subsumed.{Serving, names-differ, serve-start, left-over, serve-all, serve-next, serve-not, role-differs, role-same, Seeking, seek-start, unseen, seek-none, seek-next, seek-found}
+use Rattle.reduction.proofs.Subsumed.{
+  Serving,
+  names-differ,
+  serve-start,
+  left-over,
+  serve-all,
+  serve-next,
+  serve-not,
+  role-differs,
+  role-same,
+  Seeking,
+  seek-start,
+  unseen,
+  seek-none,
+  seek-next,
+  seek-found,
+}
 
 abbrev μ-subsumes : Measures 3 subsumes-kinds.ps ℕ
 μ-subsumes κs a =
@@ -103,28 +119,42 @@ pub +subsumes+subsumes-like+subsumes-one-spec : {M : Type 1} → statement M
     (λ c. let a = in-range _ _ _ _ (c .before .pre .1 .one) in let b = in-range _ _ _ _ (c .before .pre .1 .other) in omega arith)
     (λ c κs. search needs)
     (λ c. names-differ _ _ _ _ _ _ (c .before .within .ensures) (not-true _ (c .if1 .taken)))
-    (λ c. let a = in-range _ _ _ _ (c .before .before .before .before .pre .1 .one) in let b = in-range _ _ _ _ (c .before .before .before .before .pre .1 .other) in omega arith)
+    (λ c. let c4 = c .before .before .before .before in
+    let a = in-range _ _ _ _ (c4 .pre .1 .one) in let b = in-range _ _ _ _ (c4 .pre .1 .other) in omega arith)
     (λ c κs. search needs)
-    (λ c. let a = in-range _ _ _ _ (c .before .before .before .before .before .before .pre .1 .one) in let b = in-range _ _ _ _ (c .before .before .before .before .before .before .pre .1 .other) in omega arith)
+    (λ c. let c6 = c .before .before .before .before .before .before in
+    let a = in-range _ _ _ _ (c6 .pre .1 .one) in let b = in-range _ _ _ _ (c6 .pre .1 .other) in omega arith)
     (λ c κs. search needs)
-    (λ c. let a = in-range _ _ _ _ (c .before .before .before .before .before .before .before .before .pre .1 .one) in let b = in-range _ _ _ _ (c .before .before .before .before .before .before .before .before .pre .1 .other) in omega arith)
-    (λ c. (c .before .before .octet .ensures .0, c .octet2 .ensures .0, serve-start _ _ _ _ _ _ (c .before .before .before .before .before .within .ensures) (not-false _ (c .before .before .before .before .if1 .left))))
-    (λ c. let a = in-range _ _ _ _ (c .before .before .before .before .before .before .before .before .before .before .pre .1 .one) in let b = in-range _ _ _ _ (c .before .before .before .before .before .before .before .before .before .before .pre .1 .other) in omega arith)
+    (λ c. let c8 = c .before .before .before .before .before .before .before .before in
+    let a = in-range _ _ _ _ (c8 .pre .1 .one) in let b = in-range _ _ _ _ (c8 .pre .1 .other) in omega arith)
+    (λ c. let c4 = c .before .before .before .before in
+    let c5 = c4 .before in
+    (c .before .before .octet .ensures .0, c .octet2 .ensures .0, serve-start _ _ _ _ _ _ (c5 .within .ensures) (not-false _ (c4 .if1 .left))))
+    (λ c. let c10 = c .before .before .before .before .before .before .before .before .before .before in
+    let a = in-range _ _ _ _ (c10 .pre .1 .one) in let b = in-range _ _ _ _ (c10 .pre .1 .other) in omega arith)
     (λ c. let o = inside _ _ _ _ _ (c .before .before .before .before .before .before .before .before .before .before .pre .1 .other) in omega arith)
-    (λ c κs. let o = inside _ _ _ _ _ (c .before .before .before .before .before .before .before .before .before .before .pre .1 .one) in
-    let r = inside _ _ _ _ _ (c .before .before .before .before .before .before .before .before .before .before .pre .1 .other) in
+    (λ c κs. let c10 = c .before .before .before .before .before .before .before .before .before .before in
+    let o = inside _ _ _ _ _ (c10 .pre .1 .one) in
+    let r = inside _ _ _ _ _ (c10 .pre .1 .other) in
     let e = c .before .loop .inv .1 in
-    let f = front _ _ _ _ _ _ (left-over _ _ _ _ _ _ _ (c .before .loop .inv .2) (c .before .before .before .before .before .before .before .before .before .before .pre .1)) (omega (arith, c .before .loop .inv .0)) in
-    (omega (arith, c .before .before .before .before .before .before .before .before .before .before .pre .0), record { one = f .here; others = rw e (r .children) }))
-    (λ c. serve-not _ _ _ _ _ _ _ (c .before .before .before .loop .inv .2) (omega (arith, c .before .before .before .loop .inv .0)) (c .before .before .before .loop .inv .1) (c .before .subsumes-one .ensures) (not-true _ (c .if2 .taken)))
-    (λ c. let f = c .before .before .before .before .before .before .before .before .before .before .before .before .pre .1 .one .fits in omega (arith, c .before .before .before .loop .inv .0))
+    let f = front _ _ _ _ _ _ (left-over _ _ _ _ _ _ _ (c .before .loop .inv .2) (c10 .pre .1)) (omega (arith, c .before .loop .inv .0)) in
+    (omega (arith, c10 .pre .0), record { one = f .here; others = rw e (r .children) }))
+    (λ c. let c3 = c .before .before .before in
+    serve-not _ _ _ _ _ _ _ (c3 .loop .inv .2) (omega (arith, c3 .loop .inv .0)) (c3 .loop .inv .1) (c .before .subsumes-one .ensures) (not-true _ (c .if2 .taken)))
+    (λ c. let c12 = c .before .before .before .before .before .before .before .before .before .before .before .before in
+    let f = c12 .pre .1 .one .fits in omega (arith, c .before .before .before .loop .inv .0))
     (λ c κs. search needs)
-    (λ c. let f = front _ _ _ _ _ _ (left-over _ _ _ _ _ _ _ (c .before .before .before .before .before .loop .inv .2) (c .before .before .before .before .before .before .before .before .before .before .before .before .before .before .pre .1)) (omega (arith, c .before .before .before .before .before .loop .inv .0)) in
+    (λ c. let c5 = c .before .before .before .before .before in
+    let c14 = c5 .before .before .before .before .before .before .before .before .before in
+    let f = front _ _ _ _ _ _ (left-over _ _ _ _ _ _ _ (c5 .loop .inv .2) (c14 .pre .1)) (omega (arith, c5 .loop .inv .0)) in
     omega (arith, c .octet3 .ensures .0))
-    (λ c. (
-      c .before .before .before .before .before .before .before .before .octet .ensures .0,
-      c .before .before .before .before .before .before .octet2 .ensures .0,
-      serve-next _ _ _ _ _ _ _ (c .before .before .before .before .before .loop .inv .2) (omega (arith, c .before .before .before .before .before .loop .inv .0)) (c .before .before .before .before .before .loop .inv .1) (c .before .before .before .subsumes-one .ensures) (not-false _ (c .before .before .if2 .left)) (c .octet3 .ensures .0),
+    (λ c. let c5 = c .before .before .before .before .before in
+    let c6 = c5 .before in
+    let c8 = c6 .before .before in (
+      c8 .octet .ensures .0,
+      c6 .octet2 .ensures .0,
+      serve-next _ _ _ _ _ _ _ (c5 .loop .inv .2) (omega (arith, c5 .loop .inv .0)) (c5 .loop .inv .1) (c .before .before .before .subsumes-one .ensures)
+          (not-false _ (c .before .before .if2 .left)) (c .octet3 .ensures .0),
     ))
     (λ c. serve-all _ _ _ _ _ _ _ (c .before .loop .inv .2) (omega (arith, c .before .loop .inv .0))))
     (λ t. subsumes-like-lts.spec
@@ -135,7 +165,8 @@ pub +subsumes+subsumes-like+subsumes-one-spec : {M : Type 1} → statement M
     (λ c. let a = in-range _ _ _ _ (c .before .pre .1 .one) in let b = in-range _ _ _ _ (c .before .pre .1 .other) in omega arith)
     (λ c. role-differs _ _ _ _ _ (c .before .before .before .args .c) (c .before .before .before .args .d) (λ e. omega (arith, c .if1 .taken, e)))
     (λ c κs. search needs)
-    (λ c. role-same _ _ _ _ _ (c .before .before .before .before .args .c) (c .before .before .before .before .args .d) (c .subsumes .ensures) (omega arith) (omega arith) (omega (arith, c .before .if1 .left))))
+    (λ c. let c4 = c .before .before .before .before in
+    role-same _ _ _ _ _ (c4 .args .c) (c4 .args .d) (c .subsumes .ensures) (omega arith) (omega arith) (omega (arith, c .before .if1 .left))))
     λ t. subsumes-one-lts.spec
     (subsumes-like-below t, subsumes-like.Post, octet-reads.Asked, octet-reads.Learnt)
     (subsumes-one-at t)
@@ -148,7 +179,12 @@ pub +subsumes+subsumes-like+subsumes-one-spec : {M : Type 1} → statement M
     (λ c. seek-found _ _ _ _ _ _ _ _ _ (c .before .before .before .loop .inv) (c .before .before .loop-test .taken) (c .before .subsumes-like .ensures) (c .if1 .taken))
     (λ c. let f = c .before .before .before .before .pre .1 .others .fits in omega arith)
     (λ c κs. search needs)
-    (λ c. let f = front _ _ _ _ _ _ (unseen _ _ _ _ _ _ _ _ _ (c .before .before .before .before .before .loop .inv) (c .before .before .before .before .before .before .pre .1)) (c .before .before .before .before .loop-test .taken) in
+    (λ c. let c4 = c .before .before .before .before in
+    let c5 = c4 .before in
+    let c6 = c5 .before in
+    let f = front _ _ _ _ _ _ (unseen _ _ _ _ _ _ _ _ _ (c5 .loop .inv) (c6 .pre .1)) (c4 .loop-test .taken) in
     omega (arith, c .octet .ensures .0))
-    (λ c. seek-next _ _ _ _ _ _ _ _ _ (c .before .before .before .before .before .loop .inv) (c .before .before .before .before .loop-test .taken) (c .before .before .before .subsumes-like .ensures) (c .before .before .if1 .left) (c .octet .ensures .0))
+    (λ c. let c4 = c .before .before .before .before in
+    let c5 = c4 .before in
+    seek-next _ _ _ _ _ _ _ _ _ (c5 .loop .inv) (c4 .loop-test .taken) (c .before .before .before .subsumes-like .ensures) (c .before .before .if1 .left) (c .octet .ensures .0))
     (λ c. seek-none _ _ _ _ _ _ _ _ _ (c .before .loop .inv) (c .loop-test .left))

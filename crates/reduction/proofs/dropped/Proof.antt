@@ -27,7 +27,8 @@ yields-one-requires-2 c κs =
 
 returns-2 : tie.Need-returns-2
 returns-2 c =
-    drop-after _ _ _ _ _ _ _ (c .before .before .before .before .yields-one .ensures) refl _ (c .before .before .before .if1 .left) (rw (c .before .octet .ensures .0) at (c .yields-one2 .ensures)) refl
+    let c4 = c .before .before .before .before in
+    drop-after _ _ _ _ _ _ _ (c4 .yields-one .ensures) refl _ (c .before .before .before .if1 .left) (rw (c .before .octet .ensures .0) at (c .yields-one2 .ensures)) refl
 
 pub dropped-spec : {M : Type 1} → statement M
 dropped-spec =

@@ -21,7 +21,9 @@ subsumes-requires c κs =
 
 returns-3 : tie.Need-returns-3
 returns-3 c =
-    yields-later _ _ _ _ _ _ (c .before .before .before .before .args .earlier) (c .before .before .before .subsumes-like .ensures) (c .subsumes .result) (not-false _ (c .before .before .if1 .left)) (c .before .if2 .left) (c .subsumes .ensures)
+    let c4 = c .before .before .before .before in
+    yields-later _ _ _ _ _ _ (c4 .args .earlier) (c .before .before .before .subsumes-like .ensures) (c .subsumes .result)
+    (not-false _ (c .before .before .if1 .left)) (c .before .if2 .left) (c .subsumes .ensures)
 
 pub yields-spec : {M : Type 1} → statement M
 yields-spec =

@@ -37,12 +37,17 @@ octet-requires c κs = search needs
 
 loop-less : tie.Need-loop-less Inv-loop μ-loop
 loop-less c =
-    let f = front _ _ _ _ _ _ (unseen _ _ _ _ _ _ _ _ _ (c .before .before .before .before .before .loop .inv) (c .before .before .before .before .before .before .pre)) (c .before .before .before .before .loop-test .taken) in
+    let c4 = c .before .before .before .before in
+    let c5 = c4 .before in
+    let c6 = c5 .before in
+    let f = front _ _ _ _ _ _ (unseen _ _ _ _ _ _ _ _ _ (c5 .loop .inv) (c6 .pre)) (c4 .loop-test .taken) in
     omega (arith, c .octet .ensures .0)
 
 loop-again : tie.Need-loop-again Inv-loop μ-loop
 loop-again c =
-    seek-next _ _ _ _ _ _ _ _ _ (c .before .before .before .before .before .loop .inv) (c .before .before .before .before .loop-test .taken) (c .before .before .before .yields .ensures) (c .before .before .if1 .left) (c .octet .ensures .0)
+    let c4 = c .before .before .before .before in
+    let c5 = c4 .before in
+    seek-next _ _ _ _ _ _ _ _ _ (c5 .loop .inv) (c4 .loop-test .taken) (c .before .before .before .yields .ensures) (c .before .before .if1 .left) (c .octet .ensures .0)
 
 returns-2 : tie.Need-returns-2 Inv-loop μ-loop
 returns-2 c =

@@ -1,15 +1,18 @@
 use Rattle.register.proofs.first_link.Statement.{statement}
 use Rattle.register.proofs.first_link.Tie as tie
-use Prim.Native.Nat.{_≤_, _-_}
+use mathlib.Core.Path.{_≡_}
+use Prim.Native.Nat.{ℕ, _≤_, _-_}
 use native.Mathlib.Omega.{arith}
+use lib.ListN.{length}
 use Rattle.fields.proofs.Known.{bytes-known}
-use Rattle.register.specs.Image.{Image}
-use Rattle.register.proofs.Begins.{asked-image, Narrowed, narrowed-none, narrowed-up, narrowed-down, narrowed-all}
+use Rattle.register.specs.Image.{Image, linkNo}
+use Rattle.register.proofs.Halves.{Narrowed, narrowed-none, narrowed-up, narrowed-down}
+use Rattle.register.proofs.Begins.{asked-image, links-rise, narrowed-all}
 use borrow.Author.Needs.{needs}
 
 abbrev Inv-loop : tie.InvT-loop
 Inv-loop s items links item low₀ high₀ low high =
-    (low ≤ high) × (high ≤ links) × Image s (λ g. Narrowed (g .links) item low high)
+    (low ≤ high) × (high ≤ links) × Image s (λ g. Narrowed (λ j. linkNo g j .from) (length (g .links)) item low high)
 
 abbrev μ-loop : tie.MeasureT-loop
 μ-loop s items links item low₀ high₀ low high =
@@ -17,7 +20,7 @@ abbrev μ-loop : tie.MeasureT-loop
 
 loop-holds : tie.Need-loop-holds Inv-loop μ-loop
 loop-holds c =
-    (omega arith, omega arith, λ g h. narrowed-none (g .links) _ _ (asked-image (c .before .pre) g h .1))
+    (omega arith, omega arith, λ g h. narrowed-none (λ j. linkNo g j .from) (length (g .links)) _ _ (asked-image (c .before .pre) g h .1))
 
 sub-mid : tie.Need-sub-mid Inv-loop μ-loop
 sub-mid c = search needs
@@ -27,7 +30,8 @@ add-mid c = search needs
 
 from-of-requires : tie.Need-from-of-requires Inv-loop μ-loop
 from-of-requires c κs =
-    record { register = c .before .before .before .pre .register; read = c .before .before .before .pre .read; holds = (c .before .before .before .pre .holds .0, omega (arith, c .before .before .before .pre .holds .1)) }
+    let p = c .before .before .before .pre in
+    record { register = p .register; read = p .read; holds = (p .holds .0, omega (arith, p .holds .1)) }
 
 add-low : tie.Need-add-low Inv-loop μ-loop
 add-low c = search needs
@@ -37,14 +41,28 @@ loop-less c = search needs
 
 loop-again : tie.Need-loop-again Inv-loop μ-loop
 loop-again c =
-    (omega arith, omega arith, λ g h. narrowed-up (c .before .before .before .before .before .args .s .now) (bytes-known (c .before .before .before .before .before .args .s .now) (c .before .before .before .before .shared-slice-known .given)) _ g h _ _ _ _ (c .before .before .before .loop .inv .2 g h) (omega (arith, asked-image (c .before .before .before .before .before .pre) g h .1)) (c .before .from-of .ensures g h .0) (c .if1 .taken))
+    let a = c .before .before .before .before .before .args in
+    let p = c .before .before .before .before .before .pre in (
+      omega arith,
+      omega arith,
+      λ g h.
+          narrowed-up (λ j. linkNo g j .from) (length (g .links)) (a .item) (links-rise (a .s .now) (bytes-known (a .s .now) (c .before .before .before .before .shared-slice-known .given)) g h)
+          _ _ _ _ (c .before .before .before .loop .inv .2 g h) (omega (arith, asked-image p g h .1)) (c .before .from-of .ensures g h .0) (c .if1 .taken),
+    )
 
 loop-less-2 : tie.Need-loop-less-2 Inv-loop μ-loop
 loop-less-2 c = search needs
 
 loop-again-2 : tie.Need-loop-again-2 Inv-loop μ-loop
 loop-again-2 c =
-    (omega arith, omega arith, λ g h. narrowed-down (c .before .before .before .before .before .args .s .now) (bytes-known (c .before .before .before .before .before .args .s .now) (c .before .before .before .before .shared-slice-known .given)) _ g h _ _ _ _ (c .before .before .before .loop .inv .2 g h) (omega (arith, asked-image (c .before .before .before .before .before .pre) g h .1)) (c .before .from-of .ensures g h .0) (c .if1 .left))
+    let a = c .before .before .before .before .before .args in
+    let p = c .before .before .before .before .before .pre in (
+      omega arith,
+      omega arith,
+      λ g h.
+          narrowed-down (λ j. linkNo g j .from) (length (g .links)) (a .item) (links-rise (a .s .now) (bytes-known (a .s .now) (c .before .before .before .before .shared-slice-known .given)) g h)
+          _ _ _ _ (c .before .before .before .loop .inv .2 g h) (omega (arith, asked-image p g h .1)) (c .before .from-of .ensures g h .0) (c .if1 .left),
+    )
 
 returns : tie.Need-returns Inv-loop μ-loop
 returns c =

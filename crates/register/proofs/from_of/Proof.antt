@@ -1,39 +1,29 @@
+-- `register::from_of` meets its contract.
+-- Assumes nothing.
 use Rattle.register.proofs.from_of.Statement.{statement}
 use Rattle.register.proofs.from_of.Tie as tie
-use mathlib.Core.Path.{sym, _∙_, ap, subst}
+use mathlib.Core.Path.{ap, _∙_}
 use Prim.Native.Nat.{ℕ, _<_}
 use native.Mathlib.Omega.{arith}
-use lib.ListN.{length}
-use Rattle.meaning.specs.Register.{Link}
+use Rattle.meaning.specs.Bytes.{number}
 use Rattle.fields.proofs.Known.{bytes-known}
-use Rattle.register.proofs.Facts.{link-place, link-value}
-
-mul-two : tie.Need-mul-two
-mul-two c =
-    omega (arith, link-place (c .before .args .s .now) (bytes-known (c .before .args .s .now) (c .shared-slice-known .given)) (c .before .args .items) (c .before .args .k) (c .before .pre))
-
-add-two : tie.Need-add-two
-add-two c =
-    omega (arith, link-place (c .before .args .s .now) (bytes-known (c .before .args .s .now) (c .shared-slice-known .given)) (c .before .args .items) (c .before .args .k) (c .before .pre))
-
-mul-two-2 : tie.Need-mul-two-2
-mul-two-2 c =
-    omega (arith, link-place (c .before .args .s .now) (bytes-known (c .before .args .s .now) (c .shared-slice-known .given)) (c .before .args .items) (c .before .args .k) (c .before .pre))
-
-add-two-2 : tie.Need-add-two-2
-add-two-2 c =
-    omega (arith, link-place (c .before .args .s .now) (bytes-known (c .before .args .s .now) (c .shared-slice-known .given)) (c .before .args .items) (c .before .args .k) (c .before .pre))
-
-two-requires : tie.Need-two-requires
-two-requires c κs =
-    omega (arith, link-place (c .before .args .s .now) (bytes-known (c .before .args .s .now) (c .shared-slice-known .given)) (c .before .args .items) (c .before .args .k) (c .before .pre))
-
-returns : tie.Need-returns
-returns c =
-    λ g h.
-    let q = link-value (c .before .before .args .s .now) (bytes-known (c .before .before .args .s .now) (c .before .shared-slice-known .given)) (c .before .before .args .items) (c .before .before .args .k) (c .before .before .pre) g h in
-    let e = c .two .ensures .0 ∙ ap (λ (l : Link). l .from) (q .0) in
-    (e, subst (λ (z : ℕ). z < length (g .names)) (sym e) (q .1))
+use Rattle.register.proofs.Facts.{link-place, link-part}
 
 pub from-of-spec : {M : Type 1} → statement M
-from-of-spec = tie.close (tie.spec mul-two add-two mul-two-2 add-two-2 two-requires returns)
+from-of-spec =
+    tie.close
+    (tie.spec
+    (λ c κs.
+    let a = c .before .args in
+    let q = link-place (a .s .now) (bytes-known (a .s .now) (c .shared-slice-known .given)) (a .items) (a .k) (c .before .pre) in
+    (q .0, q .1))
+    (λ c κs.
+    let a = c .before .before .args in
+    let q = link-place (a .s .now) (bytes-known (a .s .now) (c .before .shared-slice-known .given)) (a .items) (a .k) (c .before .before .pre) in
+    omega (arith, q .2))
+    (λ c.
+    let d = c .before .before .before in
+    let a = d .args in
+    link-part (a .s .now) (bytes-known (a .s .now) (c .before .before .shared-slice-known .given)) (a .items) (a .k) (d .pre)
+    (λ l. l .from) (λ n r. r < n) (λ n l o. o .0) _
+    (c .two .ensures .0 ∙ ap (λ (z : ℕ). number (a .s .now) (z) 2) (c .before .link-at .ensures))))

@@ -5,7 +5,7 @@ use mathlib.Core.Path.{sym, _∙_, ap, subst}
 use lib.ListN.{length}
 use Rattle.meaning.specs.declared.Side.the-variants.{Register as register}
 use Rattle.fields.specs.Head.{paperHead, wrongIn, EndsWithin}
-use Rattle.register.specs.Reading.{paper}
+use Rattle.register.specs.Reading.{paperReading}
 use Rattle.register.proofs.Whole.{whole-good, whole-refused}
 
 read-head-requires : tie.Need-read-head-requires
@@ -31,7 +31,7 @@ returns c =
 
 returns-2 : tie.Need-returns-2
 returns-2 c =
-    ap paper (c .refused .ensures)
+    ap paperReading (c .refused .ensures)
     ∙ sym (whole-refused (wrongIn (c .before .before .before .before .before .before .args .session)) (c .before .before .before .before .before .before .args .s .now) _ (sym (c .before .before .before .before .read-head .ensures .0 register) ∙ ap (paperHead register) (c .before .before .h2 .given .1)))
 
 pub read-spec : {M : Type 1} → statement M

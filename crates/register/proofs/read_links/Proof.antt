@@ -3,7 +3,7 @@ use Rattle.register.proofs.read_links.Tie as tie
 use mathlib.Core.Path.{_≡_, sym, _∙_, ap, subst}
 use Prim.Native.Nat.{_+_, _*_, _-_, _≤_}
 use native.Mathlib.Omega.{arith}
-use Rattle.register.specs.Reading.{paper, paperLink, Passed}
+use Rattle.register.specs.Reading.{paperReading, paperLink, Passed}
 use Rattle.register.proofs.Links.{Going, going-none, going-more, going-stop, going-left, going-done}
 use borrow.Author.Needs.{needs}
 
@@ -34,7 +34,7 @@ refused-requires c κs = search needs
 returns : tie.Need-returns Inv-loop μ-loop
 returns c =
     let w = c .before .before .before .before .before .before .loop .inv .3 in
-    ap paper (c .refused .ensures)
+    ap paperReading (c .refused .ensures)
     ∙ sym (going-stop _ _ _ _ _ _ _ _ w _ _ (omega arith) (ap paperLink (sym (c .before .before .l2 .given .1)) ∙ c .before .before .before .before .read-link .ensures .0 (w .before) (w .floor)))
 
 add-i : tie.Need-add-i Inv-loop μ-loop
@@ -63,7 +63,7 @@ refused-requires-2 c κs = search needs
 
 returns-2 : tie.Need-returns-2 Inv-loop μ-loop
 returns-2 c =
-    ap paper (c .refused2 .ensures) ∙ sym (going-left _ _ _ _ _ _ _ _ (c .before .before .before .loop .inv .3) (omega arith) (c .before .before .before .loop .inv .1) (omega arith))
+    ap paperReading (c .refused2 .ensures) ∙ sym (going-left _ _ _ _ _ _ _ _ (c .before .before .before .loop .inv .3) (omega arith) (c .before .before .before .loop .inv .1) (omega arith))
 
 returns-3 : tie.Need-returns-3 Inv-loop μ-loop
 returns-3 c =

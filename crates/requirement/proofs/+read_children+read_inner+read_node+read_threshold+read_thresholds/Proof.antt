@@ -20,7 +20,7 @@ use Rattle.fields.proofs.eight.Reads as eight-reads
 use Rattle.fields.proofs.one.Reads as one-reads
 use Rattle.fields.proofs.two.Reads as two-reads
 use Rattle.reduction.proofs.reduced_size.Reads as reduced-size-reads
-use Rattle.requirement.proofs.allowed.Reads as allowed-reads
+use Rattle.fractions.proofs.wrong.Reads as wrong-reads
 use Rattle.requirement.proofs.forbidden.Reads as forbidden-reads
 use Rattle.requirement.proofs.node_cut.Reads as node-cut-reads
 use Rattle.requirement.proofs.threshold_cut.Reads as threshold-cut-reads
@@ -1270,8 +1270,8 @@ read-threshold-returns : (t : ℕ) → read-threshold-lts.Need-returns (
   threshold-cut-reads.Learnt,
   two-reads.Asked,
   two-reads.Learnt,
-  allowed-reads.Asked,
-  allowed-reads.Learnt,
+  wrong-reads.Asked,
+  wrong-reads.Learnt,
   read-inner-below t,
   read-inner.Post,
 ) (read-threshold-at t) read-threshold.Post
@@ -1283,8 +1283,8 @@ read-threshold-sub-if2 : (t : ℕ) → read-threshold-lts.Need-sub-if2 (
   threshold-cut-reads.Learnt,
   two-reads.Asked,
   two-reads.Learnt,
-  allowed-reads.Asked,
-  allowed-reads.Learnt,
+  wrong-reads.Asked,
+  wrong-reads.Learnt,
   read-inner-below t,
   read-inner.Post,
 ) (read-threshold-at t) read-threshold.Post
@@ -1295,8 +1295,8 @@ read-threshold-sub-threshold-cut : (t : ℕ) → read-threshold-lts.Need-sub-thr
   threshold-cut-reads.Learnt,
   two-reads.Asked,
   two-reads.Learnt,
-  allowed-reads.Asked,
-  allowed-reads.Learnt,
+  wrong-reads.Asked,
+  wrong-reads.Learnt,
   read-inner-below t,
   read-inner.Post,
 ) (read-threshold-at t) read-threshold.Post
@@ -1307,8 +1307,8 @@ read-threshold-threshold-cut-requires : (t : ℕ) → read-threshold-lts.Need-th
   threshold-cut-reads.Learnt,
   two-reads.Asked,
   two-reads.Learnt,
-  allowed-reads.Asked,
-  allowed-reads.Learnt,
+  wrong-reads.Asked,
+  wrong-reads.Learnt,
   read-inner-below t,
   read-inner.Post,
 ) (read-threshold-at t) read-threshold.Post
@@ -1319,8 +1319,8 @@ read-threshold-returns-2 : (t : ℕ) → read-threshold-lts.Need-returns-2 (
   threshold-cut-reads.Learnt,
   two-reads.Asked,
   two-reads.Learnt,
-  allowed-reads.Asked,
-  allowed-reads.Learnt,
+  wrong-reads.Asked,
+  wrong-reads.Learnt,
   read-inner-below t,
   read-inner.Post,
 ) (read-threshold-at t) read-threshold.Post
@@ -1335,8 +1335,8 @@ read-threshold-shared-slice-read-if3 : (t : ℕ) → read-threshold-lts.Need-sha
   threshold-cut-reads.Learnt,
   two-reads.Asked,
   two-reads.Learnt,
-  allowed-reads.Asked,
-  allowed-reads.Learnt,
+  wrong-reads.Asked,
+  wrong-reads.Learnt,
   read-inner-below t,
   read-inner.Post,
 ) (read-threshold-at t) read-threshold.Post
@@ -1347,8 +1347,8 @@ read-threshold-returns-3 : (t : ℕ) → read-threshold-lts.Need-returns-3 (
   threshold-cut-reads.Learnt,
   two-reads.Asked,
   two-reads.Learnt,
-  allowed-reads.Asked,
-  allowed-reads.Learnt,
+  wrong-reads.Asked,
+  wrong-reads.Learnt,
   read-inner-below t,
   read-inner.Post,
 ) (read-threshold-at t) read-threshold.Post
@@ -1365,8 +1365,8 @@ read-threshold-add-two : (t : ℕ) → read-threshold-lts.Need-add-two (
   threshold-cut-reads.Learnt,
   two-reads.Asked,
   two-reads.Learnt,
-  allowed-reads.Asked,
-  allowed-reads.Learnt,
+  wrong-reads.Asked,
+  wrong-reads.Learnt,
   read-inner-below t,
   read-inner.Post,
 ) (read-threshold-at t) read-threshold.Post
@@ -1377,8 +1377,8 @@ read-threshold-two-requires : (t : ℕ) → read-threshold-lts.Need-two-requires
   threshold-cut-reads.Learnt,
   two-reads.Asked,
   two-reads.Learnt,
-  allowed-reads.Asked,
-  allowed-reads.Learnt,
+  wrong-reads.Asked,
+  wrong-reads.Learnt,
   read-inner-below t,
   read-inner.Post,
 ) (read-threshold-at t) read-threshold.Post
@@ -1389,8 +1389,8 @@ read-threshold-add-two-2 : (t : ℕ) → read-threshold-lts.Need-add-two-2 (
   threshold-cut-reads.Learnt,
   two-reads.Asked,
   two-reads.Learnt,
-  allowed-reads.Asked,
-  allowed-reads.Learnt,
+  wrong-reads.Asked,
+  wrong-reads.Learnt,
   read-inner-below t,
   read-inner.Post,
 ) (read-threshold-at t) read-threshold.Post
@@ -1401,32 +1401,32 @@ read-threshold-two-requires-2 : (t : ℕ) → read-threshold-lts.Need-two-requir
   threshold-cut-reads.Learnt,
   two-reads.Asked,
   two-reads.Learnt,
-  allowed-reads.Asked,
-  allowed-reads.Learnt,
+  wrong-reads.Asked,
+  wrong-reads.Learnt,
   read-inner-below t,
   read-inner.Post,
 ) (read-threshold-at t) read-threshold.Post
 read-threshold-two-requires-2 t c κs = search needs
 
-read-threshold-allowed-requires : (t : ℕ) → read-threshold-lts.Need-allowed-requires (
+read-threshold-wrong-requires : (t : ℕ) → read-threshold-lts.Need-wrong-requires (
   threshold-cut-reads.Asked,
   threshold-cut-reads.Learnt,
   two-reads.Asked,
   two-reads.Learnt,
-  allowed-reads.Asked,
-  allowed-reads.Learnt,
+  wrong-reads.Asked,
+  wrong-reads.Learnt,
   read-inner-below t,
   read-inner.Post,
 ) (read-threshold-at t) read-threshold.Post
-read-threshold-allowed-requires t c κs = search needs
+read-threshold-wrong-requires t c κs = search needs
 
 read-threshold-returns-4 : (t : ℕ) → read-threshold-lts.Need-returns-4 (
   threshold-cut-reads.Asked,
   threshold-cut-reads.Learnt,
   two-reads.Asked,
   two-reads.Learnt,
-  allowed-reads.Asked,
-  allowed-reads.Learnt,
+  wrong-reads.Asked,
+  wrong-reads.Learnt,
   read-inner-below t,
   read-inner.Post,
 ) (read-threshold-at t) read-threshold.Post
@@ -1436,7 +1436,7 @@ read-threshold-returns-4 t c =
     let fits : c .before .before .before .before .before .before .before .before .before .before .before .args .at + 5 ≤ c .before .before .before .before .before .before .before .before .before .before .before .args .end = omega (arith, c .before .before .before .before .before .before .if2 .left, before) in
     let e = number-one (c .before .before .before .before .before .before .before .before .before .before .before .args .s .now) (c .before .before .before .before .before .before .before .before .before .before .before .args .at) in
     let low : number (c .before .before .before .before .before .before .before .before .before .before .before .args .s .now) (c .before .before .before .before .before .before .before .before .before .before .before .args .at) 1 ≤ 3 = omega (arith, c .before .before .before .before .if3 .left) in
-    let rule = rule-broken (c .before .before .before .before .before .before .before .before .before .before .before .args .s .now) (c .before .before .before .before .before .before .before .before .before .before .before .args .at) (c .before .before .before .two .result) (c .before .before .two2 .result) (c .before .allowed .result) (c .before .before .before .two .ensures .0) (c .before .before .two2 .ensures .0) (c .before .allowed .ensures) low (c .if4 .taken) in
+    let rule = rule-broken (c .before .before .before .before .before .before .before .before .before .before .before .args .s .now) (c .before .before .before .before .before .before .before .before .before .before .before .args .at) (c .before .before .before .two .result) (c .before .before .two2 .result) (c .before .wrong .result) (c .before .before .before .two .ensures .0) (c .before .before .two2 .ensures .0) (c .before .wrong .ensures) low (c .if4 .taken) in
     λ n ps l h. parts-is-refused _ _ _ _ _ _ 13 _ (threshold-rule (c .before .before .before .before .before .before .before .before .before .before .before .args .s .now) (c .before .before .before .before .before .before .before .before .before .before .before .args .end) (c .before .before .before .before .before .before .before .before .before .before .before .args .owner) (c .before .before .before .before .before .before .before .before .before .before .before .args .at) n ps (omega (arith, l)) fits rule)
 
 read-threshold-sub-if5 : (t : ℕ) → read-threshold-lts.Need-sub-if5 (
@@ -1444,8 +1444,8 @@ read-threshold-sub-if5 : (t : ℕ) → read-threshold-lts.Need-sub-if5 (
   threshold-cut-reads.Learnt,
   two-reads.Asked,
   two-reads.Learnt,
-  allowed-reads.Asked,
-  allowed-reads.Learnt,
+  wrong-reads.Asked,
+  wrong-reads.Learnt,
   read-inner-below t,
   read-inner.Post,
 ) (read-threshold-at t) read-threshold.Post
@@ -1456,8 +1456,8 @@ read-threshold-add-t21 : (t : ℕ) → read-threshold-lts.Need-add-t21 (
   threshold-cut-reads.Learnt,
   two-reads.Asked,
   two-reads.Learnt,
-  allowed-reads.Asked,
-  allowed-reads.Learnt,
+  wrong-reads.Asked,
+  wrong-reads.Learnt,
   read-inner-below t,
   read-inner.Post,
 ) (read-threshold-at t) read-threshold.Post
@@ -1468,8 +1468,8 @@ read-threshold-returns-5 : (t : ℕ) → read-threshold-lts.Need-returns-5 (
   threshold-cut-reads.Learnt,
   two-reads.Asked,
   two-reads.Learnt,
-  allowed-reads.Asked,
-  allowed-reads.Learnt,
+  wrong-reads.Asked,
+  wrong-reads.Learnt,
   read-inner-below t,
   read-inner.Post,
 ) (read-threshold-at t) read-threshold.Post
@@ -1479,7 +1479,7 @@ read-threshold-returns-5 t c =
     let fits : c .before .before .before .before .before .before .before .before .before .before .before .before .args .at + 5 ≤ c .before .before .before .before .before .before .before .before .before .before .before .before .args .end = omega (arith, c .before .before .before .before .before .before .before .if2 .left, before) in
     let e = number-one (c .before .before .before .before .before .before .before .before .before .before .before .before .args .s .now) (c .before .before .before .before .before .before .before .before .before .before .before .before .args .at) in
     let low : number (c .before .before .before .before .before .before .before .before .before .before .before .before .args .s .now) (c .before .before .before .before .before .before .before .before .before .before .before .before .args .at) 1 ≤ 3 = omega (arith, c .before .before .before .before .before .if3 .left) in
-    let rule = rule-kept (c .before .before .before .before .before .before .before .before .before .before .before .before .args .s .now) (c .before .before .before .before .before .before .before .before .before .before .before .before .args .at) (c .before .before .before .before .two .result) (c .before .before .before .two2 .result) (c .before .before .allowed .result) (c .before .before .before .before .two .ensures .0) (c .before .before .before .two2 .ensures .0) (c .before .before .allowed .ensures) low (c .before .if4 .left) in
+    let rule = rule-kept (c .before .before .before .before .before .before .before .before .before .before .before .before .args .s .now) (c .before .before .before .before .before .before .before .before .before .before .before .before .args .at) (c .before .before .before .before .two .result) (c .before .before .before .two2 .result) (c .before .before .wrong .result) (c .before .before .before .before .two .ensures .0) (c .before .before .before .two2 .ensures .0) (c .before .before .wrong .ensures) low (c .before .if4 .left) in
     let cut : c .before .before .before .before .before .before .before .before .before .before .before .before .args .end < c .before .before .before .before .before .before .before .before .before .before .before .before .args .at + 7 = omega (arith, c .if5 .taken, before) in
     λ n ps l h. parts-is-refused _ _ _ _ _ _ 1 _ (threshold-length-cut (c .before .before .before .before .before .before .before .before .before .before .before .before .args .s .now) (c .before .before .before .before .before .before .before .before .before .before .before .before .args .end) (c .before .before .before .before .before .before .before .before .before .before .before .before .args .owner) (c .before .before .before .before .before .before .before .before .before .before .before .before .args .at) n ps (omega (arith, l)) fits rule cut)
 
@@ -1488,8 +1488,8 @@ read-threshold-add-two-3 : (t : ℕ) → read-threshold-lts.Need-add-two-3 (
   threshold-cut-reads.Learnt,
   two-reads.Asked,
   two-reads.Learnt,
-  allowed-reads.Asked,
-  allowed-reads.Learnt,
+  wrong-reads.Asked,
+  wrong-reads.Learnt,
   read-inner-below t,
   read-inner.Post,
 ) (read-threshold-at t) read-threshold.Post
@@ -1500,8 +1500,8 @@ read-threshold-two-requires-3 : (t : ℕ) → read-threshold-lts.Need-two-requir
   threshold-cut-reads.Learnt,
   two-reads.Asked,
   two-reads.Learnt,
-  allowed-reads.Asked,
-  allowed-reads.Learnt,
+  wrong-reads.Asked,
+  wrong-reads.Learnt,
   read-inner-below t,
   read-inner.Post,
 ) (read-threshold-at t) read-threshold.Post
@@ -1512,8 +1512,8 @@ read-threshold-sub-if6 : (t : ℕ) → read-threshold-lts.Need-sub-if6 (
   threshold-cut-reads.Learnt,
   two-reads.Asked,
   two-reads.Learnt,
-  allowed-reads.Asked,
-  allowed-reads.Learnt,
+  wrong-reads.Asked,
+  wrong-reads.Learnt,
   read-inner-below t,
   read-inner.Post,
 ) (read-threshold-at t) read-threshold.Post
@@ -1524,8 +1524,8 @@ read-threshold-sub-if6-2 : (t : ℕ) → read-threshold-lts.Need-sub-if6-2 (
   threshold-cut-reads.Learnt,
   two-reads.Asked,
   two-reads.Learnt,
-  allowed-reads.Asked,
-  allowed-reads.Learnt,
+  wrong-reads.Asked,
+  wrong-reads.Learnt,
   read-inner-below t,
   read-inner.Post,
 ) (read-threshold-at t) read-threshold.Post
@@ -1536,8 +1536,8 @@ read-threshold-add-t22 : (t : ℕ) → read-threshold-lts.Need-add-t22 (
   threshold-cut-reads.Learnt,
   two-reads.Asked,
   two-reads.Learnt,
-  allowed-reads.Asked,
-  allowed-reads.Learnt,
+  wrong-reads.Asked,
+  wrong-reads.Learnt,
   read-inner-below t,
   read-inner.Post,
 ) (read-threshold-at t) read-threshold.Post
@@ -1548,8 +1548,8 @@ read-threshold-returns-6 : (t : ℕ) → read-threshold-lts.Need-returns-6 (
   threshold-cut-reads.Learnt,
   two-reads.Asked,
   two-reads.Learnt,
-  allowed-reads.Asked,
-  allowed-reads.Learnt,
+  wrong-reads.Asked,
+  wrong-reads.Learnt,
   read-inner-below t,
   read-inner.Post,
 ) (read-threshold-at t) read-threshold.Post
@@ -1559,7 +1559,7 @@ read-threshold-returns-6 t c =
     let fits : c .before .before .before .before .before .before .before .before .before .before .before .before .before .before .args .at + 5 ≤ c .before .before .before .before .before .before .before .before .before .before .before .before .before .before .args .end = omega (arith, c .before .before .before .before .before .before .before .before .before .if2 .left, before) in
     let e = number-one (c .before .before .before .before .before .before .before .before .before .before .before .before .before .before .args .s .now) (c .before .before .before .before .before .before .before .before .before .before .before .before .before .before .args .at) in
     let low : number (c .before .before .before .before .before .before .before .before .before .before .before .before .before .before .args .s .now) (c .before .before .before .before .before .before .before .before .before .before .before .before .before .before .args .at) 1 ≤ 3 = omega (arith, c .before .before .before .before .before .before .before .if3 .left) in
-    let rule = rule-kept (c .before .before .before .before .before .before .before .before .before .before .before .before .before .before .args .s .now) (c .before .before .before .before .before .before .before .before .before .before .before .before .before .before .args .at) (c .before .before .before .before .before .before .two .result) (c .before .before .before .before .before .two2 .result) (c .before .before .before .before .allowed .result) (c .before .before .before .before .before .before .two .ensures .0) (c .before .before .before .before .before .two2 .ensures .0) (c .before .before .before .before .allowed .ensures) low (c .before .before .before .if4 .left) in
+    let rule = rule-kept (c .before .before .before .before .before .before .before .before .before .before .before .before .before .before .args .s .now) (c .before .before .before .before .before .before .before .before .before .before .before .before .before .before .args .at) (c .before .before .before .before .before .before .two .result) (c .before .before .before .before .before .two2 .result) (c .before .before .before .before .wrong .result) (c .before .before .before .before .before .before .two .ensures .0) (c .before .before .before .before .before .two2 .ensures .0) (c .before .before .before .before .wrong .ensures) low (c .before .before .before .if4 .left) in
     let long : c .before .before .before .before .before .before .before .before .before .before .before .before .before .before .args .at + 7 ≤ c .before .before .before .before .before .before .before .before .before .before .before .before .before .before .args .end = omega (arith, c .before .before .if5 .left, before) in
     let past : c .before .before .before .before .before .before .before .before .before .before .before .before .before .before .args .end < c .before .before .before .before .before .before .before .before .before .before .before .before .before .before .args .at + 7 + number (c .before .before .before .before .before .before .before .before .before .before .before .before .before .before .args .s .now) (c .before .before .before .before .before .before .before .before .before .before .before .before .before .before .args .at + 5) 2 = omega (arith, c .if6 .taken, c .before .two3 .ensures .0, before) in
     λ n ps l h. parts-is-refused _ _ _ _ _ _ 1 _ (threshold-past (c .before .before .before .before .before .before .before .before .before .before .before .before .before .before .args .s .now) (c .before .before .before .before .before .before .before .before .before .before .before .before .before .before .args .end) (c .before .before .before .before .before .before .before .before .before .before .before .before .before .before .args .owner) (c .before .before .before .before .before .before .before .before .before .before .before .before .before .before .args .at) n ps (omega (arith, l)) fits rule long past)
@@ -1569,8 +1569,8 @@ read-threshold-add-read-inner : (t : ℕ) → read-threshold-lts.Need-add-read-i
   threshold-cut-reads.Learnt,
   two-reads.Asked,
   two-reads.Learnt,
-  allowed-reads.Asked,
-  allowed-reads.Learnt,
+  wrong-reads.Asked,
+  wrong-reads.Learnt,
   read-inner-below t,
   read-inner.Post,
 ) (read-threshold-at t) read-threshold.Post
@@ -1581,8 +1581,8 @@ read-threshold-add-read-inner-2 : (t : ℕ) → read-threshold-lts.Need-add-read
   threshold-cut-reads.Learnt,
   two-reads.Asked,
   two-reads.Learnt,
-  allowed-reads.Asked,
-  allowed-reads.Learnt,
+  wrong-reads.Asked,
+  wrong-reads.Learnt,
   read-inner-below t,
   read-inner.Post,
 ) (read-threshold-at t) read-threshold.Post
@@ -1593,8 +1593,8 @@ read-threshold-add-read-inner-3 : (t : ℕ) → read-threshold-lts.Need-add-read
   threshold-cut-reads.Learnt,
   two-reads.Asked,
   two-reads.Learnt,
-  allowed-reads.Asked,
-  allowed-reads.Learnt,
+  wrong-reads.Asked,
+  wrong-reads.Learnt,
   read-inner-below t,
   read-inner.Post,
 ) (read-threshold-at t) read-threshold.Post
@@ -1605,8 +1605,8 @@ read-threshold-read-inner-requires : (t : ℕ) → read-threshold-lts.Need-read-
   threshold-cut-reads.Learnt,
   two-reads.Asked,
   two-reads.Learnt,
-  allowed-reads.Asked,
-  allowed-reads.Learnt,
+  wrong-reads.Asked,
+  wrong-reads.Learnt,
   read-inner-below t,
   read-inner.Post,
 ) (read-threshold-at t) read-threshold.Post
@@ -1617,8 +1617,8 @@ read-threshold-enum-told : (t : ℕ) → read-threshold-lts.Need-enum-told (
   threshold-cut-reads.Learnt,
   two-reads.Asked,
   two-reads.Learnt,
-  allowed-reads.Asked,
-  allowed-reads.Learnt,
+  wrong-reads.Asked,
+  wrong-reads.Learnt,
   read-inner-below t,
   read-inner.Post,
 ) (read-threshold-at t) read-threshold.Post
@@ -1629,8 +1629,8 @@ read-threshold-cast-owners : (t : ℕ) → read-threshold-lts.Need-cast-owners (
   threshold-cut-reads.Learnt,
   two-reads.Asked,
   two-reads.Learnt,
-  allowed-reads.Asked,
-  allowed-reads.Learnt,
+  wrong-reads.Asked,
+  wrong-reads.Learnt,
   read-inner-below t,
   read-inner.Post,
 ) (read-threshold-at t) read-threshold.Post
@@ -1641,8 +1641,8 @@ read-threshold-slice-write-owners : (t : ℕ) → read-threshold-lts.Need-slice-
   threshold-cut-reads.Learnt,
   two-reads.Asked,
   two-reads.Learnt,
-  allowed-reads.Asked,
-  allowed-reads.Learnt,
+  wrong-reads.Asked,
+  wrong-reads.Learnt,
   read-inner-below t,
   read-inner.Post,
 ) (read-threshold-at t) read-threshold.Post
@@ -1653,8 +1653,8 @@ read-threshold-cast-firsts : (t : ℕ) → read-threshold-lts.Need-cast-firsts (
   threshold-cut-reads.Learnt,
   two-reads.Asked,
   two-reads.Learnt,
-  allowed-reads.Asked,
-  allowed-reads.Learnt,
+  wrong-reads.Asked,
+  wrong-reads.Learnt,
   read-inner-below t,
   read-inner.Post,
 ) (read-threshold-at t) read-threshold.Post
@@ -1665,8 +1665,8 @@ read-threshold-mul-firsts : (t : ℕ) → read-threshold-lts.Need-mul-firsts (
   threshold-cut-reads.Learnt,
   two-reads.Asked,
   two-reads.Learnt,
-  allowed-reads.Asked,
-  allowed-reads.Learnt,
+  wrong-reads.Asked,
+  wrong-reads.Learnt,
   read-inner-below t,
   read-inner.Post,
 ) (read-threshold-at t) read-threshold.Post
@@ -1677,8 +1677,8 @@ read-threshold-slice-write-firsts : (t : ℕ) → read-threshold-lts.Need-slice-
   threshold-cut-reads.Learnt,
   two-reads.Asked,
   two-reads.Learnt,
-  allowed-reads.Asked,
-  allowed-reads.Learnt,
+  wrong-reads.Asked,
+  wrong-reads.Learnt,
   read-inner-below t,
   read-inner.Post,
 ) (read-threshold-at t) read-threshold.Post
@@ -1689,8 +1689,8 @@ read-threshold-add-t27 : (t : ℕ) → read-threshold-lts.Need-add-t27 (
   threshold-cut-reads.Learnt,
   two-reads.Asked,
   two-reads.Learnt,
-  allowed-reads.Asked,
-  allowed-reads.Learnt,
+  wrong-reads.Asked,
+  wrong-reads.Learnt,
   read-inner-below t,
   read-inner.Post,
 ) (read-threshold-at t) read-threshold.Post
@@ -1701,8 +1701,8 @@ read-threshold-add-t29 : (t : ℕ) → read-threshold-lts.Need-add-t29 (
   threshold-cut-reads.Learnt,
   two-reads.Asked,
   two-reads.Learnt,
-  allowed-reads.Asked,
-  allowed-reads.Learnt,
+  wrong-reads.Asked,
+  wrong-reads.Learnt,
   read-inner-below t,
   read-inner.Post,
 ) (read-threshold-at t) read-threshold.Post
@@ -1713,8 +1713,8 @@ read-threshold-add-t30 : (t : ℕ) → read-threshold-lts.Need-add-t30 (
   threshold-cut-reads.Learnt,
   two-reads.Asked,
   two-reads.Learnt,
-  allowed-reads.Asked,
-  allowed-reads.Learnt,
+  wrong-reads.Asked,
+  wrong-reads.Learnt,
   read-inner-below t,
   read-inner.Post,
 ) (read-threshold-at t) read-threshold.Post
@@ -1725,8 +1725,8 @@ read-threshold-enum-known-r : (t : ℕ) → read-threshold-lts.Need-enum-known-r
   threshold-cut-reads.Learnt,
   two-reads.Asked,
   two-reads.Learnt,
-  allowed-reads.Asked,
-  allowed-reads.Learnt,
+  wrong-reads.Asked,
+  wrong-reads.Learnt,
   read-inner-below t,
   read-inner.Post,
 ) (read-threshold-at t) read-threshold.Post
@@ -1737,8 +1737,8 @@ read-threshold-same-length : (t : ℕ) → read-threshold-lts.Need-same-length (
   threshold-cut-reads.Learnt,
   two-reads.Asked,
   two-reads.Learnt,
-  allowed-reads.Asked,
-  allowed-reads.Learnt,
+  wrong-reads.Asked,
+  wrong-reads.Learnt,
   read-inner-below t,
   read-inner.Post,
 ) (read-threshold-at t) read-threshold.Post
@@ -1749,8 +1749,8 @@ read-threshold-same-length-2 : (t : ℕ) → read-threshold-lts.Need-same-length
   threshold-cut-reads.Learnt,
   two-reads.Asked,
   two-reads.Learnt,
-  allowed-reads.Asked,
-  allowed-reads.Learnt,
+  wrong-reads.Asked,
+  wrong-reads.Learnt,
   read-inner-below t,
   read-inner.Post,
 ) (read-threshold-at t) read-threshold.Post
@@ -1761,8 +1761,8 @@ read-threshold-returns-7 : (t : ℕ) → read-threshold-lts.Need-returns-7 (
   threshold-cut-reads.Learnt,
   two-reads.Asked,
   two-reads.Learnt,
-  allowed-reads.Asked,
-  allowed-reads.Learnt,
+  wrong-reads.Asked,
+  wrong-reads.Learnt,
   read-inner-below t,
   read-inner.Post,
 ) (read-threshold-at t) read-threshold.Post
@@ -1772,7 +1772,7 @@ read-threshold-returns-7 t c =
     let fits : c .before .before .before .before .before .before .before .before .before .before .before .before .before .before .before .before .before .args .at + 5 ≤ c .before .before .before .before .before .before .before .before .before .before .before .before .before .before .before .before .before .args .end = omega (arith, c .before .before .before .before .before .before .before .before .before .before .before .before .if2 .left, before) in
     let e = number-one (c .before .before .before .before .before .before .before .before .before .before .before .before .before .before .before .before .before .args .s .now) (c .before .before .before .before .before .before .before .before .before .before .before .before .before .before .before .before .before .args .at) in
     let low : number (c .before .before .before .before .before .before .before .before .before .before .before .before .before .before .before .before .before .args .s .now) (c .before .before .before .before .before .before .before .before .before .before .before .before .before .before .before .before .before .args .at) 1 ≤ 3 = omega (arith, c .before .before .before .before .before .before .before .before .before .before .if3 .left) in
-    let rule = rule-kept (c .before .before .before .before .before .before .before .before .before .before .before .before .before .before .before .before .before .args .s .now) (c .before .before .before .before .before .before .before .before .before .before .before .before .before .before .before .before .before .args .at) (c .before .before .before .before .before .before .before .before .before .two .result) (c .before .before .before .before .before .before .before .before .two2 .result) (c .before .before .before .before .before .before .before .allowed .result) (c .before .before .before .before .before .before .before .before .before .two .ensures .0) (c .before .before .before .before .before .before .before .before .two2 .ensures .0) (c .before .before .before .before .before .before .before .allowed .ensures) low (c .before .before .before .before .before .before .if4 .left) in
+    let rule = rule-kept (c .before .before .before .before .before .before .before .before .before .before .before .before .before .before .before .before .before .args .s .now) (c .before .before .before .before .before .before .before .before .before .before .before .before .before .before .before .before .before .args .at) (c .before .before .before .before .before .before .before .before .before .two .result) (c .before .before .before .before .before .before .before .before .two2 .result) (c .before .before .before .before .before .before .before .wrong .result) (c .before .before .before .before .before .before .before .before .before .two .ensures .0) (c .before .before .before .before .before .before .before .before .two2 .ensures .0) (c .before .before .before .before .before .before .before .wrong .ensures) low (c .before .before .before .before .before .before .if4 .left) in
     let long : c .before .before .before .before .before .before .before .before .before .before .before .before .before .before .before .before .before .args .at + 7 ≤ c .before .before .before .before .before .before .before .before .before .before .before .before .before .before .before .before .before .args .end = omega (arith, c .before .before .before .before .before .if5 .left, before) in
     let inside : c .before .before .before .before .before .before .before .before .before .before .before .before .before .before .before .before .before .args .at + 7 + number (c .before .before .before .before .before .before .before .before .before .before .before .before .before .before .before .before .before .args .s .now) (c .before .before .before .before .before .before .before .before .before .before .before .before .before .before .before .before .before .args .at + 5) 2 ≤ c .before .before .before .before .before .before .before .before .before .before .before .before .before .before .before .before .before .args .end = omega (arith, c .before .before .before .if6 .left, c .before .before .before .before .two3 .ensures .0, before) in
     subst (λ (k : ℕ). ThresholdDone (c .before .before .before .before .before .before .before .before .before .before .before .before .before .before .before .before .before .args .s .now) (c .before .before .before .before .before .before .before .before .before .before .before .before .before .before .before .before .before .args .end) (c .before .before .before .before .before .before .before .before .before .before .before .before .before .before .before .before .before .args .owner) (c .before .before .before .before .before .before .before .before .before .before .before .before .before .before .before .before .before .args .at) (c .before .before .before .before .before .before .before .before .before .before .before .before .before .before .before .before .before .args .parts) (parted (c .before .before .before .before .before .before .before .before .before .before .before .before .before .before .before .before .before .args .owners .now) (c .before .before .before .before .before .before .before .before .before .before .before .before .before .before .before .before .before .args .firsts .now)) (parted (set (c .before .before .before .before .before .before .before .before .before .before .before .before .before .before .before .before .before .args .owners .now) (c .before .before .before .before .before .before .before .before .before .before .before .before .before .before .before .before .before .args .parts) (c .before .before .before .before .before .before .before .before .before .before .before .before .before .before .before .before .before .args .owner)) (set (c .before .before .before .before .before .before .before .before .before .before .before .before .before .before .before .before .before .args .firsts .now) (c .before .before .before .before .before .before .before .before .before .before .before .before .before .before .before .before .before .args .parts) (c .before .before .before .before .before .before .before .before .before .before .before .before .before .before .before .before .before .args .at))) (Good (c .before .before .before .before .before .before .before .before .before .before .before .before .before .before .before .before .before .args .at + 7 + k) 0 (c .before .before .before .before .before .before .before .before .before .before .before .before .before .before .before .before .before .args .parts + 1))) (sym (c .before .before .before .before .two3 .ensures .0))
@@ -1784,8 +1784,8 @@ read-threshold-returns-8 : (t : ℕ) → read-threshold-lts.Need-returns-8 (
   threshold-cut-reads.Learnt,
   two-reads.Asked,
   two-reads.Learnt,
-  allowed-reads.Asked,
-  allowed-reads.Learnt,
+  wrong-reads.Asked,
+  wrong-reads.Learnt,
   read-inner-below t,
   read-inner.Post,
 ) (read-threshold-at t) read-threshold.Post
@@ -1795,7 +1795,7 @@ read-threshold-returns-8 t c =
     let fits : c .before .before .before .before .before .before .before .before .before .before .before .before .before .before .before .before .before .before .args .at + 5 ≤ c .before .before .before .before .before .before .before .before .before .before .before .before .before .before .before .before .before .before .args .end = omega (arith, c .before .before .before .before .before .before .before .before .before .before .before .before .before .if2 .left, before) in
     let e = number-one (c .before .before .before .before .before .before .before .before .before .before .before .before .before .before .before .before .before .before .args .s .now) (c .before .before .before .before .before .before .before .before .before .before .before .before .before .before .before .before .before .before .args .at) in
     let low : number (c .before .before .before .before .before .before .before .before .before .before .before .before .before .before .before .before .before .before .args .s .now) (c .before .before .before .before .before .before .before .before .before .before .before .before .before .before .before .before .before .before .args .at) 1 ≤ 3 = omega (arith, c .before .before .before .before .before .before .before .before .before .before .before .if3 .left) in
-    let rule = rule-kept (c .before .before .before .before .before .before .before .before .before .before .before .before .before .before .before .before .before .before .args .s .now) (c .before .before .before .before .before .before .before .before .before .before .before .before .before .before .before .before .before .before .args .at) (c .before .before .before .before .before .before .before .before .before .before .two .result) (c .before .before .before .before .before .before .before .before .before .two2 .result) (c .before .before .before .before .before .before .before .before .allowed .result) (c .before .before .before .before .before .before .before .before .before .before .two .ensures .0) (c .before .before .before .before .before .before .before .before .before .two2 .ensures .0) (c .before .before .before .before .before .before .before .before .allowed .ensures) low (c .before .before .before .before .before .before .before .if4 .left) in
+    let rule = rule-kept (c .before .before .before .before .before .before .before .before .before .before .before .before .before .before .before .before .before .before .args .s .now) (c .before .before .before .before .before .before .before .before .before .before .before .before .before .before .before .before .before .before .args .at) (c .before .before .before .before .before .before .before .before .before .before .two .result) (c .before .before .before .before .before .before .before .before .before .two2 .result) (c .before .before .before .before .before .before .before .before .wrong .result) (c .before .before .before .before .before .before .before .before .before .before .two .ensures .0) (c .before .before .before .before .before .before .before .before .before .two2 .ensures .0) (c .before .before .before .before .before .before .before .before .wrong .ensures) low (c .before .before .before .before .before .before .before .if4 .left) in
     let long : c .before .before .before .before .before .before .before .before .before .before .before .before .before .before .before .before .before .before .args .at + 7 ≤ c .before .before .before .before .before .before .before .before .before .before .before .before .before .before .before .before .before .before .args .end = omega (arith, c .before .before .before .before .before .before .if5 .left, before) in
     let inside : c .before .before .before .before .before .before .before .before .before .before .before .before .before .before .before .before .before .before .args .at + 7 + number (c .before .before .before .before .before .before .before .before .before .before .before .before .before .before .before .before .before .before .args .s .now) (c .before .before .before .before .before .before .before .before .before .before .before .before .before .before .before .before .before .before .args .at + 5) 2 ≤ c .before .before .before .before .before .before .before .before .before .before .before .before .before .before .before .before .before .before .args .end = omega (arith, c .before .before .before .before .if6 .left, c .before .before .before .before .before .two3 .ensures .0, before) in
     inner-stops (c .before .before .before .before .before .before .before .before .before .before .before .before .before .before .before .before .before .before .args .s .now) (c .before .before .before .before .before .before .before .before .before .before .before .before .before .before .before .before .before .before .args .end) (c .before .before .before .before .before .before .before .before .before .before .before .before .before .before .before .before .before .before .args .owner) (c .before .before .before .before .before .before .before .before .before .before .before .before .before .before .before .before .before .before .args .at) (c .before .before .before .before .before .before .before .before .before .before .before .before .before .before .before .before .before .before .args .parts) (c .before .before .before .before .before .before .before .before .before .before .before .before .before .before .before .before .before .before .args .owners .now) (c .before .before .before .before .before .before .before .before .before .before .before .before .before .before .before .before .before .before .args .firsts .now) _ room fits rule long inside (subst (λ (k : ℕ). InnerDone (c .before .before .before .before .before .before .before .before .before .before .before .before .before .before .before .before .before .before .args .s .now) (c .before .before .before .before .before .before .before .before .before .before .before .before .before .before .before .before .before .before .args .at + 7 + k) (c .before .before .before .before .before .before .before .before .before .before .before .before .before .before .before .before .before .before .args .at + 7) (c .before .before .before .read-inner .result)) (c .before .before .before .before .before .two3 .ensures .0) (c .before .before .before .read-inner .ensures)) _ _ _ (c .before .r .given .1)
@@ -2029,8 +2029,8 @@ pub +read-children+read-inner+read-node+read-threshold+read-thresholds-spec :
       threshold-cut-reads.Learnt,
       two-reads.Asked,
       two-reads.Learnt,
-      allowed-reads.Asked,
-      allowed-reads.Learnt,
+      wrong-reads.Asked,
+      wrong-reads.Learnt,
       read-inner-below t,
       read-inner.Post,
     )
@@ -2047,7 +2047,7 @@ pub +read-children+read-inner+read-node+read-threshold+read-thresholds-spec :
     (read-threshold-two-requires t)
     (read-threshold-add-two-2 t)
     (read-threshold-two-requires-2 t)
-    (read-threshold-allowed-requires t)
+    (read-threshold-wrong-requires t)
     (read-threshold-returns-4 t)
     (read-threshold-sub-if5 t)
     (read-threshold-add-t21 t)

@@ -8,7 +8,7 @@ use Prim.Native.Nat.{ℕ, _≤_, _+_, _-_}
 use native.Mathlib.Omega.{arith}
 use lib.ListN.{length, length-set, take, drop, set}
 use Rattle.meaning.specs.Session.{zeros}
-use Rattle.session.proofs.Stores.{clear-none, clear-more, clear-all}
+use Rattle.session.proofs.Clearing.{clear-none, clear-more, clear-all}
 use borrow.Author.Needs.{needs}
 
 abbrev Inv-loop : tie.InvT-loop

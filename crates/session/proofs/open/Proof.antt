@@ -1,10 +1,8 @@
--- `session::open` meets its contract.
--- Assumes nothing.
-use Rattle.fields.proofs.Known.{bytes-known}
-use Rattle.session.proofs.Answered.{read-sizes, read-refused, open-unread, sizes-fit}
+use borrow.Author.Needs.{needs}
 use Rattle.session.proofs.open.Statement.{statement}
 use Rattle.session.proofs.open.Tie as tie
-use borrow.Author.Needs.{needs}
+use Rattle.fields.proofs.Known.{bytes-known}
+use Rattle.session.proofs.Answered.{read-sizes, read-refused, open-unread, sizes-fit}
 
 read-requires : tie.Need-read-requires
 read-requires c κs = search needs
@@ -17,14 +15,17 @@ enum-known-r-2 c = search needs
 
 open-read-requires : tie.Need-open-read-requires
 open-read-requires c κs =
-    let a = read-sizes ((c .before .before .before .before .before .before .before .args .s .now)) _ _ ((c .before .before .before .before .read .result)) ((c .before .before .r2 .given .1)) ((c .before .before .before .before .read .ensures)) in (a, sizes-fit ((c .before .before .before .before .before .before .before .args .s .now)) (bytes-known ((c .before .before .before .before .before .before .before .args .s .now)) ((c .before .before .before .before .before .before .slice-known .given))) _ _ a .2)
+    let s = c .before .before .before .before .before .before .before .args .s .now in
+    let a = read-sizes s _ _ (c .before .before .before .before .read .result) (c .before .before .r2 .given .1) (c .before .before .before .before .read .ensures) in
+    (a, sizes-fit s (bytes-known s (c .before .before .before .before .before .before .slice-known .given)) _ _ a)
 
 same-length : tie.Need-same-length
 same-length c = search needs
 
 returns : tie.Need-returns
 returns c =
-    open-unread ((c .before .before .before .before .before .before .args .s .now)) _ (read-refused ((c .before .before .before .before .before .before .args .s .now)) _ ((c .before .before .before .read .result)) ((c .before .r .given .1)) ((c .before .before .before .read .ensures)))
+    let s = c .before .before .before .before .before .before .args .s .now in
+    open-unread s _ (read-refused s _ (c .before .before .before .read .result) (c .before .r .given .1) (c .before .before .before .read .ensures))
 
 same-length-2 : tie.Need-same-length-2
 same-length-2 c = search needs

@@ -10,8 +10,8 @@ use mathlib.Core.Bool.{Bool}
 use mathlib.Core.List.{List}
 use Prim.Native.Nat.{ℕ}
 use Rattle.meaning.specs.declared.Fact.{Fact}
-use Rattle.session.specs.declared.Setting.{Setting}
-use Rattle.session.specs.Setting.{SettingOf}
+use Rattle.setting.specs.declared.Setting.{Setting}
+use Rattle.setting.specs.Setting.{SettingOf}
 
 -- what the fact is set to is an equation of its own: what the last step says of it
 as-it-was : (s after : List ℕ) (fact : Fact) (r : Setting) (was : Bool) {b : Bool} → SettingOf s fact b after r → b ≡ was → SettingOf s fact was after r

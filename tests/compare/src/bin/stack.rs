@@ -6,8 +6,8 @@ use std::process::ExitCode;
 use compare::library;
 use compare::painted::Stack;
 use compare::worst::{
-    all_linked, broom, bushy, chain, chain_to, comb, fans, halves, late, late_halves, late_to,
-    sixteen_on_the_last, sixteen_thresholds, triplets, wide,
+    all_linked, broom, bushy, chain, chain_to, comb, deep_halves, fans, halves, late, late_halves,
+    late_to, sixteen_on_the_last, sixteen_thresholds, triplets, wide,
 };
 use second::gen::{any_pair_bytes, Rng};
 use second::register;
@@ -35,6 +35,7 @@ fn inputs() -> Vec<Input> {
         late(),
         halves(),
         late_halves(),
+        deep_halves(),
     ];
     let mut roots: Vec<Node> = trees.to_vec();
     for outer in &trees {

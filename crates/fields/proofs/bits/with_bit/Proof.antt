@@ -13,22 +13,26 @@ shl-result c = search needs
 
 sub-result : tie.Need-sub-result
 sub-result c =
-    off-le (c .before .before .args .set) (c .before .before .args .k) (c .before .before .args .there) (c .before .before .args .yes) (c .before .before .pre .0) (c .before .before .pre .1) (c .before .if1 .taken)
+    let c2 = c .before .before in
+    off-le (c2 .args .set) (c2 .args .k) (c2 .args .there) (c2 .args .yes) (c2 .pre .0) (c2 .pre .1) (c .before .if1 .taken)
 
 returns-2 : tie.Need-returns-2
 returns-2 c =
-    name-off (c .before .before .args .set) (c .before .before .args .k) (c .before .before .args .there) (c .before .before .args .yes) (c .before .before .pre .0) (c .before .before .pre .1) (c .before .if1 .taken) (c .if2 .left)
+    let c2 = c .before .before in
+    name-off (c2 .args .set) (c2 .args .k) (c2 .args .there) (c2 .args .yes) (c2 .pre .0) (c2 .pre .1) (c .before .if1 .taken) (c .if2 .left)
 
 shl-result-2 : tie.Need-shl-result-2
 shl-result-2 c = search needs
 
 add-result : tie.Need-add-result
 add-result c =
-    record { fits = on-fits (c .before .before .args .set) (c .before .before .args .k) (c .before .before .args .there) (c .before .before .args .yes) (c .before .before .pre .0) (c .before .before .pre .1) (c .before .if1 .left) (c .before .before .fits .set .fits) }
+    let c2 = c .before .before in
+    record { fits = on-fits (c2 .args .set) (c2 .args .k) (c2 .args .there) (c2 .args .yes) (c2 .pre .0) (c2 .pre .1) (c .before .if1 .left) (c2 .fits .set .fits) }
 
 returns-3 : tie.Need-returns-3
 returns-3 c =
-    name-on (c .before .before .args .set) (c .before .before .args .k) (c .before .before .args .there) (c .before .before .args .yes) (c .before .before .pre .0) (c .before .before .pre .1) (c .before .if1 .left) (c .if3 .taken)
+    let c2 = c .before .before in
+    name-on (c2 .args .set) (c2 .args .k) (c2 .args .there) (c2 .args .yes) (c2 .pre .0) (c2 .pre .1) (c .before .if1 .left) (c .if3 .taken)
 
 returns-4 : tie.Need-returns-4
 returns-4 c = search needs

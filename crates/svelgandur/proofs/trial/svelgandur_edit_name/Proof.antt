@@ -4,13 +4,13 @@ use borrow.Author.Needs.{needs}
 use Rattle.svelgandur.proofs.trial.svelgandur_edit_name.Statement.{statement}
 use Rattle.svelgandur.proofs.trial.svelgandur_edit_name.Tie as tie
 use mathlib.Core.Path.{_∙_, ap}
-use Rattle.svelgandur.specs.Numbers.{numbers, inUse}
+use Rattle.answers.specs.Numbers.{numbers, inUse}
 
 edit-requires : tie.Need-edit-requires
 edit-requires c κs = search needs
 
-hand-back-requires : tie.Need-hand-back-requires
-hand-back-requires c κs = search needs
+of-count-requires : tie.Need-of-count-requires
+of-count-requires c κs = search needs
 
 same-length : tie.Need-same-length
 same-length c = search needs
@@ -20,8 +20,9 @@ same-length-2 c = search needs
 
 returns : tie.Need-returns
 returns c =
-    (c .hand-back .ensures ∙ ap (numbers inUse) (c .before .before .before .before .before .before .edit .ensures .0), c .before .before .before .before .before .before .edit .ensures .1)
+    let edited = c .before .before .before .before .before .before .edit .ensures .promised in
+    (c .of-count .ensures ∙ ap (numbers inUse) (edited .0), edited .1, edited .2)
 
 pub svelgandur-edit-name-spec : {M : Type 1} → statement M
 svelgandur-edit-name-spec =
-    tie.close (tie.spec edit-requires hand-back-requires same-length same-length-2 returns)
+    tie.close (tie.spec edit-requires of-count-requires same-length same-length-2 returns)

@@ -4,21 +4,21 @@ use borrow.Author.Needs.{needs}
 use Rattle.svelgandur.proofs.trial.svelgandur_open.Statement.{statement}
 use Rattle.svelgandur.proofs.trial.svelgandur_open.Tie as tie
 use mathlib.Core.Path.{_∙_, ap}
-use Rattle.svelgandur.specs.Numbers.{numbers, inUse}
+use Rattle.answers.specs.Numbers.{numbers, inUse}
 
 open-requires : tie.Need-open-requires
 open-requires c κs = search needs
 
-hand-back-requires : tie.Need-hand-back-requires
-hand-back-requires c κs = search needs
+of-count-requires : tie.Need-of-count-requires
+of-count-requires c κs = search needs
 
 same-length : tie.Need-same-length
 same-length c = search needs
 
 returns : tie.Need-returns
 returns c =
-    (c .hand-back .ensures ∙ ap (numbers inUse) (c .before .before .before .before .«open» .ensures .0), c .before .before .before .before .«open» .ensures .1)
+    (c .of-count .ensures ∙ ap (numbers inUse) (c .before .before .before .before .«open» .ensures .0), c .before .before .before .before .«open» .ensures .1)
 
 pub svelgandur-open-spec : {M : Type 1} → statement M
 svelgandur-open-spec =
-    tie.close (tie.spec open-requires hand-back-requires same-length returns)
+    tie.close (tie.spec open-requires of-count-requires same-length returns)

@@ -4,21 +4,22 @@ use borrow.Author.Needs.{needs}
 use Rattle.svelgandur.proofs.trial.svelgandur_undo.Statement.{statement}
 use Rattle.svelgandur.proofs.trial.svelgandur_undo.Tie as tie
 use mathlib.Core.Path.{_∙_, ap}
-use Rattle.svelgandur.specs.Numbers.{numbers, inUse}
+use Rattle.answers.specs.Numbers.{numbers, inUse}
 
 undo-requires : tie.Need-undo-requires
 undo-requires c κs = search needs
 
-hand-back-requires : tie.Need-hand-back-requires
-hand-back-requires c κs = search needs
+of-count-requires : tie.Need-of-count-requires
+of-count-requires c κs = search needs
 
 same-length : tie.Need-same-length
 same-length c = search needs
 
 returns : tie.Need-returns
 returns c =
-    (c .hand-back .ensures ∙ ap (numbers inUse) (c .before .before .before .before .undo .ensures .0), c .before .before .before .before .undo .ensures .1)
+    let d = c .before .before .before .before .undo .ensures .promised in
+    (c .of-count .ensures ∙ ap (numbers inUse) (d .0), d .1)
 
 pub svelgandur-undo-spec : {M : Type 1} → statement M
 svelgandur-undo-spec =
-    tie.close (tie.spec undo-requires hand-back-requires same-length returns)
+    tie.close (tie.spec undo-requires of-count-requires same-length returns)

@@ -1,0 +1,4 @@
+pub mod One
+pub mod Numbers
+pub mod Margins
+pub mod Messages

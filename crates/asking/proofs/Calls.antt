@@ -1,0 +1,234 @@
+-- The two calls, of a register and a plain requirement that were read or refused: each test's refusal in the document's order, and the answers.
+-- Assumes nothing.
+use mathlib.Core.Path.{_≡_, refl, sym, ap, ap₂, _∙_}
+use mathlib.Core.Bool.{Bool, true, false, not}
+use mathlib.Core.List.{List, map}
+use mathlib.Core.Option.{some}
+use Prim.Native.Nat.{ℕ, _≤_, _<_}
+use native.Mathlib.Omega.{arith}
+use lib.Dec.{ltb, leb}
+use lib.IntN.{ℤ}
+use mir.Syntax.{w64}
+use mir.Val.{SFits, toZ, ofZ}
+use mir.Facts.{toZ-ofZ}
+use lib.ListN.{length, getD, length-map}
+use Rattle.meaning.specs.declared.Refusal.{Refusal}
+use Rattle.meaning.specs.Refusal.{Answer, good, refused, onCall, refuseIf, _>>=_, _>>_}
+use Rattle.meaning.specs.Bytes.{Bytes}
+use Rattle.meaning.specs.Tree.{Concept, nodes}
+use Rattle.meaning.specs.Register.{Register, judged, readRegister}
+use Rattle.meaning.specs.Fraction.{Frac, _//_, lowest, margin, marginOver}
+use Rattle.meaning.specs.Degree.{degreeOf, answered}
+use Rattle.meaning.specs.Message.{lawful}
+use Rattle.meaning.specs.Shown.{degreeMap, shown, markNumber}
+use Rattle.meaning.specs.Calls.{readPlain, inRange, Found, degreeCall, afterDegree, Against, marginCall}
+use Rattle.meaning.proofs.Tests.{of-not}
+use Rattle.meaning.proofs.MessageLabel.{lawful-open}
+use Rattle.meaning.proofs.Reading.{took, stopped, pass, stop, below, not-below, at-most, not-le}
+use Rattle.meaning.proofs.Image.{whole-buffer}
+use Rattle.meaning.proofs.Rows.{opened, holds-ended}
+use Rattle.meaning.proofs.Lowest.{lowest-le}
+use Rattle.meaning.proofs.Degree.{answered-at-most-one}
+use Rattle.meaning.proofs.InPlace.{scale-in}
+use Rattle.meaning.proofs.Kept.{shown-length}
+use Rattle.degree.specs.declared.Degree.{Degree}
+use Rattle.fractions.specs.declared.Fraction.{Fraction}
+use Rattle.fractions.specs.declared.Signed.{Signed}
+use Rattle.plain.specs.declared.Both.{Both}
+use Rattle.plain.specs.declared.Both.the-variants.{Good as GoodBoth, Refused as RefusedBoth}
+use Rattle.asking.specs.declared.Answered.{Answered}
+use Rattle.asking.specs.declared.Answered.the-variants.{Good as GoodDegree, Refused as RefusedDegree}
+use Rattle.asking.specs.declared.Margin.{Margin}
+use Rattle.asking.specs.declared.Margin.the-variants.{Good as GoodMargin, Refused as RefusedMargin}
+use Rattle.degree.specs.Case.{Case}
+use Rattle.meaning.specs.Bounds.{mostScale, mostQ}
+use Rattle.degree.specs.Given.{drawn, Graded}
+use Rattle.plain.specs.Reading.{Rows, readBoth, BothGood, BothOutcome, BothDone}
+use Rattle.asking.specs.Answers.{Told, paperDegree, told, degreeRefused, paperMargin, marginRefused}
+use Rattle.asking.specs.Refusing.{DegreePromise, MarginPromise}
+use Rattle.degree.proofs.Entry.{case-of, scale-small, graded-answer}
+
+abbrev bothOf : Register → Concept → Answer (Register × Concept)
+bothOf g t = good (g, t)
+
+-- in a call, the register and the requirement are read before all else
+both-first : {C : Type 0} (next : Register → Concept → Answer C) (image message : List ℕ)
+    → (readRegister image >>= λ g. (readPlain message >>= λ t. next g t)) ≡ (readBoth image message >>= λ x. next (x .0) (x .1))
+unfolding readBoth _>>=_
+both-first next image message = go (readRegister image) (readPlain message)
+  where
+    go : (a : Answer Register) (b : Answer Concept) → (a >>= λ g. (b >>= λ t. next g t)) ≡ ((a >>= λ g. (b >>= λ t. bothOf g t)) >>= λ x. next (x .0) (x .1))
+    go (good g) (good t) = refl
+    go (good g) (refused f) = refl
+    go (refused f) b = refl
+
+-- what is tested and answered after 15, and with it
+abbrev pub degreeThen : ℕ → ℕ → Register → Concept → Answer Found
+degreeThen item room g t =
+    refuseIf (ltb room (nodes t)) (onCall 16) >> good (record { degree = answered (judged g) t item; map = degreeMap (judged g) t item })
+
+abbrev pub marginThen : ℕ → ℕ → ℕ → Register → Concept → Answer Against
+marginThen item p q g t =
+    let d = answered (judged g) t item in
+    refuseIf (not (lawful p q)) (onCall 13) >> good (record { margin = margin d (p // q); over = marginOver d (p // q) })
+
+abbrev degreeNext : ℕ → ℕ → Register → Concept → Answer Found
+degreeNext item room g t = inRange g item >> degreeThen item room g t
+
+abbrev marginNext : ℕ → ℕ → ℕ → Register → Concept → Answer Against
+marginNext item p q g t = inRange g item >> marginThen item p q g t
+
+module _ (image message : List ℕ) (item : ℕ) where
+  -- the answer and the lent map afterwards
+  abbrev DegreeDone : Answered → List ℕ → List ℕ → Type 0
+  DegreeDone r old new = DegreePromise image message item old new r
+
+  abbrev MarginDone : ℕ → ℕ → Margin → Type 0
+  MarginDone p q r = MarginPromise image message item p q r
+
+  degree-no : (old : List ℕ) (f : Refusal) (r : Answered) → degreeCall image message item (length old) ≡ refused f → r ≡ RefusedDegree f → DegreeDone r old old
+  unfolding told _>>=_
+  degree-no old f r e is = (ap paperDegree is ∙ sym (ap told e), sym (ap (afterDegree old) e))
+
+  degree-both : (room : ℕ) → degreeCall image message item room ≡ (readBoth image message >>= λ x. degreeNext item room (x .0) (x .1))
+  unfolding degreeCall
+  degree-both room = both-first (degreeNext item room) image message
+
+  margin-both : (p q : ℕ) → marginCall image message item p q ≡ (readBoth image message >>= λ x. marginNext item p q (x .0) (x .1))
+  unfolding marginCall
+  margin-both p q = both-first (marginNext item p q) image message
+
+  module _ (A : Rows) (b : Both) (done : BothDone image message A b) where
+    -- ---- refused by a reader
+
+    both-no : (f : Refusal) → b ≡ RefusedBoth f → readBoth image message ≡ refused f
+    both-no f e = go (readBoth image message) done
+      where
+        go : (a : Answer (Register × Concept)) → BothOutcome image A a b → a ≡ refused f
+        go (good x) o =
+            let z : GoodBoth (length (x .0 .names)) (length (x .0 .links)) (nodes (x .1)) ≡ RefusedBoth f = sym (o .answer) ∙ e in
+            let y : _≡_ {A = ℕ} 0 1 = cc in absurd (omega arith)
+        go (refused q) o = let z : RefusedBoth q ≡ RefusedBoth f = sym o ∙ e in let y : q ≡ f = cc in ap refused y
+
+    pub degree-stopped : (old : List ℕ) (f : Refusal) → b ≡ RefusedBoth f → DegreeDone (RefusedDegree f) old old
+    degree-stopped old f e = degree-no old f _ (degree-both (length old) ∙ stopped (readBoth image message) _ f (both-no f e)) refl
+
+    pub margin-stopped : (p q : ℕ) (f : Refusal) → b ≡ RefusedBoth f → MarginDone p q (RefusedMargin f)
+    margin-stopped p q f e = sym (margin-both p q ∙ stopped (readBoth image message) _ f (both-no f e))
+
+    -- ---- both were read
+
+    module _ (n m k : ℕ) (e : b ≡ GoodBoth n m k) where
+      pub record Known : Type 0 where
+        pub register : Register
+        pub tree : Concept
+        pub both : readBoth image message ≡ good (register, tree)
+        pub held : BothGood image A register tree b
+        pub items : n ≡ length (register .names)
+        pub links : m ≡ length (register .links)
+        pub written : k ≡ nodes tree
+
+      pub known : Known
+      known = go (readBoth image message) refl done
+        where
+          go : (a : Answer (Register × Concept)) → readBoth image message ≡ a → BothOutcome image A a b → Known
+          go (good x) d o =
+              let z : GoodBoth (length (x .0 .names)) (length (x .0 .links)) (nodes (x .1)) ≡ GoodBoth n m k = sym (o .answer) ∙ e in
+              let i : n ≡ length (x .0 .names) = cc in
+              let l : m ≡ length (x .0 .links) = cc in
+              let w : k ≡ nodes (x .1) = cc in
+              record { register = x .0; tree = x .1; both = d; held = o; items = i; links = l; written = w }
+          go (refused q) d o = let z : RefusedBoth q ≡ GoodBoth n m k = sym o ∙ e in let y : _≡_ {A = ℕ} 0 1 = cc in absurd (omega arith)
+
+      -- the rows end where the written nodes do
+      pub ended : getD (A .ends) 0 0 ≡ nodes (known .tree)
+      ended = opened (A .names) (A .roles) (A .ends) (known .tree) 17 0 _ (known .held .held .tree) .ended
+
+      abbrev pub case : Bytes image → Case image n m (A .names) (A .roles) (A .ends) (A .marks) 0 17
+      case bytes =
+          let h = known .held .held in
+          case-of (known .register) (known .tree) bytes (whole-buffer image (known .register) bytes (known .held .read)) (known .items) (known .links)
+          (holds-ended (A .names) (A .roles) (A .ends) (known .tree) 17 0 _ (h .tree)) (h .marked) (omega (arith, h .few, ended)) (h .small)
+
+      pub room : {long : ℕ} → k ≤ long → getD (A .ends) 0 0 ≤ long
+      room l = omega (arith, ended, known .written)
+
+      -- ---- the degree
+
+      degree-then : (room : ℕ) → degreeCall image message item room ≡ degreeNext item room (known .register) (known .tree)
+      degree-then room = degree-both room ∙ took (readBoth image message) _ _ (known .both)
+
+      -- 15
+      pub degree-no-item : n ≤ item → (old : List ℕ) (r : Answered) → r ≡ degreeRefused 15 → DegreeDone r old old
+      degree-no-item l old r is =
+          degree-no old _ r (degree-then (length old) ∙ stop (leb (length (known .register .names)) item) _ _ (at-most _ item (omega (arith, known .items)))) is
+
+      in-range : {C : Type 0} (next : Answer C) → item < n → (inRange (known .register) item >> next) ≡ next
+      in-range next l = pass (leb (length (known .register .names)) item) _ next (not-le _ item (omega (arith, known .items)))
+
+      -- 16
+      pub degree-no-room : item < n → (old : List ℕ) → length old < k → (r : Answered) → r ≡ degreeRefused 16 → DegreeDone r old old
+      degree-no-room i old l r is =
+          degree-no old _ r
+          (degree-then (length old) ∙ in-range _ i ∙ stop (ltb (length old) (nodes (known .tree))) _ _ (below (length old) _ (omega (arith, known .written)))) is
+
+      -- what was worked out, in lowest terms, is what is answered
+      lowest-answer : (d : Degree) (f : Fraction) → Graded (known .register) (known .tree) item d
+          → (f .num ≡ lowest (d .number // d .scale) .num) × (f .den ≡ lowest (d .number // d .scale) .den)
+          → (f .num // f .den) ≡ answered (judged (known .register)) (known .tree) item
+      lowest-answer d f h l = ap₂ _//_ (l .0) (l .1) ∙ graded-answer (known .register) (known .tree) item d h
+
+      pub degree-answer : item < n → (old new : List ℕ) → k ≤ length old → (d : Degree) (f : Fraction) → Graded (known .register) (known .tree) item d
+          → (f .num ≡ lowest (d .number // d .scale) .num) × (f .den ≡ lowest (d .number // d .scale) .den)
+          → new ≡ drawn (known .register) (known .tree) 0 (some item) old → DegreeDone (GoodDegree (f .num) (f .den) k) old new
+      unfolding told _>>=_
+      degree-answer i old new l d f h low is =
+          let t = known .tree in
+          let G = judged (known .register) in
+          let found : Found = record { degree = answered G t item; map = degreeMap G t item } in
+          let c : degreeCall image message item (length old) ≡ good found =
+          degree-then (length old) ∙ in-range _ i ∙ pass (ltb (length old) (nodes t)) _ _ (not-below (length old) _ (omega (arith, known .written))) in
+          let places : k ≡ length (degreeMap G t item) = known .written ∙ sym (length-map (shown G t (some item)) markNumber ∙ shown-length G t (some item)) in
+          let answer : _≡_ {A = Told} (record { degree = f .num // f .den; places = k }) (record { degree = answered G t item; places = length (degreeMap G t item) }) =
+          ap₂ (λ (x : Frac) (y : ℕ). record { degree = x; places = y }) (lowest-answer d f h low) places in
+          (ap good answer ∙ sym (ap told c), is ∙ sym (ap (afterDegree old) c))
+
+      -- ---- the margin
+
+      margin-then : (p q : ℕ) → marginCall image message item p q ≡ marginNext item p q (known .register) (known .tree)
+      margin-then p q = margin-both p q ∙ took (readBoth image message) _ _ (known .both)
+
+      -- 15
+      pub margin-no-item : n ≤ item → (p q : ℕ) (r : Margin) → r ≡ marginRefused 15 → MarginDone p q r
+      margin-no-item l p q r is =
+          ap paperMargin is ∙ sym (margin-then p q ∙ stop (leb (length (known .register .names)) item) _ _ (at-most _ item (omega (arith, known .items))))
+
+      -- 13
+      pub margin-no-threshold : item < n → (p q : ℕ) (test : Bool) → test ≡ not (lawful p q) → test ≡ true → (r : Margin) → r ≡ marginRefused 13 → MarginDone p q r
+      margin-no-threshold i p q test says l r is =
+          ap paperMargin is ∙ sym (margin-then p q ∙ in-range _ i ∙ stop (not (lawful p q)) _ _ (sym says ∙ l))
+
+      module _ (p q : ℕ) (test : Bool) (says : test ≡ not (lawful p q)) (left : test ≡ false) (d : Degree) (f : Fraction)
+          (h : Graded (known .register) (known .tree) item d)
+          (low : (f .num ≡ lowest (d .number // d .scale) .num) × (f .den ≡ lowest (d .number // d .scale) .den)) where
+        ok : not (lawful p q) ≡ false
+        ok = sym says ∙ left
+
+        -- the two numbers of the degree and of the threshold are small
+        pub margin-small : (f .num ≤ f .den) × (f .den ≤ mostScale) × (p ≤ q) × (q ≤ mostQ)
+        margin-small =
+            let G = judged (known .register) in
+            let t = known .tree in
+            let same = lowest-answer d f h low in
+            let num : f .num ≡ answered G t item .num = ap (λ (z : Frac). z .num) same in
+            let den : f .den ≡ answered G t item .den = ap (λ (z : Frac). z .den) same in
+            let small = scale-small t (known .held .held .small) in
+            let fit = lawful-open p q (of-not (lawful p q) ok) in
+            (omega (arith, answered-at-most-one G t item), omega (arith, lowest-le (degreeOf G t item) .1, scale-in t), fit .1, fit .0)
+
+        pub margin-answer : item < n → (m : Signed) → (m .num ≡ margin (f .num // f .den) (p // q)) × (m .den ≡ marginOver (f .num // f .den) (p // q))
+            → SFits w64 (m .num) → MarginDone p q (GoodMargin (toZ w64 (ofZ w64 (m .num))) (m .den))
+        margin-answer i m is fits =
+            ap₂ (λ (x : ℤ) (y : ℕ). paperMargin (GoodMargin x y)) (toZ-ofZ fits ∙ is .0) (is .1)
+            ∙ ap (λ (z : Frac). paperMargin (GoodMargin (margin z (p // q)) (marginOver z (p // q)))) (lowest-answer d f h low)
+            ∙ sym (margin-then p q ∙ in-range _ i ∙ pass (not (lawful p q)) _ _ ok)

@@ -1,0 +1,173 @@
+-- The yes/no call, end by end: at each of them the answer and the map are those of `memberCall`.
+-- Assumes nothing.
+use mathlib.Core.Path.{_≡_, refl, sym, ap, subst, _∙_}
+use mathlib.Core.Bool.{Bool, true, false, cond}
+use mathlib.Core.List.{List}
+use Prim.Native.Nat.{ℕ, _≤_, _<_}
+use native.Mathlib.Omega.{arith}
+use lib.Dec.{T, ltb, leb}
+use lib.ListN.{length}
+use lib.Seq.{sets}
+use Rattle.fields.specs.Head.{wrongIn}
+use Rattle.meaning.specs.declared.Refusal.{Refusal}
+use Rattle.meaning.specs.Bytes.{Bytes}
+use Rattle.meaning.specs.Refusal.{Answer, good, refused, onCall, _>>=_}
+use Rattle.meaning.specs.Tree.{nodes}
+use Rattle.meaning.specs.Register.{Register, judged, readRegisterBy, readRegister}
+use Rattle.meaning.specs.Requirement.{Requirement, fulfils, member}
+use Rattle.meaning.specs.Message.{Part, readRequirement}
+use Rattle.meaning.specs.Shown.{yesMap}
+use Rattle.meaning.specs.Calls.{Decision, met, unmet, memberCall, afterMember}
+use Rattle.meaning.specs.Calls.{decide as decision}
+use Rattle.meaning.proofs.Reading.{pass, stop, stopped, took, taken, below, at-most, not-le, good-inj}
+use Rattle.meaning.proofs.Image.{whole-buffer}
+use Rattle.meaning.proofs.YesShown.{yes-shows}
+use Rattle.register.specs.declared.Reading.{Reading}
+use Rattle.register.specs.declared.Reading.the-variants.{Good as GoodReading, Refused as RefusedReading}
+use Rattle.register.specs.Reading.{Counts, counted}
+use Rattle.register.specs.Reading.{paper as paperReading}
+use Rattle.requirement.specs.declared.Message.{Message}
+use Rattle.requirement.specs.declared.Message.the-variants.{Good as GoodMessage, Refused as RefusedMessage}
+use Rattle.requirement.specs.Reading.{Arrays, MessageGood, MessageOutcome, MessageDone}
+use Rattle.deciding.specs.declared.Verdict.{Verdict}
+use Rattle.deciding.specs.declared.Verdict.the-variants.{Yes, No, Refused}
+use Rattle.meeting.specs.Case.{Settled}
+use Rattle.deciding.specs.Answers.{yes, said, paperVerdict, refusedCall}
+use Rattle.deciding.specs.BothRead.{Imaged, BothRead}
+use Rattle.deciding.proofs.Decided.{member-answer}
+
+-- ---- what was read
+
+pub imaged : (s : List ℕ) (items links : ℕ) (r : Reading) → r ≡ GoodReading items links → paperReading r ≡ counted (readRegisterBy (wrongIn false) s) → Imaged s items links
+unfolding counted
+imaged s items links r e d =
+    let q = taken (readRegister s) _ (sym (sym (ap paperReading e) ∙ d)) in
+    let z = good-inj (q .2) in
+    record { register = q .0; read = q .1; items-are = ap (λ (c : Counts). c .items) (sym z); links-are = ap (λ (c : Counts). c .links) (sym z) }
+
+refused-inj : {A : Type 0} {x y : Refusal} → _≡_ {A = Answer A} (refused x) (refused y) → x ≡ y
+refused-inj e = cc
+
+pub image-refused : (s : List ℕ) (x : Refusal) (r : Reading) → r ≡ RefusedReading x → paperReading r ≡ counted (readRegisterBy (wrongIn false) s) → readRegister s ≡ refused x
+unfolding counted _>>=_
+image-refused s x r e d = go (readRegister s) (sym (ap paperReading e) ∙ d)
+  where
+    go : (a : Answer Register) → refused x ≡ counted a → a ≡ refused x
+    go (good g) h = let z : _≡_ {A = ℕ} 0 1 = cc in absurd (omega arith)
+    go (refused y) h = ap refused (sym (refused-inj h))
+
+-- a message that was read into rows as so many nodes and thresholds
+pub record Understood (s : List ℕ) (B : Arrays) (r : Message) (n parts : ℕ) : Type 0 where
+  pub requirement : Requirement
+  pub places : List Part
+  pub wanted : readRequirement s ≡ good (requirement, places)
+  pub nodes-are : n ≡ nodes requirement
+  pub parts-are : parts ≡ length places
+  pub rows : MessageGood s B requirement places r
+
+pub understood : (s : List ℕ) (B : Arrays) (r : Message) (n parts : ℕ) → MessageDone s B r → r ≡ GoodMessage n parts → Understood s B r n parts
+understood s B r n parts h e = go (readRequirement s) refl h
+  where
+    go : (a : Answer (Requirement × List Part)) → readRequirement s ≡ a → MessageOutcome s B a r → Understood s B r n parts
+    go (good x) d m =
+        let z : GoodMessage (nodes (x .0)) (length (x .1)) ≡ GoodMessage n parts = sym (m .answer) ∙ e in
+        let en : n ≡ nodes (x .0) = cc in
+        let ep : parts ≡ length (x .1) = cc in
+        record { requirement = x .0; places = x .1; wanted = d; nodes-are = en; parts-are = ep; rows = m }
+    go (refused f) d m = let z : RefusedMessage f ≡ GoodMessage n parts = sym m ∙ e in let y : _≡_ {A = ℕ} 0 1 = cc in absurd (omega arith)
+
+pub message-refused : (s : List ℕ) (B : Arrays) (r : Message) (x : Refusal) → MessageDone s B r → r ≡ RefusedMessage x → readRequirement s ≡ refused x
+message-refused s B r x h e = go (readRequirement s) refl h
+  where
+    go : (a : Answer (Requirement × List Part)) → readRequirement s ≡ a → MessageOutcome s B a r → readRequirement s ≡ refused x
+    go (good y) d m =
+        let z : GoodMessage (nodes (y .0)) (length (y .1)) ≡ RefusedMessage x = sym (m .answer) ∙ e in let w : _≡_ {A = ℕ} 0 1 = cc in absurd (omega arith)
+    go (refused f) d m = let z : RefusedMessage f ≡ RefusedMessage x = sym m ∙ e in let w : f ≡ x = cc in d ∙ ap refused w
+
+-- ---- the ends
+
+module _ (image message : List ℕ) (item : ℕ) (map : List ℕ) where
+  abbrev answer : Answer Decision
+  answer = memberCall image message item (length map)
+
+  -- what is asked at an end
+  abbrev pub Ends : List ℕ → Verdict → Type 0
+  Ends t r = (paperVerdict r ≡ said answer) × (t ≡ afterMember map answer)
+
+  ends-refused : (x : Refusal) (r : Verdict) → r ≡ Refused x → answer ≡ refused x → Ends map r
+  ends-refused x r e d = (ap paperVerdict e ∙ sym (ap said d), sym (ap (afterMember map) d))
+
+  pub image-unread : (x : Refusal) → readRegister image ≡ refused x → Ends map (Refused x)
+  unfolding memberCall
+  image-unread x e = ends-refused x _ refl (stopped (readRegister image) _ x e)
+
+  module _ {items links : ℕ} (i : Imaged image items links) where
+    pub message-unread : (x : Refusal) → readRequirement message ≡ refused x → Ends map (Refused x)
+    unfolding memberCall
+    message-unread x e = ends-refused x _ refl (took (readRegister image) _ (i .register) (i .read) ∙ stopped (readRequirement message) _ x e)
+
+    module _ {B : Arrays} {m : Message} {n parts : ℕ} (u : Understood message B m n parts) where
+      abbrev q : Requirement
+      q = u .requirement
+
+      abbrev few : ℕ
+      few = length (i .register .names)
+
+      pub no-item : (r : Verdict) (number : ℕ) → r ≡ refusedCall number → number ≡ 15 → items ≤ item → Ends map r
+      unfolding memberCall
+      no-item r number e fifteen l =
+          ends-refused (onCall 15) r (e ∙ ap refusedCall fifteen)
+          (took (readRegister image) _ (i .register) (i .read) ∙ took (readRequirement message) _ (q, u .places) (u .wanted)
+          ∙ stop (leb few item) _ _ (at-most few item (omega (arith, i .items-are))))
+
+      pub no-room : (r : Verdict) (number : ℕ) → r ≡ refusedCall number → number ≡ 16 → item < items → length map < n → Ends map r
+      unfolding memberCall
+      no-room r number e sixteen l s =
+          ends-refused (onCall 16) r (e ∙ ap refusedCall sixteen)
+          (took (readRegister image) _ (i .register) (i .read) ∙ took (readRequirement message) _ (q, u .places) (u .wanted)
+          ∙ pass (leb few item) _ _ (not-le few item (omega (arith, i .items-are)))
+          ∙ stop (ltb (length map) (nodes q)) _ _ (below (length map) (nodes q) (omega (arith, u .nodes-are))))
+
+      module _ (inside : item < items) (fits : n ≤ length map) where
+        abbrev pub both-read : Bytes image → BothRead image items links message (B .names) (B .roles) (B .ends) (B .parts .owners) (B .parts .firsts) parts item (length map)
+        both-read b = record {
+          register = i .register;
+          read = whole-buffer image (i .register) b (i .read);
+          items-are = i .items-are;
+          links-are = i .links-are;
+          requirement = u .requirement;
+          places = u .places;
+          wanted = u .wanted;
+          parts-are = u .parts-are;
+          most = omega (arith, u .parts-are, u .rows .room);
+          tree = u .rows .tree;
+          few = u .rows .few;
+          held = u .rows .parted;
+          inside = inside;
+          room-enough = omega (arith, u .nodes-are);
+        }
+
+        decided : answer ≡ good (decision (member (judged (i .register)) q item) (yesMap (judged (i .register)) q item))
+        decided =
+            member-answer image message item (length map) (i .register) q (u .places) (i .read) (u .wanted) (omega (arith, i .items-are)) (omega (arith, u .nodes-are))
+
+        module _ (t : List ℕ) (r : Bool) (s : Settled (i .register) q item map t r) where
+          abbrev shown : List ℕ
+          shown = yesMap (judged (i .register)) q item
+
+          pub answers-yes : r ≡ true → Ends t (Yes n)
+          answers-yes e =
+              let b : member (judged (i .register)) q item ≡ true = sym (s .answer) ∙ e in
+              let a : answer ≡ good (met shown) = decided ∙ ap (λ (z : Bool). good (decision z shown)) b in
+              let long : length shown ≡ nodes q = yes-shows (fulfils (judged (i .register))) (judged (i .register)) q item (subst T (sym b) tt) .long in (
+                ap (λ (z : ℕ). good (yes z)) (u .nodes-are ∙ sym long) ∙ sym (ap said a),
+                s .map ∙ ap (λ (z : Bool). cond z (sets map 0 shown) map) e ∙ sym (ap (afterMember map) a),
+              )
+
+          pub answers-no : r ≡ false → Ends t No
+          answers-no e =
+              let b : member (judged (i .register)) q item ≡ false = sym (s .answer) ∙ e in
+              let a : answer ≡ good unmet = decided ∙ ap (λ (z : Bool). good (decision z shown)) b in (
+                sym (ap said a),
+                s .map ∙ ap (λ (z : Bool). cond z (sets map 0 shown) map) e ∙ sym (ap (afterMember map) a),
+              )

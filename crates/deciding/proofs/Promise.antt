@@ -1,0 +1,227 @@
+-- What the yes/no call promises, over any result that meets its two equations: only one result does; it is refused exactly when a row of the table
+-- holds; of a register and a requirement that were read it is yes exactly when a threshold-respecting map of the whole tree exists, and then the map
+-- shown is such a map with the lowest-numbered choices; no exactly when none exists; and for a plain requirement yes exactly when the degree is 1/1.
+-- Assumes nothing.
+use mathlib.Core.Path.{_≡_, refl, sym, ap, ap₂, subst, _∙_}
+use mathlib.Core.Bool.{Bool, true, false}
+use mathlib.Core.Logic.{_↔_}
+use mathlib.Core.List.{List, [], _∷_, _++_}
+use mathlib.Core.Option.{some}
+use Prim.Native.Nat.{ℕ, _≤_, _<_, _∣_}
+use native.Mathlib.Nat.{dvd-refl}
+use native.Mathlib.Omega.{arith}
+use lib.Dec.{T, ltb, leb}
+use lib.ListN.{length}
+use lib.Seq.{sets}
+use borrow.Author.Tests.{leb-true, ltb-true}
+use Rattle.meaning.specs.declared.Refusal.{Refusal}
+use Rattle.meaning.specs.Bytes.{Bytes}
+use Rattle.meaning.specs.Refusal.{Answer, good, refused}
+use Rattle.meaning.specs.Tree.{Tree, nodes, subtree, roleAt}
+use Rattle.meaning.specs.Graph.{Graph}
+use Rattle.meaning.specs.Fraction.{Frac, _//_, Lowest}
+use Rattle.meaning.specs.Register.{Register, judged, readRegister}
+use Rattle.meaning.specs.Degree.{answered}
+use Rattle.meaning.specs.Whole.{meetsBy}
+use Rattle.meaning.specs.Requirement.{Label, Requirement, bare, fulfils, member, RespectingMap}
+use Rattle.meaning.specs.Message.{Part, readRequirement, thresholdsOf}
+use Rattle.meaning.specs.Shown.{yesMap}
+use Rattle.meaning.specs.Calls.{Decision, met, unmet, memberCall, afterMember}
+use Rattle.meaning.specs.Calls.{decide as decision}
+use Rattle.meaning.proofs.Tests.{is-true, is-false}
+use Rattle.meaning.proofs.Reading.{pass, stop, stopped, took, below, at-most, not-le, lt-of-not-le, le-of-not-below, good-inj}
+use Rattle.meaning.proofs.Image.{read-image}
+use Rattle.meaning.proofs.Degree.{answered-lowest}
+use Rattle.meaning.proofs.Rising.{LowestOf}
+use Rattle.meaning.proofs.Member.{member-map}
+use Rattle.meaning.proofs.YesShown.{YesShows, yes-shows, yes-lowest}
+use Rattle.deciding.specs.declared.Verdict.{Verdict}
+use Rattle.deciding.specs.declared.Verdict.the-variants.{Yes, No, Refused}
+use Rattle.deciding.specs.Answers.{yes, no, said, paperVerdict}
+use Rattle.deciding.specs.Refusing.{DecidePromise, DecideRow, badImage, badMessage, noItem, noRoom}
+use Rattle.deciding.proofs.Decided.{member-answer, yes-one}
+
+-- ---- one result
+
+differ : {A : Type 0} {x : Refusal} {a : A} → _≡_ {A = Answer A} (refused x) (good a) → ⊥
+differ e = let y : _≡_ {A = ℕ} 0 1 = cc in omega arith
+
+refused-inj : {A : Type 0} {x y : Refusal} → _≡_ {A = Answer A} (refused x) (refused y) → x ≡ y
+refused-inj e = cc
+
+yes-inj : {m n : ℕ} → yes m ≡ yes n → m ≡ n
+yes-inj e = cc
+
+not-no : {n : ℕ} → yes n ≡ no → ⊥
+not-no e = let y : _≡_ {A = ℕ} 0 1 = cc in omega arith
+
+paper-inj : (r r′ : Verdict) → paperVerdict r ≡ paperVerdict r′ → r ≡ r′
+paper-inj (Yes m) (Yes n) e = ap (λ (z : ℕ). Yes z) (yes-inj (good-inj e))
+paper-inj (Yes m) No e = absurd (not-no (good-inj e))
+paper-inj (Yes m) (Refused x) e = absurd (differ (sym e))
+paper-inj No (Yes n) e = absurd (not-no (sym (good-inj e)))
+paper-inj No No e = refl
+paper-inj No (Refused x) e = absurd (differ (sym e))
+paper-inj (Refused x) (Yes n) e = absurd (differ e)
+paper-inj (Refused x) No e = absurd (differ e)
+paper-inj (Refused x) (Refused y) e = ap (λ (z : Refusal). Refused z) (refused-inj e)
+
+-- "any two results allowed by it are equal"
+pub decide-one : (image message : List ℕ) (item : ℕ) (old new new′ : List ℕ) (r r′ : Verdict) → DecidePromise image message item old new r
+    → DecidePromise image message item old new′ r′ → (r ≡ r′) × (new ≡ new′)
+decide-one image message item old new new′ r r′ p p′ = (paper-inj r r′ (p .0 ∙ sym (p′ .0)), p .1 ∙ sym (p′ .1))
+
+-- ---- refusals
+
+said-refused : (a : Answer Decision) (x : Refusal) → said a ≡ refused x → a ≡ refused x
+said-refused (good d) x e = absurd (differ (sym e))
+said-refused (refused y) x e = ap refused (refused-inj e)
+
+module _ (image message : List ℕ) (item room : ℕ) (x : Refusal) where
+  abbrev answer : Answer Decision
+  answer = memberCall image message item room
+
+  refuses-answer : DecideRow image message item room x → answer ≡ refused x
+  unfolding memberCall
+  refuses-answer (badImage e) = stopped (readRegister image) _ x e
+  refuses-answer (badMessage g eg e) = took (readRegister image) _ g eg ∙ stopped (readRequirement message) _ x e
+  refuses-answer (noItem g q ps eg em l ex) =
+      took (readRegister image) _ g eg ∙ took (readRequirement message) _ (q, ps) em
+      ∙ stop (leb (length (g .names)) item) _ _ (at-most (length (g .names)) item l) ∙ ap refused (sym ex)
+  refuses-answer (noRoom g q ps eg em l s ex) =
+      took (readRegister image) _ g eg ∙ took (readRequirement message) _ (q, ps) em
+      ∙ pass (leb (length (g .names)) item) _ _ (not-le (length (g .names)) item l)
+      ∙ stop (ltb room (nodes q)) _ _ (below room (nodes q) s) ∙ ap refused (sym ex)
+
+  answer-refuses : answer ≡ refused x → DecideRow image message item room x
+  unfolding memberCall
+  answer-refuses e = image-read (readRegister image) refl
+    where
+      room-tested : (g : Register) (q : Requirement) (ps : List Part) → readRegister image ≡ good g → readRequirement message ≡ good (q, ps)
+          → item < length (g .names) → (b : Bool) → ltb room (nodes q) ≡ b → DecideRow image message item room x
+      room-tested g q ps eg em l true d =
+          let w = took (readRegister image) _ g eg ∙ took (readRequirement message) _ (q, ps) em
+          ∙ pass (leb (length (g .names)) item) _ _ (not-le (length (g .names)) item l) ∙ stop (ltb room (nodes q)) _ _ d in
+          noRoom g q ps eg em l (ltb-true room (nodes q) d) (refused-inj (sym e ∙ w))
+      room-tested g q ps eg em l false d =
+          absurd (differ (sym e ∙ member-answer image message item room g q ps eg em l (le-of-not-below room (nodes q) d)))
+
+      item-tested : (g : Register) (q : Requirement) (ps : List Part) → readRegister image ≡ good g → readRequirement message ≡ good (q, ps)
+          → (b : Bool) → leb (length (g .names)) item ≡ b → DecideRow image message item room x
+      item-tested g q ps eg em true d =
+          let w = took (readRegister image) _ g eg ∙ took (readRequirement message) _ (q, ps) em ∙ stop (leb (length (g .names)) item) _ _ d in
+          noItem g q ps eg em (leb-true (length (g .names)) item d) (refused-inj (sym e ∙ w))
+      item-tested g q ps eg em false d = room-tested g q ps eg em (lt-of-not-le (length (g .names)) item d) (ltb room (nodes q)) refl
+
+      message-read : (g : Register) → readRegister image ≡ good g → (m : Answer (Requirement × List Part)) → readRequirement message ≡ m
+          → DecideRow image message item room x
+      message-read g eg (good y) em = item-tested g (y .0) (y .1) eg em (leb (length (g .names)) item) refl
+      message-read g eg (refused y) em =
+          let w = took (readRegister image) _ g eg ∙ stopped (readRequirement message) _ y em in
+          badMessage g eg (em ∙ ap refused (refused-inj (sym w ∙ e)))
+
+      image-read : (a : Answer Register) → readRegister image ≡ a → DecideRow image message item room x
+      image-read (good g) eg = message-read g eg (readRequirement message) refl
+      image-read (refused y) eg = badImage (eg ∙ ap refused (refused-inj (sym (stopped (readRegister image) _ y eg) ∙ e)))
+
+-- "A number is given exactly when its row holds and nothing earlier in the order below applies."
+pub decide-refused : (image message : List ℕ) (item : ℕ) (old new : List ℕ) (r : Verdict) → DecidePromise image message item old new r → (x : Refusal)
+    → (r ≡ Refused x) ↔ DecideRow image message item (length old) x
+decide-refused image message item old new r p x = (
+  (λ e. answer-refuses image message item (length old) x (said-refused _ x (sym (p .0) ∙ ap paperVerdict e))),
+  (λ h. paper-inj r (Refused x) (p .0 ∙ ap said (refuses-answer image message item (length old) x h))),
+)
+
+-- a refusal and a no write nothing
+pub decide-kept : (image message : List ℕ) (item : ℕ) (old new : List ℕ) (r : Verdict) → DecidePromise image message item old new r
+    → ((n : ℕ) → r ≡ Yes n → ⊥) → new ≡ old
+decide-kept image message item old new r p other = p .1 ∙ go (memberCall image message item (length old)) (p .0)
+  where
+    go : (a : Answer Decision) → paperVerdict r ≡ said a → afterMember old a ≡ old
+    go (good (met m)) e = absurd (other (length m) (paper-inj r (Yes (length m)) e))
+    go (good unmet) e = refl
+    go (refused x) e = refl
+
+-- ---- yes and no, of a register and a requirement that were read
+
+-- the map shown for a yes: it is written from the first place on, and is a threshold-respecting map in which each child goes to the lowest-numbered
+-- successor that meets it
+pub record Shows (g : Register) (q : Requirement) (item : ℕ) (old new : List ℕ) : Type 0 where
+  pub written : new ≡ sets old 0 (yesMap (judged g) q item)
+  pub map : YesShows (fulfils (judged g)) (judged g) q item
+  pub lowest : (p : List ℕ) (k role : ℕ) (t : Tree Label) → roleAt q p k ≡ some role → subtree q (p ++ k ∷ []) ≡ some t
+      → LowestOf (λ y. T (meetsBy (fulfils (judged g)) (judged g) t y)) (judged g .next (map .whole .map p) role) (map .whole .map (p ++ k ∷ []))
+
+module _ (image message : List ℕ) (item : ℕ) (old new : List ℕ) (r : Verdict) (promised : DecidePromise image message item old new r) (g : Register)
+    (q : Requirement) (ps : List Part) (eg : readRegister image ≡ good g) (em : readRequirement message ≡ good (q, ps)) (inside : item < length (g .names))
+    (fits : nodes q ≤ length old) where
+  abbrev G : Graph ℕ
+  G = judged g
+
+  decided : memberCall image message item (length old) ≡ good (decision (member G q item) (yesMap G q item))
+  decided = member-answer image message item (length old) g q ps eg em inside fits
+
+  when-met : T (member G q item) → memberCall image message item (length old) ≡ good (met (yesMap G q item))
+  when-met t = decided ∙ ap (λ (b : Bool). good (decision b (yesMap G q item))) (is-true (member G q item) t)
+
+  when-unmet : (T (member G q item) → ⊥) → memberCall image message item (length old) ≡ good unmet
+  when-unmet f = decided ∙ ap (λ (b : Bool). good (decision b (yesMap G q item))) (is-false (member G q item) f)
+
+  met-yes : T (member G q item) → r ≡ Yes (nodes q)
+  met-yes t =
+      let long = yes-shows (fulfils G) G q item t .long in
+      paper-inj r (Yes (nodes q)) (promised .0 ∙ ap said (when-met t) ∙ ap (λ (n : ℕ). good (yes n)) long)
+
+  unmet-no : (T (member G q item) → ⊥) → r ≡ No
+  unmet-no f = paper-inj r No (promised .0 ∙ ap said (when-unmet f))
+
+  apart : r ≡ Yes (nodes q) → r ≡ No → ⊥
+  apart e d = let z : _≡_ {A = Verdict} (Yes (nodes q)) No = sym e ∙ d in not-no (good-inj (ap paperVerdict z))
+
+  yes-met : r ≡ Yes (nodes q) → T (member G q item)
+  yes-met e = go (member G q item) refl
+    where
+      go : (b : Bool) → member G q item ≡ b → T b
+      go true d = tt
+      go false d = absurd (apart e (unmet-no (λ t. subst T d t)))
+
+  -- "yes exactly when a threshold-respecting map of the whole tree exists"
+  pub decide-yes : (r ≡ Yes (nodes q)) ↔ RespectingMap G q item
+  decide-yes = ((λ e. member-map G q item .0 (yes-met e)), (λ m. met-yes (member-map G q item .1 m)))
+
+  pub decide-no : (r ≡ No) ↔ (RespectingMap G q item → ⊥)
+  decide-no = ((λ e m. apart (decide-yes .1 m) e), (λ f. unmet-no (λ t. f (member-map G q item .0 t))))
+
+  pub decide-shows : Bytes image → r ≡ Yes (nodes q) → Shows g q item old new
+  decide-shows b e =
+      let t = yes-met e in
+      let shows = yes-shows (fulfils G) G q item t in
+      record {
+        written = promised .1 ∙ ap (afterMember old) (when-met t);
+        map = shows;
+        lowest = yes-lowest (fulfils G) g (read-image image g b eg .0) q item shows;
+      }
+
+  -- "for a plain requirement yes exactly when the degree is 1/1"
+  pub decide-plain : thresholdsOf q ≡ [] → (r ≡ Yes (nodes q)) ↔ (answered G (bare q) item ≡ 1 // 1)
+  decide-plain plain =
+      let one = yes-one image message item (length old) g q ps eg em inside fits plain in (
+        (λ e. whole (answered-lowest G (bare q) item) (one .0 (when-met (yes-met e)))),
+        (λ d. met-yes (met-of (one .1 (ap (λ (f : Frac). f .num) d ∙ sym (ap (λ (f : Frac). f .den) d))))),
+      )
+    where
+      met-of : memberCall image message item (length old) ≡ good (met (yesMap G q item)) → T (member G q item)
+      met-of e = go (member G q item) refl
+        where
+          go : (b : Bool) → member G q item ≡ b → T b
+          go true d = tt
+          go false d =
+              let z : unmet ≡ met (yesMap G q item) = good-inj (sym (when-unmet (λ t. subst T d t)) ∙ e) in
+              let y : _≡_ {A = ℕ} 0 1 = cc in absurd (omega arith)
+
+      whole : {p : Frac} → Lowest p (answered G (bare q) item) → answered G (bare q) item .num ≡ answered G (bare q) item .den → answered G (bare q) item ≡ 1 // 1
+      whole low e =
+          let d = answered G (bare q) item .den in
+          let at-most-one : d ≤ 1 = low .bare d (subst (λ (z : ℕ). d ∣ z) (sym e) (dvd-refl d)) (dvd-refl d) in
+          let one : d ≡ 1 = omega (arith, low .positive) in
+          ap₂ (λ (n m : ℕ). n // m) (e ∙ one) one

@@ -1,0 +1,135 @@
+// The yes/no call: it reads the image and the message, indexes the image's links, and settles.
+use meaning::Refusal;
+use meaning::Side;
+use register::Reading;
+use requirement::Message;
+ghost use mathlib.Core.Path.{_≡_};
+ghost use lib.ListN.{length};
+ghost use Rattle.meeting.specs.Case.{Settled};
+ghost use Rattle.deciding.specs.Answers.{refusedCall};
+ghost use Rattle.deciding.specs.BothRead.{Imaged, BothRead};
+ghost use Rattle.deciding.specs.Refusing.{DecidePromise};
+
+// Yes, with how many places of the map are written; no; or the refusal.
+pub enum Verdict {
+    Yes { nodes: usize },
+    No,
+    Refused { refusal: Refusal },
+}
+
+// Whether an item meets a requirement. A yes writes the map: one place for each written node. A no and a refusal write nothing.
+pub fn decide(image: &[u8], message: &[u8], item: usize, map: &mut [u16]) -> Verdict
+    ensures { λ r. ⌜ DecidePromise (now (image .entry)) (now (message .entry)) item (now (map .entry)) (now (map .exit)) r ⌝ }
+{
+    let r = register::read(image, false);
+    match r {
+        Reading::Good { items, links } => { decide_among(image, items, links, message, item, map) }
+        Reading::Refused { refusal } => Verdict::Refused { refusal },
+    }
+}
+
+// The same, of an image that was read.
+fn decide_among(
+    image: &[u8],
+    items: usize,
+    links: usize,
+    message: &[u8],
+    item: usize,
+    map: &mut [u16],
+) -> Verdict
+    requires { ⌜ Imaged (now image) items links ⌝ }
+    ensures { λ r. ⌜ DecidePromise (now (image .entry)) (now (message .entry)) item (now (map .entry)) (now (map .exit)) r ⌝ }
+{
+    let mut names = [0u64; 64];
+    let mut roles = [0u8; 64];
+    let mut ends = [0u8; 64];
+    let mut owners = [0u8; 16];
+    let mut firsts = [0u16; 16];
+    let m = requirement::read_message(
+        message,
+        &mut names,
+        &mut roles,
+        &mut ends,
+        &mut owners,
+        &mut firsts,
+    );
+    match m {
+        Message::Good { nodes, parts } => {
+            if items <= item {
+                return refused(15);
+            }
+            if map.len() < nodes {
+                return refused(16);
+            }
+            if decide_read(
+                image,
+                items,
+                links,
+                message,
+                &names,
+                &roles,
+                &ends,
+                &owners,
+                &firsts,
+                parts,
+                item,
+                map,
+            ) {
+                return Verdict::Yes { nodes };
+            }
+            Verdict::No
+        }
+        Message::Refused { refusal } => Verdict::Refused { refusal },
+    }
+}
+
+// A refusal on the call's side.
+fn refused(number: usize) -> Verdict
+    ensures { λ r. ⌜ r ≡ refusedCall number ⌝ }
+{
+    Verdict::Refused {
+        refusal: Refusal {
+            side: Side::Call,
+            number,
+            place: 0,
+        },
+    }
+}
+
+// The same, of an image and a message that were read.
+fn decide_read(
+    image: &[u8],
+    items: usize,
+    links: usize,
+    message: &[u8],
+    names: &[u64; 64],
+    roles: &[u8; 64],
+    ends: &[u8; 64],
+    owners: &[u8; 16],
+    firsts: &[u16; 16],
+    parts: usize,
+    item: usize,
+    map: &mut [u16],
+) -> bool
+    requires { ⌜ BothRead (now image) items links (now message) (now names) (now roles) (now ends) (now owners) (now firsts) parts item (length (now map)) ⌝ }
+    ensures { λ r. ⌜ ((k : BothRead (now (image .entry)) items links (now (message .entry)) (now (names .entry)) (now (roles .entry)) (now (ends .entry))
+        (now (owners .entry)) (now (firsts .entry)) parts item (length (now (map .entry))))
+        → Settled (k .register) (k .requirement) item (now (map .entry)) (now (map .exit)) r) ⌝ }
+{
+    let mut index = [0u16; 513];
+    graph::fill_index(image, items, links, &mut index);
+    meeting::settle(
+        image,
+        items,
+        &index,
+        message,
+        names,
+        roles,
+        ends,
+        owners,
+        firsts,
+        parts,
+        item,
+        map,
+    )
+}

@@ -1,0 +1,53 @@
+-- `numbered::code_of` meets its contract.
+-- Assumes nothing.
+use Prim.Native.Nat.{_+_, _*_}
+use Rattle.numbered.proofs.code_of.Statement.{statement}
+use Rattle.numbered.proofs.code_of.Tie as tie
+use Rattle.numbered.specs.Coded.{bit}
+use borrow.Author.Needs.{needs}
+use mathlib.Core.Bool.{Bool}
+use mathlib.Core.Path.{_≡_, sym, ap, _∙_}
+use native.Mathlib.Omega.{arith}
+
+mul-result : tie.Need-mul-result
+mul-result c = search needs
+
+add-result : tie.Need-add-result
+add-result c = search needs
+
+mul-result-2 : tie.Need-mul-result-2
+mul-result-2 c = search needs
+
+add-result-2 : tie.Need-add-result-2
+add-result-2 c = search needs
+
+returns : tie.Need-returns
+returns c =
+    ap (λ (b : Bool). ((c .before .args .rest) * 2 + (c .before .args .kind)) * 2 + bit b) (sym ((c .if1 .taken)))
+
+mul-result-3 : tie.Need-mul-result-3
+mul-result-3 c = search needs
+
+add-result-3 : tie.Need-add-result-3
+add-result-3 c = search needs
+
+mul-result-4 : tie.Need-mul-result-4
+mul-result-4 c = search needs
+
+returns-2 : tie.Need-returns-2
+returns-2 c =
+    (let z : ((c .before .args .rest) * 2 + (c .before .args .kind)) * 2 ≡ ((c .before .args .rest) * 2 + (c .before .args .kind)) * 2 + 0 = omega arith in z) ∙ ap (λ (b : Bool). ((c .before .args .rest) * 2 + (c .before .args .kind)) * 2 + bit b) (sym ((c .if1 .left)))
+
+pub code-of-spec : {M : Type 1} → statement M
+code-of-spec =
+    tie.close
+    (tie.spec
+    mul-result
+    add-result
+    mul-result-2
+    add-result-2
+    returns
+    mul-result-3
+    add-result-3
+    mul-result-4
+    returns-2)

@@ -1,0 +1,82 @@
+use borrow.Author.Needs.{needs}
+use Rattle.numbered.proofs.edit.Statement.{statement}
+use Rattle.numbered.proofs.edit.Tie as tie
+use mathlib.Core.Path.{refl}
+use native.Mathlib.Omega.{arith}
+use Rattle.fields.proofs.Known.{bytes-known}
+use Rattle.numbered.proofs.Faces.{face-no, face-room, face-done}
+
+edit-in-requires : tie.Need-edit-in-requires
+edit-in-requires c κs = search needs
+
+enum-known-r : tie.Need-enum-known-r
+enum-known-r c = search needs
+
+enum-known-r-2 : tie.Need-enum-known-r-2
+enum-known-r-2 c = search needs
+
+code-requires : tie.Need-code-requires
+code-requires c κs =
+    let a = c .before .before .before .before .before .before .before .before .before .args in
+    let by = bytes-known (a .s .now) (c .before .before .before .before .before .before .before .before .slice-known .given) in
+    let h = face-room (a .s .now) (a .log .now) (a .count) (a .fact) (a .adds) by _ _ (c .before .before .before .before .before .edit-in .result) (c .before .r2 .given .1) (c .before .before .before .before .before .edit-in .ensures .0) in
+    h .1
+
+mul-log : tie.Need-mul-log
+mul-log c =
+    let a = c .before .before .before .before .before .before .before .before .before .before .args in
+    let by = bytes-known (a .s .now) (c .before .before .before .before .before .before .before .before .before .slice-known .given) in
+    let h = face-room (a .s .now) (a .log .now) (a .count) (a .fact) (a .adds) by _ _ (c .before .before .before .before .before .before .edit-in .result) (c .before .before .r2 .given .1) (c .before .before .before .before .before .before .edit-in .ensures .0) in
+    omega (arith, h .0, c .before .before .before .before .before .before .before .before .before .before .good)
+
+slice-write-log : tie.Need-slice-write-log
+slice-write-log c =
+    let a = c .before .before .before .before .before .before .before .before .before .before .args in
+    let by = bytes-known (a .s .now) (c .before .before .before .before .before .before .before .before .before .slice-known .given) in
+    let h = face-room (a .s .now) (a .log .now) (a .count) (a .fact) (a .adds) by _ _ (c .before .before .before .before .before .before .edit-in .result) (c .before .before .r2 .given .1) (c .before .before .before .before .before .before .edit-in .ensures .0) in
+    h .0
+
+same-length : tie.Need-same-length
+same-length c = search needs
+
+returns : tie.Need-returns
+returns c =
+    let a = c .before .before .before .before .before .before .before .before .before .args in
+    let d = c .before .before .before .before .before .edit-in .ensures in
+    record {
+      bytes = bytes-known (a .s .now) (c .before .before .before .before .before .before .before .before .slice-known .given);
+      promised = face-no (a .s .now) (a .log .now) (a .count) (a .fact) (a .adds) _ (c .before .before .before .before .before .edit-in .result) _ (c .before .r .given .1) (d .0) (d .1);
+      handed = refl;
+    }
+
+same-length-2 : tie.Need-same-length-2
+same-length-2 c = search needs
+
+same-length-3 : tie.Need-same-length-3
+same-length-3 c = search needs
+
+returns-2 : tie.Need-returns-2
+returns-2 c =
+    let a = c .before .before .before .before .before .before .before .before .before .before .args in
+    let d = c .before .before .before .before .before .before .edit-in .ensures in
+    record {
+      bytes = bytes-known (a .s .now) (c .before .before .before .before .before .before .before .before .before .slice-known .given);
+      promised = face-done (a .s .now) (a .log .now) (a .count) (a .fact) (a .adds) _ _ (c .code .result) (c .before .before .before .before .before .before .edit-in .result) _ (c .before .before .r2 .given .1) (d .0) (d .1) (c .code .ensures);
+      handed = refl;
+    }
+
+pub edit-spec : {M : Type 1} → statement M
+edit-spec =
+    tie.close
+    (tie.spec
+    edit-in-requires
+    enum-known-r
+    enum-known-r-2
+    code-requires
+    mul-log
+    slice-write-log
+    same-length
+    returns
+    same-length-2
+    same-length-3
+    returns-2)

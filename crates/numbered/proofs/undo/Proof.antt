@@ -1,0 +1,28 @@
+use borrow.Author.Needs.{needs}
+use Rattle.numbered.proofs.undo.Statement.{statement}
+use Rattle.numbered.proofs.undo.Tie as tie
+use mathlib.Core.Path.{refl}
+use Rattle.fields.proofs.Known.{bytes-known}
+use Rattle.numbered.proofs.Codes.{undo-face}
+
+last-number-requires : tie.Need-last-number-requires
+last-number-requires c κs = search needs
+
+decode-requires : tie.Need-decode-requires
+decode-requires c κs = search needs
+
+undo-in-requires : tie.Need-undo-in-requires
+undo-in-requires c κs = search needs
+
+same-length : tie.Need-same-length
+same-length c = search needs
+
+returns : tie.Need-returns
+returns c =
+    let a = c .before .before .before .before .before .before .before .before .args in
+    let d = undo-face (a .s .now) (a .log .now) (a .count) _ _ (c .before .before .undo-in .result) _ (c .before .before .before .before .decode .ensures) (c .before .before .before .before .before .last-number .ensures) (c .before .before .undo-in .ensures) in
+    record { bytes = bytes-known (a .s .now) (c .before .before .before .before .before .before .before .slice-known .given); promised = (d .0, d .1, refl); handed = refl }
+
+pub undo-spec : {M : Type 1} → statement M
+undo-spec =
+    tie.close (tie.spec last-number-requires decode-requires undo-in-requires same-length returns)

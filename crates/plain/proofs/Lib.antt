@@ -1,0 +1,2 @@
+pub mod ReadPlain
+pub mod ReadBoth

@@ -1,0 +1,69 @@
+-- `plain::read_both` meets its contract: the register, and then the plain requirement.
+-- Assumes nothing.
+use borrow.Author.Needs.{needs}
+use Rattle.plain.proofs.read_both.Statement.{statement}
+use Rattle.plain.proofs.read_both.Tie as tie
+use Rattle.plain.proofs.ReadBoth.{register-refused, both-refused, both-good}
+
+read-requires : tie.Need-read-requires
+read-requires c κs = search needs
+
+enum-known-r : tie.Need-enum-known-r
+enum-known-r c = search needs
+
+read-plain-requires : tie.Need-read-plain-requires
+read-plain-requires c κs = search needs
+
+enum-known-p : tie.Need-enum-known-p
+enum-known-p c = search needs
+
+enum-known-p-2 : tie.Need-enum-known-p-2
+enum-known-p-2 c = search needs
+
+enum-known-r-2 : tie.Need-enum-known-r-2
+enum-known-r-2 c = search needs
+
+returns : tie.Need-returns
+returns c =
+    let at-read-plain = c .before .before .before in
+    let at-r = at-read-plain .before .before .before .before .before .before in
+    let at-read = at-r .before .before in
+    let start = at-read .before .before .before in
+    let image = start .args .image .now in
+    let message = start .args .message .now in
+    let says = at-read .read .ensures in
+    both-good image message _ says _ _ (at-r .r .given .1) _ _ (at-read-plain .read-plain .ensures) _ (c .before .p .given .1)
+
+returns-2 : tie.Need-returns-2
+returns-2 c =
+    let at-read-plain = c .before .before .before in
+    let at-r = at-read-plain .before .before .before .before .before .before in
+    let at-read = at-r .before .before in
+    let start = at-read .before .before .before in
+    let image = start .args .image .now in
+    let message = start .args .message .now in
+    let says = at-read .read .ensures in
+    both-refused image message _ says _ _ (at-r .r .given .1) _ _ (at-read-plain .read-plain .ensures) _ (c .before .p2 .given .1)
+
+returns-3 : tie.Need-returns-3
+returns-3 c =
+    let at-read = c .before .before .before in
+    let start = at-read .before .before .before in
+    let image = start .args .image .now in
+    let message = start .args .message .now in
+    let says = at-read .read .ensures in
+    register-refused image message _ says _ _ (c .before .r2 .given .1)
+
+pub read-both-spec : {M : Type 1} → statement M
+read-both-spec =
+    tie.close
+    (tie.spec
+    read-requires
+    enum-known-r
+    read-plain-requires
+    enum-known-p
+    enum-known-p-2
+    enum-known-r-2
+    returns
+    returns-2
+    returns-3)

@@ -1,0 +1,5 @@
+pub mod Walk
+pub mod Local
+pub mod Log
+pub mod Recorded
+pub mod Played

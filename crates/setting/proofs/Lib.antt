@@ -1,0 +1,6 @@
+pub mod Stores
+pub mod Place
+pub mod Parts
+pub mod Changes
+pub mod Set
+pub mod Chains

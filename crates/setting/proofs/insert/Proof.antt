@@ -1,0 +1,49 @@
+use borrow.Author.Needs.{needs}
+use Rattle.setting.proofs.insert.Statement.{statement}
+use Rattle.setting.proofs.insert.Tie as tie
+use native.Mathlib.Omega.{arith}
+use Rattle.fields.proofs.Known.{bytes-known}
+use Rattle.setting.proofs.Set.{asked-is}
+use Rattle.setting.proofs.Chains.{insert-chain}
+
+link-at-requires : tie.Need-link-at-requires
+link-at-requires c κs = search needs
+
+image-len-requires : tie.Need-image-len-requires
+image-len-requires c κs = search needs
+
+move-up-requires : tie.Need-move-up-requires
+move-up-requires c κs = search needs
+
+put-requires : tie.Need-put-requires
+put-requires c κs = search needs
+
+add-put-counts : tie.Need-add-put-counts
+add-put-counts c = search needs
+
+put-counts-requires : tie.Need-put-counts-requires
+put-counts-requires c κs = search needs
+
+same-length : tie.Need-same-length
+same-length c = search needs
+
+returns : tie.Need-returns
+returns c =
+    let a = c .before .before .before .before .before .before .before .before .before .before .before .before .before .before .before .args in
+    let p = c .before .before .before .before .before .before .before .before .before .before .before .before .before .before .before .pre in
+    λ g e l en small.
+    insert-chain (a .s .now) (bytes-known (a .s .now) (c .before .before .before .before .before .before .before .before .before .before .before .before .before .before .slice-known .given)) (a .items) (a .links) (a .k) _ _ g e (asked-is (p .0) g e)
+    (c .before .before .before .before .before .before .before .before .before .before .before .before .before .link-at .ensures) (c .before .before .before .before .before .before .before .before .before .before .before .before .image-len .ensures) _ _ _ _ l (p .1 .0) (p .1 .3) en small (c .before .before .before .before .before .before .before .before .before .before .move-up .ensures) (c .before .before .before .before .before .before .put .ensures) (c .before .before .put-counts .ensures)
+
+pub insert-spec : {M : Type 1} → statement M
+insert-spec =
+    tie.close
+    (tie.spec
+    link-at-requires
+    image-len-requires
+    move-up-requires
+    put-requires
+    add-put-counts
+    put-counts-requires
+    same-length
+    returns)

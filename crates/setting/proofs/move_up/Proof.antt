@@ -1,0 +1,68 @@
+-- `setting::move_up` meets its contract. The invariant: what stands from i on is moved.
+-- Assumes nothing.
+use Rattle.setting.proofs.move_up.Statement.{statement}
+use Rattle.setting.proofs.move_up.Tie as tie
+use mathlib.Core.Path.{_≡_, refl, sym, ap, _∙_}
+use Prim.Native.Nat.{_≤_, _-_}
+use native.Mathlib.Omega.{arith}
+use lib.ListN.{length, length-set}
+use Rattle.setting.proofs.Stores.{up, up-none, up-more}
+use borrow.Author.Needs.{needs}
+
+abbrev Inv-loop : tie.InvT-loop
+Inv-loop s₀ from end i₀ s i =
+    (from ≤ i) × (i ≤ end) × (length s ≡ length s₀) × (s ≡ up s₀ end i)
+
+abbrev μ-loop : tie.MeasureT-loop
+μ-loop s₀ from end i₀ s i =
+    i
+
+loop-holds : tie.Need-loop-holds Inv-loop μ-loop
+loop-holds c =
+    (c .pre .0, omega arith, refl, sym (up-none (c .args .s .now) (c .args .end)))
+
+sub-i : tie.Need-sub-i Inv-loop μ-loop
+sub-i c = search needs
+
+slice-read-s : tie.Need-slice-read-s Inv-loop μ-loop
+slice-read-s c =
+    omega (arith, c .before .before .loop .inv .1, c .before .before .loop .inv .2, c .before .before .before .pre .1)
+
+add-s : tie.Need-add-s Inv-loop μ-loop
+add-s c =
+    omega (arith, c .before .before .loop .inv .1, c .before .before .loop .inv .2, c .before .before .before .pre .1, c .before .before .before .good)
+
+slice-write-s : tie.Need-slice-write-s Inv-loop μ-loop
+slice-write-s c =
+    omega (arith, c .before .before .loop .inv .1, c .before .before .loop .inv .2, c .before .before .before .pre .1)
+
+loop-less : tie.Need-loop-less Inv-loop μ-loop
+loop-less c = search needs
+
+loop-again : tie.Need-loop-again Inv-loop μ-loop
+loop-again c =
+    (omega arith, omega arith, length-set (c .before .before .loop .s) _ _ ∙ c .before .before .loop .inv .2, up-more (c .before .before .before .args .s .now) (c .before .before .before .args .end) (c .before .before .loop .s) (c .before .before .loop .i) (omega (arith, c .before .loop-test .taken)) (c .before .before .loop .inv .1) (c .before .before .before .pre .1) (c .before .before .loop .inv .3))
+
+same-length : tie.Need-same-length Inv-loop μ-loop
+same-length c =
+    c .before .loop .inv .2
+
+returns : tie.Need-returns Inv-loop μ-loop
+returns c =
+    let e : c .before .loop .i ≡ c .before .before .args .from = omega (arith, c .before .loop .inv .0, c .loop-test .left) in c .before .loop .inv .3 ∙ ap (up (c .before .before .args .s .now) (c .before .before .args .end)) e
+
+pub move-up-spec : {M : Type 1} → statement M
+move-up-spec =
+    tie.close
+    (tie.spec
+    Inv-loop
+    μ-loop
+    loop-holds
+    sub-i
+    slice-read-s
+    add-s
+    slice-write-s
+    loop-less
+    loop-again
+    same-length
+    returns)

@@ -1,0 +1,34 @@
+use borrow.Author.Needs.{needs}
+use Rattle.setting.proofs.put_counts.Statement.{statement}
+use Rattle.setting.proofs.put_counts.Tie as tie
+use mathlib.Core.Path.{ap, ap₂, _∙_}
+use mathlib.Core.List.{List}
+use Prim.Native.Nat.{ℕ}
+use lib.Seq.{sets}
+use Rattle.meaning.specs.Bytes.{bytes}
+
+count-at-requires : tie.Need-count-at-requires
+count-at-requires c κs = search needs
+
+put-requires : tie.Need-put-requires
+put-requires c κs = search needs
+
+body-len-requires : tie.Need-body-len-requires
+body-len-requires c κs = search needs
+
+put-requires-2 : tie.Need-put-requires-2
+put-requires-2 c κs = search needs
+
+same-length : tie.Need-same-length
+same-length c = search needs
+
+returns : tie.Need-returns
+returns c =
+    let a = c .before .before .before .before .before .before .before .before .before .before .before .args in
+    c .before .before .put2 .ensures
+    ∙ ap₂ (λ (z : List ℕ) (n : ℕ). sets z 1 (bytes 2 n)) (c .before .before .before .before .before .before .before .put .ensures ∙ ap (λ (p : ℕ). sets (a .s .now) p (bytes 2 (a .links))) (c .before .before .before .before .before .before .before .before .count-at .ensures)) (c .before .before .before .body-len .ensures)
+
+pub put-counts-spec : {M : Type 1} → statement M
+put-counts-spec =
+    tie.close
+    (tie.spec count-at-requires put-requires body-len-requires put-requires-2 same-length returns)

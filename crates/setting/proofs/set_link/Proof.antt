@@ -1,0 +1,193 @@
+use borrow.Author.Needs.{needs}
+use Rattle.setting.proofs.set_link.Statement.{statement}
+use Rattle.setting.proofs.set_link.Tie as tie
+use mathlib.Core.Bool.{true, false}
+use native.Mathlib.Omega.{arith}
+use borrow.Author.Tests.{not-true, not-false}
+use Rattle.fields.proofs.Known.{bytes-known}
+use Rattle.setting.proofs.Set.{Looked, stands-within, place-within, set-stays, set-goes, set-full, set-tight, set-comes}
+
+number-of-requires : tie.Need-number-of-requires
+number-of-requires c κs = search needs
+
+place-of-requires : tie.Need-place-of-requires
+place-of-requires c κs = search needs
+
+stands-at-requires : tie.Need-stands-at-requires
+stands-at-requires c κs = search needs
+
+same-length : tie.Need-same-length
+same-length c = search needs
+
+returns : tie.Need-returns
+returns c =
+    let a = c .before .before .before .before .before .before .before .before .args in
+    let p = c .before .before .before .before .before .before .before .before .pre in
+    let w : Looked (a .s .now) (a .from) (a .role) (a .to) (a .items) (a .links) (c .before .before .before .before .before .before .number-of .result) (c .before .before .before .before .place-of .result) (c .before .before .stands-at .result) = record {
+      by = bytes-known (a .s .now) (c .before .before .before .before .before .before .before .slice-known .given);
+      asked = p .0;
+      from = p .1 .0;
+      role = p .1 .1;
+      to = p .1 .2;
+      numbered = c .before .before .before .before .before .before .number-of .ensures;
+      place = c .before .before .before .before .place-of .ensures;
+      stands = c .before .before .stands-at .ensures;
+    } in
+    set-stays w true (c .before .if1 .taken) (c .if2 .taken)
+
+remove-requires : tie.Need-remove-requires
+remove-requires c κs =
+    let a = c .before .before .before .before .before .before .before .before .before .args in
+    let p = c .before .before .before .before .before .before .before .before .before .pre in
+    let w : Looked (a .s .now) (a .from) (a .role) (a .to) (a .items) (a .links) (c .before .before .before .before .before .before .before .number-of .result) (c .before .before .before .before .before .place-of .result) (c .before .before .before .stands-at .result) = record {
+      by = bytes-known (a .s .now) (c .before .before .before .before .before .before .before .before .slice-known .given);
+      asked = p .0;
+      from = p .1 .0;
+      role = p .1 .1;
+      to = p .1 .2;
+      numbered = c .before .before .before .before .before .before .before .number-of .ensures;
+      place = c .before .before .before .before .before .place-of .ensures;
+      stands = c .before .before .before .stands-at .ensures;
+    } in
+    (p .0, (stands-within w (c .before .before .if1 .taken), p .1 .3, p .1 .4, p .1 .5))
+
+same-length-2 : tie.Need-same-length-2
+same-length-2 c = search needs
+
+returns-2 : tie.Need-returns-2
+returns-2 c =
+    let a = c .before .before .before .before .before .before .before .before .before .before .before .before .args in
+    let p = c .before .before .before .before .before .before .before .before .before .before .before .before .pre in
+    let w : Looked (a .s .now) (a .from) (a .role) (a .to) (a .items) (a .links) (c .before .before .before .before .before .before .before .before .before .before .number-of .result) (c .before .before .before .before .before .before .before .before .place-of .result) (c .before .before .before .before .before .before .stands-at .result) = record {
+      by = bytes-known (a .s .now) (c .before .before .before .before .before .before .before .before .before .before .before .slice-known .given);
+      asked = p .0;
+      from = p .1 .0;
+      role = p .1 .1;
+      to = p .1 .2;
+      numbered = c .before .before .before .before .before .before .before .before .before .before .number-of .ensures;
+      place = c .before .before .before .before .before .before .before .before .place-of .ensures;
+      stands = c .before .before .before .before .before .before .stands-at .ensures;
+    } in
+    set-goes w (c .before .before .before .before .before .if1 .taken) (c .before .before .before .before .if2 .left) (c .before .before .remove .ensures)
+
+same-length-3 : tie.Need-same-length-3
+same-length-3 c = search needs
+
+returns-3 : tie.Need-returns-3
+returns-3 c =
+    let a = c .before .before .before .before .before .before .before .before .args in
+    let p = c .before .before .before .before .before .before .before .before .pre in
+    let w : Looked (a .s .now) (a .from) (a .role) (a .to) (a .items) (a .links) (c .before .before .before .before .before .before .number-of .result) (c .before .before .before .before .place-of .result) (c .before .before .stands-at .result) = record {
+      by = bytes-known (a .s .now) (c .before .before .before .before .before .before .before .slice-known .given);
+      asked = p .0;
+      from = p .1 .0;
+      role = p .1 .1;
+      to = p .1 .2;
+      numbered = c .before .before .before .before .before .before .number-of .ensures;
+      place = c .before .before .before .before .place-of .ensures;
+      stands = c .before .before .stands-at .ensures;
+    } in
+    set-stays w false (c .before .if1 .left) (not-true _ (c .if3 .taken))
+
+same-length-4 : tie.Need-same-length-4
+same-length-4 c = search needs
+
+returns-4 : tie.Need-returns-4
+returns-4 c =
+    let a = c .before .before .before .before .before .before .before .before .before .args in
+    let p = c .before .before .before .before .before .before .before .before .before .pre in
+    let w : Looked (a .s .now) (a .from) (a .role) (a .to) (a .items) (a .links) (c .before .before .before .before .before .before .before .number-of .result) (c .before .before .before .before .before .place-of .result) (c .before .before .before .stands-at .result) = record {
+      by = bytes-known (a .s .now) (c .before .before .before .before .before .before .before .before .slice-known .given);
+      asked = p .0;
+      from = p .1 .0;
+      role = p .1 .1;
+      to = p .1 .2;
+      numbered = c .before .before .before .before .before .before .before .number-of .ensures;
+      place = c .before .before .before .before .before .place-of .ensures;
+      stands = c .before .before .before .stands-at .ensures;
+    } in
+    set-full w (c .before .before .if1 .left) (not-false _ (c .before .if3 .left)) (c .if4 .taken)
+
+add-image-len : tie.Need-add-image-len
+add-image-len c = search needs
+
+image-len-requires : tie.Need-image-len-requires
+image-len-requires c κs = search needs
+
+same-length-5 : tie.Need-same-length-5
+same-length-5 c = search needs
+
+returns-5 : tie.Need-returns-5
+returns-5 c =
+    let a = c .before .before .before .before .before .before .before .before .before .before .before .args in
+    let p = c .before .before .before .before .before .before .before .before .before .before .before .pre in
+    let w : Looked (a .s .now) (a .from) (a .role) (a .to) (a .items) (a .links) (c .before .before .before .before .before .before .before .before .before .number-of .result) (c .before .before .before .before .before .before .before .place-of .result) (c .before .before .before .before .before .stands-at .result) = record {
+      by = bytes-known (a .s .now) (c .before .before .before .before .before .before .before .before .before .before .slice-known .given);
+      asked = p .0;
+      from = p .1 .0;
+      role = p .1 .1;
+      to = p .1 .2;
+      numbered = c .before .before .before .before .before .before .before .before .before .number-of .ensures;
+      place = c .before .before .before .before .before .before .before .place-of .ensures;
+      stands = c .before .before .before .before .before .stands-at .ensures;
+    } in
+    set-tight w (c .before .before .before .before .if1 .left) (not-false _ (c .before .before .before .if3 .left)) (c .before .before .if4 .left) (omega (arith, c .before .image-len .ensures, c .if5 .taken))
+
+insert-requires : tie.Need-insert-requires
+insert-requires c κs =
+    let a = c .before .before .before .before .before .before .before .before .before .before .before .before .args in
+    let p = c .before .before .before .before .before .before .before .before .before .before .before .before .pre in
+    let w : Looked (a .s .now) (a .from) (a .role) (a .to) (a .items) (a .links) (c .before .before .before .before .before .before .before .before .before .before .number-of .result) (c .before .before .before .before .before .before .before .before .place-of .result) (c .before .before .before .before .before .before .stands-at .result) = record {
+      by = bytes-known (a .s .now) (c .before .before .before .before .before .before .before .before .before .before .before .slice-known .given);
+      asked = p .0;
+      from = p .1 .0;
+      role = p .1 .1;
+      to = p .1 .2;
+      numbered = c .before .before .before .before .before .before .before .before .before .before .number-of .ensures;
+      place = c .before .before .before .before .before .before .before .before .place-of .ensures;
+      stands = c .before .before .before .before .before .before .stands-at .ensures;
+    } in
+    (p .0, (place-within w, p .1 .3, c .before .before .before .if4 .left, omega (arith, c .before .before .image-len .ensures, c .before .if5 .left)))
+
+same-length-6 : tie.Need-same-length-6
+same-length-6 c = search needs
+
+returns-6 : tie.Need-returns-6
+returns-6 c =
+    let a = c .before .before .before .before .before .before .before .before .before .before .before .before .before .before .before .args in
+    let p = c .before .before .before .before .before .before .before .before .before .before .before .before .before .before .before .pre in
+    let w : Looked (a .s .now) (a .from) (a .role) (a .to) (a .items) (a .links) (c .before .before .before .before .before .before .before .before .before .before .before .before .before .number-of .result) (c .before .before .before .before .before .before .before .before .before .before .before .place-of .result) (c .before .before .before .before .before .before .before .before .before .stands-at .result) = record {
+      by = bytes-known (a .s .now) (c .before .before .before .before .before .before .before .before .before .before .before .before .before .before .slice-known .given);
+      asked = p .0;
+      from = p .1 .0;
+      role = p .1 .1;
+      to = p .1 .2;
+      numbered = c .before .before .before .before .before .before .before .before .before .before .before .before .before .number-of .ensures;
+      place = c .before .before .before .before .before .before .before .before .before .before .before .place-of .ensures;
+      stands = c .before .before .before .before .before .before .before .before .before .stands-at .ensures;
+    } in
+    set-comes w (c .before .before .before .before .before .before .before .before .if1 .left) (not-false _ (c .before .before .before .before .before .before .before .if3 .left)) (c .before .before .before .before .before .before .if4 .left) (omega (arith, c .before .before .before .before .before .image-len .ensures, c .before .before .before .before .if5 .left)) (c .before .before .insert .ensures)
+
+pub set-link-spec : {M : Type 1} → statement M
+set-link-spec =
+    tie.close
+    (tie.spec
+    number-of-requires
+    place-of-requires
+    stands-at-requires
+    same-length
+    returns
+    remove-requires
+    same-length-2
+    returns-2
+    same-length-3
+    returns-3
+    same-length-4
+    returns-4
+    add-image-len
+    image-len-requires
+    same-length-5
+    returns-5
+    insert-requires
+    same-length-6
+    returns-6)

@@ -1,0 +1,49 @@
+use borrow.Author.Needs.{needs}
+use Rattle.setting.proofs.set_name.Statement.{statement}
+use Rattle.setting.proofs.set_name.Tie as tie
+use mathlib.Core.Path.{ap, _∙_}
+use Prim.Native.Nat.{ℕ, _-_}
+use lib.Seq.{sets}
+use Rattle.meaning.specs.Bytes.{bytes}
+use Rattle.fields.proofs.Known.{bytes-known}
+use Rattle.setting.proofs.Set.{asked-is, renames, name-was}
+
+names-of-requires : tie.Need-names-of-requires
+names-of-requires c κs = search needs
+
+on-requires : tie.Need-on-requires
+on-requires c κs = search needs
+
+with-bit-requires : tie.Need-with-bit-requires
+with-bit-requires c κs = search needs
+
+names-at-requires : tie.Need-names-at-requires
+names-at-requires c κs = search needs
+
+put-requires : tie.Need-put-requires
+put-requires c κs = search needs
+
+same-length : tie.Need-same-length
+same-length c = search needs
+
+returns : tie.Need-returns
+returns c =
+    let a = c .before .before .before .before .before .before .before .before .before .before .args in
+    let set = c .before .before .before .before .before .with-bit .result in (
+      λ g e. name-was (a .item) (a .name) (c .before .before .before .before .before .before .before .names-of .result) (c .before .before .before .before .before .before .on .result) g (c .before .before .before .before .before .before .before .names-of .ensures g e) (c .before .before .before .before .before .before .on .ensures),
+      λ g e.
+          renames (a .s .now) (bytes-known (a .s .now) (c .before .before .before .before .before .before .before .before .before .slice-known .given)) (a .item) (a .name) (c .before .before .before .before .before .before .before .names-of .result) set (a .adds) _ g e (asked-is (c .before .before .before .before .before .before .before .before .before .before .pre .0) g e)
+          (c .before .before .before .before .before .before .before .names-of .ensures g e) (c .before .before .before .before .before .with-bit .ensures) (c .before .before .put .ensures ∙ ap (λ (z : ℕ). sets (a .s .now) z (bytes 8 set)) (c .before .before .before .names-at .ensures)),
+    )
+
+pub set-name-spec : {M : Type 1} → statement M
+set-name-spec =
+    tie.close
+    (tie.spec
+    names-of-requires
+    on-requires
+    with-bit-requires
+    names-at-requires
+    put-requires
+    same-length
+    returns)
