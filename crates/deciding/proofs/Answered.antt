@@ -34,7 +34,7 @@ use Rattle.requirement.specs.Message.{MessageGood, MessageOutcome, MessageDone}
 use Rattle.requirement.proofs.Places.{same-rows}
 use Rattle.deciding.specs.declared.Verdict.{Verdict}
 use Rattle.deciding.specs.declared.Verdict.the-variants.{Yes, No, Refused}
-use Rattle.member.specs.Case.{Settled}
+use Rattle.meeting.specs.Case.{Settled}
 use Rattle.deciding.specs.Answers.{yes, said, paperVerdict, refusedCall}
 use Rattle.deciding.specs.BothRead.{Imaged, BothRead}
 use Rattle.deciding.proofs.Decided.{member-answer}
