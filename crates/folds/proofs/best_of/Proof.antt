@@ -41,7 +41,7 @@ best-of-spec =
       omega arith,
       omega arith,
       λ g h. scan-pass _ (endNo g) _ _ _ _ _ _ (turn .loop .inv .2 g h) (at-loop-test .loop-test .taken) (ap (λ (z : ℕ). getD (start .args .numbers .now)
-          (start .args .at + z) 0) (at-end-of .end-of .ensures .0 g h)) (c .if1 .taken),
+          (start .args .at + z) 0) (at-end-of .end-of .ensures .0 g h)) (omega (arith, c .if1 .taken)),
     ))
     (λ c. search needs)
     (λ c.
@@ -52,6 +52,6 @@ best-of-spec =
       omega arith,
       omega arith,
       λ g h. scan-take _ (endNo g) _ _ _ _ _ _ (turn .loop .inv .2 g h) (at-loop-test .loop-test .taken) (ap (λ (z : ℕ). getD (start .args .numbers .now)
-          (start .args .at + z) 0) (at-end-of .end-of .ensures .0 g h)) (c .if1 .left),
+          (start .args .at + z) 0) (at-end-of .end-of .ensures .0 g h)) (omega (arith, c .if1 .left)),
     ))
     (λ c. λ g h. scan-end _ g _ _ _ _ (c .before .loop .inv .2 g h) (omega (arith, c .loop-test .left))))
