@@ -46,11 +46,15 @@ reduce-requires c κs =
 
 degrees-requires : tie.Need-degrees-requires
 degrees-requires c κs =
-    let start = c .before .before .before .before .before .before .before .before .before .before .before .before .before .before .before .before .before .before .before .before .before .before .before in
+    let at-reduce = c .before .before .before .before .before in
+    let at-read-concept = at-reduce .before .before .before .before .before .before .before .before in
+    let at-two = at-read-concept .before .before .before .before in
+    let at-23 = at-two .before .before .before .before .before .before in
+    let start = at-23 in
     let one = start .pre .1 .0 in
-    let len = c .before .before .before .before .before .before .before .before .before .before .before .before .before .before .before .before .before .two in
-    let rows = c .before .before .before .before .before .before .before .before .before .before .before .before .before .read-concept .ensures in
-    let marks = c .before .before .before .before .before .reduce .ensures in
+    let len = at-two .two in
+    let rows = at-read-concept .read-concept .ensures in
+    let marks = at-reduce .reduce .ensures in
     let p = start .pre .1 .1 in
     (inner-case (start .args .message .now) (start .args .first) (one .threshold) (one .stands) (len .result) (len .ensures .0) _ _ _ rows (start .pre .0) _ marks, ((p .0, p .1), p .2))
 
@@ -59,11 +63,16 @@ same-length c = search needs
 
 returns : tie.Need-returns
 returns c =
-    let start = c .before .before .before .before .before .before .before .before .before .before .before .before .before .before .before .before .before .before .before .before .before .before .before .before .before .before in
-    let len = c .before .before .before .before .before .before .before .before .before .before .before .before .before .before .before .before .before .before .before .before .two in
-    let rows = c .before .before .before .before .before .before .before .before .before .before .before .before .before .before .before .before .read-concept .ensures in
-    let marks = c .before .before .before .before .before .before .before .before .reduce .ensures in
-    λ j h st. c .before .before .degrees .ensures (inner-case (start .args .message .now) (start .args .first) h st (len .result) (len .ensures .0) _ _ _ rows j _ marks)
+    let at-degrees = c .before .before in
+    let at-reduce = at-degrees .before .before .before .before .before .before in
+    let at-read-concept = at-reduce .before .before .before .before .before .before .before .before in
+    let at-two = at-read-concept .before .before .before .before in
+    let at-26 = at-two .before .before .before .before .before .before in
+    let start = at-26 in
+    let len = at-two .two in
+    let rows = at-read-concept .read-concept .ensures in
+    let marks = at-reduce .reduce .ensures in
+    λ j h st. at-degrees .degrees .ensures (inner-case (start .args .message .now) (start .args .first) h st (len .result) (len .ensures .0) _ _ _ rows j _ marks)
 
 pub grade-spec : {M : Type 1} → statement M
 grade-spec =
