@@ -13,20 +13,29 @@ use Rattle.meaning.specs.Requirement.{Requirement}
 use Rattle.meaning.specs.Message.{Part, readRequirement}
 use Rattle.meaning.proofs.Tests.{is-true, is-false}
 use Rattle.requirement.specs.declared.Message.{Message}
-use Rattle.requirement.specs.declared.Place.{Place}
+use Rattle.requirement.specs.declared.Message.the-variants.{Good as GoodMessage, Refused as RefusedMessage}
+use Rattle.requirement.specs.Message.{paperMessage, counted}
+use Rattle.parts.specs.declared.Place.{Place}
 use Rattle.meaning.specs.Bytes.{Bytes}
 use Rattle.meaning.proofs.Message.{read-back, parts-inside}
-use Rattle.requirement.specs.Reading.{Arrays, MessageOutcome, MessageDone, placeIn, placeOf}
+use Rattle.parts.specs.Inner.{placeAmong, innerPlace}
 use Rattle.answers.specs.Numbers.{four, numbers, written, messageNumbers, placeNumbers}
 use Rattle.answers.proofs.Numbers.{nth}
 
 -- what the reader hands back has the numbers of what the document reads
-pub message-told : (s : List ℕ) (B : Arrays) (r : Message) → MessageDone s B r → messageNumbers r ≡ numbers written (readRequirement s)
-message-told s B r h = go (readRequirement s) h
+pub message-told : (s : List ℕ) (r : Message) → paperMessage r ≡ counted (readRequirement s) → messageNumbers r ≡ numbers written (readRequirement s)
+message-told s r h = told r ∙ ap (numbers pair) h ∙ same (readRequirement s)
   where
-    go : (a : Answer (Requirement × List Part)) → MessageOutcome s B a r → messageNumbers r ≡ numbers written a
-    go (good x) o = ap messageNumbers (o .answer)
-    go (refused f) o = ap messageNumbers o
+    pair : ℕ × ℕ → List ℕ
+    pair x = four 1 (x .0) (x .1) 0
+
+    told : (m : Message) → messageNumbers m ≡ numbers pair (paperMessage m)
+    told (GoodMessage n k) = refl
+    told (RefusedMessage f) = refl
+
+    same : (a : Answer (Requirement × List Part)) → numbers pair (counted a) ≡ numbers written a
+    same (good x) = refl
+    same (refused f) = refl
 
 -- no bytes are a refusal, and some are a place
 pub no-place : (p : Place) → p .len ≡ 0 → four 0 0 0 0 ≡ placeNumbers p
@@ -41,16 +50,16 @@ abbrev nowhere : Place
 nowhere = record { start = 0; len = 0 }
 
 -- a part of a message that was read has bytes
-part-found : (ps : List Part) → ((x : Part) → List·Memᴰ x ps → 10 ≤ x .len) → (k : ℕ) → placeIn k ps .len ≡ 0 → placeIn k ps ≡ nowhere
-unfolding placeIn
+part-found : (ps : List Part) → ((x : Part) → List·Memᴰ x ps → 10 ≤ x .len) → (k : ℕ) → placeAmong k ps .len ≡ 0 → placeAmong k ps ≡ nowhere
+unfolding placeAmong
 part-found [] h k e = refl
 part-found (x ∷ ps) h zero e = absurd (omega (arith, h x (List·Memᴰ·head refl)))
 part-found (x ∷ ps) h (suc k) e = part-found ps (λ y m. h y (List·Memᴰ·tail m)) k e
 
-no-bytes : (s : List ℕ) → Bytes s → (k : ℕ) → placeOf k (readRequirement s) .len ≡ 0 → placeOf k (readRequirement s) ≡ nowhere
+no-bytes : (s : List ℕ) → Bytes s → (k : ℕ) → innerPlace k (readRequirement s) .len ≡ 0 → innerPlace k (readRequirement s) ≡ nowhere
 no-bytes s b k = go (readRequirement s) refl
   where
-    go : (a : Answer (Requirement × List Part)) → readRequirement s ≡ a → placeOf k a .len ≡ 0 → placeOf k a ≡ nowhere
+    go : (a : Answer (Requirement × List Part)) → readRequirement s ≡ a → innerPlace k a .len ≡ 0 → innerPlace k a ≡ nowhere
     go (good x) e z = part-found (x .1) (λ y m. parts-inside s x (read-back s x b e) m .1) k z
     go (refused f) e z = refl
 
@@ -71,7 +80,7 @@ place-apart p q h i = go (eqb (p .len) 0) (eqb (q .len) 0) refl refl
     go false false x y e = same (nth 1 e) (nth 2 e)
 
 pub places-apart : (s t : List ℕ) → Bytes s → Bytes t → (k j : ℕ)
-    → placeNumbers (placeOf k (readRequirement s)) ≡ placeNumbers (placeOf j (readRequirement t))
-    → placeOf k (readRequirement s) ≡ placeOf j (readRequirement t)
+    → placeNumbers (innerPlace k (readRequirement s)) ≡ placeNumbers (innerPlace j (readRequirement t))
+    → innerPlace k (readRequirement s) ≡ innerPlace j (readRequirement t)
 places-apart s t b c k j e =
-    place-apart (placeOf k (readRequirement s)) (placeOf j (readRequirement t)) (no-bytes s b k) (no-bytes t c j) e
+    place-apart (innerPlace k (readRequirement s)) (innerPlace j (readRequirement t)) (no-bytes s b k) (no-bytes t c j) e

@@ -4,8 +4,8 @@ use mathlib.Core.Path.{_≡_, sym, _∙_}
 use mathlib.Core.List.{List}
 use Prim.Native.Nat.{ℕ}
 use Rattle.meaning.specs.Message.{readRequirement, innerPart}
-use Rattle.requirement.specs.declared.Place.{Place}
-use Rattle.requirement.specs.Reading.{placeOf}
+use Rattle.parts.specs.declared.Place.{Place}
+use Rattle.parts.specs.Inner.{innerPlace}
 
 module _ {A : Type 0} {v x y : A} where
   pub one : x ≡ v → y ≡ v → x ≡ y
@@ -18,10 +18,10 @@ module _ {A : Type 0} {v x y : A} where
     pub three : {C : Type 0} {i j k : C} → (x ≡ v) × (z ≡ w) × (j ≡ i) → (y ≡ v) × (u ≡ w) × (k ≡ i) → (x ≡ y) × (z ≡ u) × (j ≡ k)
     three (e, f, a) (g, h, b) = (e ∙ sym g, f ∙ sym h, a ∙ sym b)
 
--- ---- the calls of `requirement` that have no refusal of their own
+-- ---- the calls of `parts` that have no refusal of their own
 
 -- `find_inner`: place and length
-pub one-place : (s : List ℕ) (k : ℕ) (p q : Place) → p ≡ placeOf k (readRequirement s) → q ≡ placeOf k (readRequirement s) → p ≡ q
+pub one-place : (s : List ℕ) (k : ℕ) (p q : Place) → p ≡ innerPlace k (readRequirement s) → q ≡ innerPlace k (readRequirement s) → p ≡ q
 one-place s k p q e f = one e f
 
 -- `inner_part`: the bytes

@@ -13,9 +13,9 @@ use Rattle.meaning.specs.Tree.{nodes}
 use Rattle.meaning.specs.Requirement.{Requirement as RequirementTree}
 use Rattle.meaning.specs.Message.{Part}
 use Rattle.register.specs.Reading.{Counts}
-use Rattle.requirement.specs.declared.Place.{Place}
 use Rattle.requirement.specs.declared.Message.{Message}
 use Rattle.requirement.specs.declared.Message.the-variants.{Good as GoodMessage, Refused as RefusedMessage}
+use Rattle.parts.specs.declared.Place.{Place}
 use Rattle.deciding.specs.Answers.{Said, yes, no}
 use lib.IntN.{ℤ, pos, negsuc, natAbs}
 use Rattle.meaning.specs.Calls.{Against}

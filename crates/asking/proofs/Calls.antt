@@ -31,7 +31,7 @@ use Rattle.meaning.proofs.Lowest.{lowest-le}
 use Rattle.meaning.proofs.Degree.{answered-at-most-one}
 use Rattle.meaning.proofs.InPlace.{scale-in}
 use Rattle.meaning.proofs.Kept.{shown-length}
-use Rattle.degree.specs.declared.Degree.{Degree}
+use Rattle.shown.specs.declared.Degree.{Degree}
 use Rattle.fractions.specs.declared.Fraction.{Fraction}
 use Rattle.fractions.specs.declared.Signed.{Signed}
 use Rattle.plain.specs.declared.Both.{Both}
@@ -40,13 +40,13 @@ use Rattle.asking.specs.declared.Answered.{Answered}
 use Rattle.asking.specs.declared.Answered.the-variants.{Good as GoodDegree, Refused as RefusedDegree}
 use Rattle.asking.specs.declared.Margin.{Margin}
 use Rattle.asking.specs.declared.Margin.the-variants.{Good as GoodMargin, Refused as RefusedMargin}
-use Rattle.degree.specs.Case.{Case}
+use Rattle.shown.specs.Case.{Case}
 use Rattle.meaning.specs.Bounds.{mostScale, mostQ}
-use Rattle.degree.specs.Given.{drawn, Graded}
+use Rattle.shown.specs.Given.{drawn, Graded}
 use Rattle.plain.specs.Reading.{Rows, readBoth, BothGood, BothOutcome, BothDone}
 use Rattle.asking.specs.Answers.{Told, paperDegree, told, degreeRefused, paperMargin, marginRefused}
 use Rattle.asking.specs.Refusing.{DegreePromise, MarginPromise}
-use Rattle.degree.proofs.Entry.{case-of, scale-small, graded-answer}
+use Rattle.shown.proofs.Entry.{case-of, scale-small, graded-answer}
 
 abbrev bothOf : Register → Concept → Answer (Register × Concept)
 bothOf g t = good (g, t)

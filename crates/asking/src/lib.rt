@@ -47,7 +47,7 @@ pub fn degree_of(image: &[u8], message: &[u8], item: usize, map: &mut [u16]) -> 
             if map.len() < nodes {
                 return degree_refused(16);
             }
-            let d = degree::shown_at(
+            let d = shown::shown_at(
                 image,
                 items,
                 links,
@@ -99,8 +99,7 @@ pub fn margin_of(image: &[u8], message: &[u8], item: usize, p: usize, q: usize) 
             if fractions::wrong(p, q) {
                 return margin_refused(13);
             }
-            let mut map = [0u16; 64];
-            let d = degree::shown_at(
+            let d = shown::degree_at(
                 image,
                 items,
                 links,
@@ -111,7 +110,6 @@ pub fn margin_of(image: &[u8], message: &[u8], item: usize, p: usize, q: usize) 
                 0,
                 meaning::MOST_LEVELS,
                 item,
-                &mut map,
             );
             let f = fractions::lowest(d.number, d.scale);
             let m = fractions::against(f.num, f.den, p as u64, q as u64);

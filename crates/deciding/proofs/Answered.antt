@@ -6,7 +6,7 @@ use mathlib.Core.List.{List}
 use Prim.Native.Nat.{ℕ, _≤_, _<_}
 use native.Mathlib.Omega.{arith}
 use lib.Dec.{T, ltb, leb}
-use lib.ListN.{length}
+use lib.ListN.{length, getD}
 use lib.Seq.{sets}
 use Rattle.fields.specs.Head.{wrongIn}
 use Rattle.meaning.specs.declared.Refusal.{Refusal}
@@ -14,8 +14,9 @@ use Rattle.meaning.specs.Bytes.{Bytes}
 use Rattle.meaning.specs.Refusal.{Answer, good, refused, onCall, _>>=_}
 use Rattle.meaning.specs.Tree.{nodes}
 use Rattle.meaning.specs.Register.{Register, judged, readRegisterBy, readRegister}
-use Rattle.meaning.specs.Requirement.{Requirement, fulfils, member}
+use Rattle.meaning.specs.Requirement.{Requirement, bare, fulfils, member}
 use Rattle.meaning.specs.Message.{Part, readRequirement}
+use Rattle.meaning.specs.Rows.{Holds}
 use Rattle.meaning.specs.Shown.{yesMap}
 use Rattle.meaning.specs.Calls.{Decision, met, unmet, memberCall, afterMember}
 use Rattle.meaning.specs.Calls.{decide as decision}
@@ -28,7 +29,9 @@ use Rattle.register.specs.Reading.{Counts, counted}
 use Rattle.register.specs.Reading.{paper as paperReading}
 use Rattle.requirement.specs.declared.Message.{Message}
 use Rattle.requirement.specs.declared.Message.the-variants.{Good as GoodMessage, Refused as RefusedMessage}
-use Rattle.requirement.specs.Reading.{Arrays, MessageGood, MessageOutcome, MessageDone}
+use Rattle.rows.specs.Packed.{namesIn, rolesIn, endsIn, ownersIn, firstsIn}
+use Rattle.requirement.specs.Message.{MessageGood, MessageOutcome, MessageDone}
+use Rattle.requirement.proofs.Places.{same-rows}
 use Rattle.deciding.specs.declared.Verdict.{Verdict}
 use Rattle.deciding.specs.declared.Verdict.the-variants.{Yes, No, Refused}
 use Rattle.meeting.specs.Case.{Settled}
@@ -57,18 +60,18 @@ image-refused s x r e d = go (readRegister s) (sym (ap paperReading e) ∙ d)
     go (refused y) h = ap refused (sym (refused-inj h))
 
 -- a message that was read into rows as so many nodes and thresholds
-pub record Understood (s : List ℕ) (B : Arrays) (r : Message) (n parts : ℕ) : Type 0 where
+pub record Understood (s B : List ℕ) (r : Message) (n parts : ℕ) : Type 0 where
   pub requirement : Requirement
   pub places : List Part
   pub wanted : readRequirement s ≡ good (requirement, places)
   pub nodes-are : n ≡ nodes requirement
   pub parts-are : parts ≡ length places
-  pub rows : MessageGood s B requirement places r
+  pub rows : MessageGood B requirement places r
 
-pub understood : (s : List ℕ) (B : Arrays) (r : Message) (n parts : ℕ) → MessageDone s B r → r ≡ GoodMessage n parts → Understood s B r n parts
+pub understood : (s B : List ℕ) (r : Message) (n parts : ℕ) → MessageDone s B r → r ≡ GoodMessage n parts → Understood s B r n parts
 understood s B r n parts h e = go (readRequirement s) refl h
   where
-    go : (a : Answer (Requirement × List Part)) → readRequirement s ≡ a → MessageOutcome s B a r → Understood s B r n parts
+    go : (a : Answer (Requirement × List Part)) → readRequirement s ≡ a → MessageOutcome B a r → Understood s B r n parts
     go (good x) d m =
         let z : GoodMessage (nodes (x .0)) (length (x .1)) ≡ GoodMessage n parts = sym (m .answer) ∙ e in
         let en : n ≡ nodes (x .0) = cc in
@@ -76,10 +79,10 @@ understood s B r n parts h e = go (readRequirement s) refl h
         record { requirement = x .0; places = x .1; wanted = d; nodes-are = en; parts-are = ep; rows = m }
     go (refused f) d m = let z : RefusedMessage f ≡ GoodMessage n parts = sym m ∙ e in let y : _≡_ {A = ℕ} 0 1 = cc in absurd (omega arith)
 
-pub message-refused : (s : List ℕ) (B : Arrays) (r : Message) (x : Refusal) → MessageDone s B r → r ≡ RefusedMessage x → readRequirement s ≡ refused x
+pub message-refused : (s B : List ℕ) (r : Message) (x : Refusal) → MessageDone s B r → r ≡ RefusedMessage x → readRequirement s ≡ refused x
 message-refused s B r x h e = go (readRequirement s) refl h
   where
-    go : (a : Answer (Requirement × List Part)) → readRequirement s ≡ a → MessageOutcome s B a r → readRequirement s ≡ refused x
+    go : (a : Answer (Requirement × List Part)) → readRequirement s ≡ a → MessageOutcome B a r → readRequirement s ≡ refused x
     go (good y) d m =
         let z : GoodMessage (nodes (y .0)) (length (y .1)) ≡ RefusedMessage x = sym (m .answer) ∙ e in let w : _≡_ {A = ℕ} 0 1 = cc in absurd (omega arith)
     go (refused f) d m = let z : RefusedMessage f ≡ RefusedMessage x = sym m ∙ e in let w : f ≡ x = cc in d ∙ ap refused w
@@ -106,7 +109,7 @@ module _ (image message : List ℕ) (item : ℕ) (map : List ℕ) where
     unfolding memberCall
     message-unread x e = ends-refused x _ refl (took (readRegister image) _ (i .register) (i .read) ∙ stopped (readRequirement message) _ x e)
 
-    module _ {B : Arrays} {m : Message} {n parts : ℕ} (u : Understood message B m n parts) where
+    module _ {B : List ℕ} {m : Message} {n parts : ℕ} (u : Understood message B m n parts) where
       abbrev q : Requirement
       q = u .requirement
 
@@ -129,8 +132,10 @@ module _ (image message : List ℕ) (item : ℕ) (map : List ℕ) where
           ∙ stop (ltb (length map) (nodes q)) _ _ (below (length map) (nodes q) (omega (arith, u .nodes-are))))
 
       module _ (inside : item < items) (fits : n ≤ length map) where
-        abbrev pub both-read : Bytes image → BothRead image items links message (B .names) (B .roles) (B .ends) (B .parts .owners) (B .parts .firsts) parts item (length map)
-        both-read b = record {
+        -- with the arrays that stand in the rows
+        abbrev pub both-read : Bytes image → {names roles ends owners firsts : List ℕ} → names ≡ namesIn B → roles ≡ rolesIn B → ends ≡ endsIn B
+            → owners ≡ ownersIn B → firsts ≡ firstsIn B → BothRead image items links message names roles ends owners firsts parts item (length map)
+        both-read b en er ee eo ef = record {
           register = i .register;
           read = whole-buffer image (i .register) b (i .read);
           items-are = i .items-are;
@@ -140,9 +145,12 @@ module _ (image message : List ℕ) (item : ℕ) (map : List ℕ) where
           wanted = u .wanted;
           parts-are = u .parts-are;
           most = omega (arith, u .parts-are, u .rows .room);
-          tree = u .rows .tree;
+          tree = same-rows (λ n r e. Holds n r e (bare q) 17 0 (nodes q)) (sym en) (sym er) (sym ee) (u .rows .tree);
           few = u .rows .few;
-          held = u .rows .parted;
+          held = record {
+            owner = λ k l. ap (λ (z : List ℕ). getD z k 0) eo ∙ u .rows .parted .owner k l;
+            first = λ k l. ap (λ (z : List ℕ). getD z k 0) ef ∙ u .rows .parted .first k l;
+          };
           inside = inside;
           room-enough = omega (arith, u .nodes-are);
         }

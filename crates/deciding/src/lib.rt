@@ -40,19 +40,8 @@ fn decide_among(
     requires { ⌜ Imaged (now image) items links ⌝ }
     ensures { λ r. ⌜ DecidePromise (now (image .entry)) (now (message .entry)) item (now (map .entry)) (now (map .exit)) r ⌝ }
 {
-    let mut names = [0u64; 64];
-    let mut roles = [0u8; 64];
-    let mut ends = [0u8; 64];
-    let mut owners = [0u8; 16];
-    let mut firsts = [0u16; 16];
-    let m = requirement::read_message(
-        message,
-        &mut names,
-        &mut roles,
-        &mut ends,
-        &mut owners,
-        &mut firsts,
-    );
+    let mut packed = [0u64; 144];
+    let m = requirement::read_message(message, &mut packed);
     match m {
         Message::Good { nodes, parts } => {
             if items <= item {
@@ -61,6 +50,11 @@ fn decide_among(
             if map.len() < nodes {
                 return refused(16);
             }
+            let names = rows::names(&packed);
+            let roles = rows::roles(&packed);
+            let ends = rows::ends(&packed);
+            let owners = rows::owners(&packed);
+            let firsts = rows::firsts(&packed);
             if decide_read(
                 image,
                 items,

@@ -1,8 +1,4 @@
 pub mod Room
-pub mod Fill
-pub mod OnePass
-pub mod Noting
-pub mod Step
 pub mod Stands
 pub mod But
 pub mod Seeking

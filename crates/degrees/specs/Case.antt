@@ -1,16 +1,15 @@
 -- What is asked of: a register image that was read, with its index, and rows that hold a tree and are marked by the drop rule.
 -- Assumes nothing.
 use mathlib.Core.Path.{_≡_}
-use mathlib.Core.Bool.{true}
 use mathlib.Core.List.{List}
 use Prim.Native.Nat.{ℕ, zero, suc, _+_, _*_, _≤_}
-use lib.ListN.{length, getD}
+use lib.ListN.{getD}
 use Rattle.meaning.specs.Bounds.{mostNodes, mostScale}
 use Rattle.meaning.specs.Tree.{Concept}
 use Rattle.meaning.specs.InPlace.{scaleIn}
 use Rattle.meaning.specs.Rows.{Holds, Marked}
 use Rattle.graph.specs.Judged.{Judged}
-use Rattle.graph.specs.Sets.{inSet, Among}
+pub use Rattle.folds.specs.Members.{Member, Items}
 
 -- the register that the bytes begin with, and the tree at a row of at most `left` levels
 pub record Case (s : List ℕ) (items : ℕ) (index names roles ends marks : List ℕ) (node left : ℕ) : Type 0 where
@@ -20,14 +19,6 @@ pub record Case (s : List ℕ) (items : ℕ) (index names roles ends marks : Lis
   pub marked : Marked ends marks tree node
   pub few : getD ends node 0 ≤ mostNodes
   pub small : scaleIn tree ≤ mostScale
-
--- x is in the set
-abbrev pub Member : List ℕ → ℕ → Type 0
-Member set x = inSet set x ≡ true
-
--- a set of items
-abbrev pub Items : ℕ → List ℕ → Type 0
-Items items set = (length set ≡ 8) × Among items set
 
 unfoldable pub doubled : ℕ → ℕ
 doubled zero = 1

@@ -1,30 +1,16 @@
 -- What is answered, in meaning's words.
 -- Assumes nothing.
 use mathlib.Core.Path.{_≡_}
-use mathlib.Core.Bool.{false}
-use mathlib.Core.Logic.{_⊎_}
 use mathlib.Core.List.{List, List·Memᴰ}
-use mathlib.Core.Option.{some}
-use Prim.Native.Nat.{ℕ, _+_, _*_, _≤_, _<_}
-use lib.ListN.{length, getD}
+use Prim.Native.Nat.{ℕ, _+_}
+use lib.ListN.{getD}
 use Rattle.meaning.specs.Tree.{Concept}
 use Rattle.meaning.specs.Graph.{Graph}
 use Rattle.meaning.specs.Register.{Register, judged}
-use Rattle.meaning.specs.Degree.{best}
 use Rattle.meaning.specs.InPlace.{scaleIn, degreeIn}
-use Rattle.meaning.specs.Shown.{pick}
-use Rattle.graph.specs.Judged.{Judged, endNo}
+pub use Rattle.folds.specs.Folded.{rowAt, Kept, sumWith, Folding, Folded}
 use Rattle.degrees.specs.Case.{Case, Member}
-use Rattle.degrees.specs.Notes.{flag, Note, Noted, Outside}
-use Rattle.degrees.specs.declared.Best.{Best}
-
--- a row of numbers from a place on
-abbrev pub rowAt : List ℕ → ℕ → ℕ → ℕ
-rowAt numbers at x = getD numbers (at + x) 0
-
--- the places before `at` have stayed
-abbrev pub Kept : ℕ → List ℕ → List ℕ → Type 0
-Kept at old new = (i : ℕ) → i < at → getD new i 0 ≡ getD old i 0
+use Rattle.degrees.specs.Notes.{Noted, Outside}
 
 -- the degrees of the items of X, from a place on
 pub record Worked (g : Register) (t : Concept) (X : ℕ → Type 0) (at scale : ℕ) (numbers : List ℕ) : Type 0 where
@@ -42,31 +28,3 @@ pub record Done {s : List ℕ} {items : ℕ} {index names roles ends marks : Lis
 -- the successors under a role of the members of a set
 abbrev pub Below : Graph ℕ → List ℕ → ℕ → ℕ → Type 0
 Below G set role y = (x : ℕ) × Member set x × List·Memᴰ y (G .next x role)
-
--- of the links from `first` up to `end`: the greatest value of an end, and the first link whose end has it
-pub record Top (g : Register) (v : ℕ → ℕ) (ys : List ℕ) (first end : ℕ) (b : Best) : Type 0 where
-  pub value : b .value ≡ best v ys
-  pub link : first < end → (first ≤ b .link) × (b .link < end) × (pick v ys ≡ some (endNo g (b .link)))
-  pub none : end ≤ first → end ≤ b .link
-
--- ---- one child folded in at the members of a set: its numbers stand from `from` on, and the sums from `to` on
-
-abbrev pub sumWith : Graph ℕ → List ℕ → ℕ → ℕ → ℕ → ℕ → ℕ → ℕ → ℕ
-sumWith G numbers role from to scale product x = rowAt numbers to x * scale + best (rowAt numbers from) (G .next x role) * product
-
--- what is asked: the row of the child in the notes is empty, and the sums fit
-pub record Folding (s : List ℕ) (items : ℕ) (index set notes numbers : List ℕ) (role node from to scale product : ℕ) : Type 0 where
-  pub graph : Judged s items index
-  pub fits : (x : ℕ) → Member set x → sumWith (judged (graph .register)) numbers role from to scale product x < 4294967296
-  pub clear : (k : ℕ) → flag notes node k ≡ false
-  pub inside : node < 64
-  pub short : length numbers ≤ 3072
-  pub from-fits : from + 512 ≤ length numbers
-  pub to-fits : to + 512 ≤ length numbers
-  pub apart : (from + 512 ≤ to) ⊎ (to + 512 ≤ from)
-
-pub record Folded (g : Register) (set notes notes′ numbers numbers′ : List ℕ) (role node from to scale product : ℕ) : Type 0 where
-  pub sums : (x : ℕ) → Member set x → rowAt numbers′ to x ≡ sumWith (judged g) numbers role from to scale product x
-  pub noted : (x : ℕ) → Member set x → Note g notes′ node x (pick (rowAt numbers from) (judged g .next x role))
-  pub outside : Outside node (node + 1) notes notes′
-  pub kept : Kept to numbers numbers′

@@ -31,7 +31,8 @@ use Rattle.register.specs.declared.Reading.the-variants.{Good as GoodReading, R
 use Rattle.register.specs.Reading.{counted, paperReading}
 use Rattle.requirement.specs.declared.Message.{Message}
 use Rattle.requirement.specs.declared.Message.the-variants.{Good as GoodMessage, Refused as RefusedMessage}
-use Rattle.requirement.specs.Reading.{Arrays, MessageOutcome, MessageDone}
+use Rattle.requirement.specs.Message.{paperMessage}
+use Rattle.requirement.specs.Message.{counted as countedMessage}
 use Rattle.deciding.proofs.Answered.{imaged, image-refused}
 use Rattle.asking.specs.declared.Answered.{Answered}
 use Rattle.asking.specs.declared.Answered.the-variants.{Good as GoodDegree, Refused as RefusedDegree}
@@ -198,32 +199,35 @@ end-long s l = rw (le-ltb (length s) 3 l)
 
 -- ---- what was read
 
-module _ (image s : List ℕ) (n : ℕ) (B : Arrays) (r : Message) (h : MessageDone s B r) where
+module _ (image s : List ℕ) (n : ℕ) (r : Message) (h : paperMessage r ≡ countedMessage (readRequirement s)) where
   pub items-plain : (k m : ℕ) → r ≡ GoodMessage k m → m ≡ 0 → printed (listedItems image s n) ≡ printed (listed image s n [])
   unfolding listedItems _>>=_
-  items-plain k m e z = go (readRequirement s) h
+  items-plain k m e z = go (readRequirement s) (sym (ap paperMessage e) ∙ h)
     where
-      go : (a : Answer (Requirement × List Part)) → MessageOutcome s B a r → printed (a >>= λ x. listed image s n (x .1)) ≡ printed (listed image s n [])
+      go : (a : Answer (Requirement × List Part)) → good (k, m) ≡ countedMessage a → printed (a >>= λ x. listed image s n (x .1)) ≡ printed (listed image s n [])
       go (good (q, [])) o = refl
-      go (good (q, p ∷ ps)) o = let y : GoodMessage (nodes q) (suc (length ps)) ≡ GoodMessage k m = sym (o .answer) ∙ e in let w : suc (length ps) ≡ m = cc in absurd (omega arith)
-      go (refused f) o = let y : RefusedMessage f ≡ GoodMessage k m = sym o ∙ e in let w : _≡_ {A = ℕ} 0 1 = cc in absurd (omega arith)
+      go (good (q, p ∷ ps)) o = let w : m ≡ suc (length ps) = ap (λ (x : ℕ × ℕ). x .1) (good-inj o) in absurd (omega arith)
+      go (refused f) o = absurd (not-good (sym o))
 
   pub items-ruled : (k m : ℕ) → r ≡ GoodMessage k m → (m ≡ 0 → ⊥) → printed (listedItems image s n) ≡ memberHead ++ memberRows image s n
   unfolding listedItems listed _>>=_
-  items-ruled k m e z = go (readRequirement s) h
+  items-ruled k m e z = go (readRequirement s) (sym (ap paperMessage e) ∙ h)
     where
-      go : (a : Answer (Requirement × List Part)) → MessageOutcome s B a r → printed (a >>= λ x. listed image s n (x .1)) ≡ memberHead ++ memberRows image s n
-      go (good (q, [])) o = let y : GoodMessage (nodes q) 0 ≡ GoodMessage k m = sym (o .answer) ∙ e in let w : 0 ≡ m = cc in absurd (z (sym w))
+      go : (a : Answer (Requirement × List Part)) → good (k, m) ≡ countedMessage a → printed (a >>= λ x. listed image s n (x .1)) ≡ memberHead ++ memberRows image s n
+      go (good (q, [])) o = absurd (z (ap (λ (x : ℕ × ℕ). x .1) (good-inj o)))
       go (good (q, p ∷ ps)) o = refl
-      go (refused f) o = let y : RefusedMessage f ≡ GoodMessage k m = sym o ∙ e in let w : _≡_ {A = ℕ} 0 1 = cc in absurd (omega arith)
+      go (refused f) o = absurd (not-good (sym o))
 
   pub items-refused : (f : Refusal) → r ≡ RefusedMessage f → printed (listedItems image s n) ≡ refusalLine f
   unfolding listedItems _>>=_
-  items-refused f e = go (readRequirement s) h
+  items-refused f e = go (readRequirement s) (sym (ap paperMessage e) ∙ h)
     where
-      go : (a : Answer (Requirement × List Part)) → MessageOutcome s B a r → printed (a >>= λ x. listed image s n (x .1)) ≡ refusalLine f
-      go (good x) o = let y : GoodMessage (nodes (x .0)) (length (x .1)) ≡ RefusedMessage f = sym (o .answer) ∙ e in let w : _≡_ {A = ℕ} 0 1 = cc in absurd (omega arith)
-      go (refused g) o = let y : RefusedMessage g ≡ RefusedMessage f = sym o ∙ e in let same : g ≡ f = cc in ap refusalLine same
+      go : (a : Answer (Requirement × List Part)) → refused f ≡ countedMessage a → printed (a >>= λ x. listed image s n (x .1)) ≡ refusalLine f
+      go (good x) o = absurd (not-good o)
+      go (refused g) o =
+          let y : _≡_ {A = Answer (ℕ × ℕ)} (refused f) (refused g) = o in
+          let same : f ≡ g = cc in
+          ap refusalLine (sym same)
 
 module _ (image message : List ℕ) (r : Reading) (d : paperReading r ≡ counted (readRegisterBy (wrongIn false) image)) where
   pub register-good : (items links : ℕ) → Bytes image → r ≡ GoodReading items links

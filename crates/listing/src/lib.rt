@@ -114,19 +114,7 @@ fn plan_items(line: &mut [u8], image: &[u8], message: &[u8], items: usize) -> Ou
     requires { ⌜ (lineRoom ≤ length (now line)) × (items ≤ mostItems) ⌝ }
     ensures { λ r. ⌜ Opens (now (image .entry)) (now (message .entry)) (printed (listedItems (now (image .entry)) (now (message .entry)) items)) (now (line .exit)) r ⌝ }
 {
-    let mut names = [0u64; 64];
-    let mut roles = [0u8; 64];
-    let mut ends = [0u8; 64];
-    let mut owners = [0u8; 16];
-    let mut firsts = [0u16; 16];
-    let m = requirement::read_message(
-        message,
-        &mut names,
-        &mut roles,
-        &mut ends,
-        &mut owners,
-        &mut firsts,
-    );
+    let m = requirement::read(message);
     match m {
         Message::Good { nodes: _, parts } => {
             if parts == 0 {

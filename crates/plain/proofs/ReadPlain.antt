@@ -26,17 +26,20 @@ use Rattle.reduction.specs.Sizes.{Sized}
 use Rattle.reduction.proofs.Held.{held}
 use Rattle.requirement.specs.declared.Message.{Message}
 use Rattle.requirement.specs.declared.Message.the-variants.{Good as GoodMessage, Refused as RefusedMessage}
-use Rattle.requirement.specs.Reading.{Arrays, noPart, MessageGood, MessageOutcome, MessageDone}
+use Rattle.rows.specs.Packed.{namesIn, rolesIn, endsIn, firstsIn}
+use Rattle.requirement.specs.Reading.{noPart}
+use Rattle.requirement.specs.Message.{MessageGood, MessageOutcome, MessageDone}
+use Rattle.requirement.proofs.Places.{same-rows}
 use Rattle.plain.specs.declared.Plain.{Plain}
 use Rattle.plain.specs.declared.Plain.the-variants.{Good as GoodPlain, Refused as RefusedPlain}
 use Rattle.plain.specs.Reading.{Rows, rows, plainRefused, PlainOutcome, PlainDone}
 
 -- what was read, and how the rows hold it
-record Read (s : List ℕ) (B : Arrays) (m : Message) (n k : ℕ) : Type 0 where
+record Read (s B : List ℕ) (m : Message) (n k : ℕ) : Type 0 where
   tree : Requirement
   parts : List Part
   read : readRequirement s ≡ good (tree, parts)
-  held : MessageGood s B tree parts m
+  held : MessageGood B tree parts m
   written : nodes tree ≡ n
   many : length parts ≡ k
 
@@ -51,13 +54,13 @@ unfolding _>>_
 no-part [] next e = refl
 no-part (p ∷ ps) next e = absurd (omega arith)
 
-module _ (s : List ℕ) (B : Arrays) (m : Message) (done : MessageDone s B m) where
+module _ (s B : List ℕ) (m : Message) (done : MessageDone s B m) where
   -- a message's refusal is handed on
   pub plain-refused : (A : Rows) (f : Refusal) → m ≡ RefusedMessage f → PlainDone s A (RefusedPlain f)
   unfolding readPlain
   plain-refused A f e = go (readRequirement s) refl done
     where
-      go : (a : Answer (Requirement × List Part)) → readRequirement s ≡ a → MessageOutcome s B a m → PlainDone s A (RefusedPlain f)
+      go : (a : Answer (Requirement × List Part)) → readRequirement s ≡ a → MessageOutcome B a m → PlainDone s A (RefusedPlain f)
       go (good x) d o =
           let z : GoodMessage (nodes (x .0)) (length (x .1)) ≡ RefusedMessage f = sym (o .answer) ∙ e in
           let y : _≡_ {A = ℕ} 0 1 = cc in absurd (omega arith)
@@ -70,7 +73,7 @@ module _ (s : List ℕ) (B : Arrays) (m : Message) (done : MessageDone s B m) wh
     was-read : Read s B m n k
     was-read = go (readRequirement s) refl done
       where
-        go : (a : Answer (Requirement × List Part)) → readRequirement s ≡ a → MessageOutcome s B a m → Read s B m n k
+        go : (a : Answer (Requirement × List Part)) → readRequirement s ≡ a → MessageOutcome B a m → Read s B m n k
         go (good x) d o =
             let z : GoodMessage (nodes (x .0)) (length (x .1)) ≡ GoodMessage n k = sym (o .answer) ∙ e in
             let y : nodes (x .0) ≡ n = cc in
@@ -79,7 +82,7 @@ module _ (s : List ℕ) (B : Arrays) (m : Message) (done : MessageDone s B m) wh
         go (refused g) d o = let z : RefusedMessage g ≡ GoodMessage n k = sym o ∙ e in let y : _≡_ {A = ℕ} 0 1 = cc in absurd (omega arith)
 
     -- 11 at the first threshold
-    pub plain-first : 0 < k → (A : Rows) (first : ℕ) (r : Plain) → first ≡ getD (B .parts .firsts) 0 0 → r ≡ plainRefused 11 first → PlainDone s A r
+    pub plain-first : 0 < k → (A : Rows) (first : ℕ) (r : Plain) → first ≡ getD (firstsIn B) 0 0 → r ≡ plainRefused 11 first → PlainDone s A r
     unfolding readPlain
     plain-first l A first r same is =
         let w = was-read in
@@ -88,49 +91,55 @@ module _ (s : List ℕ) (B : Arrays) (m : Message) (done : MessageDone s B m) wh
         (sym (took (readRequirement s) _ (w .tree, w .parts) (w .read) ∙ first-part (w .parts) _ here))
         (is ∙ ap (plainRefused 11) (same ∙ w .held .parted .first 0 here))
 
-    pub plain-held : Held (B .names) (B .roles) (B .ends) 17 0
-    plain-held = held (B .names) (B .roles) (B .ends) 17 (bare (was-read .tree)) 0 _ (was-read .held .tree) (was-read .held .few)
-
-    module _ (none : k ≤ 0) (marks : List ℕ) (marked : MarkedWhole (B .names) (B .roles) (B .ends) marks) (v : ℕ)
-        (sized : Sized (B .names) (B .ends) 17 marks 0 v) where
+    -- the arrays that stand in the rows
+    module _ (names roles ends : List ℕ) (names-are : names ≡ namesIn B) (roles-are : roles ≡ rolesIn B) (ends-are : ends ≡ endsIn B) where
       abbrev concept : Concept
       concept = bare (was-read .tree)
 
-      stands : Holds (B .names) (B .roles) (B .ends) concept 17 0 (getD (B .ends) 0 0)
-      stands = holds-ended (B .names) (B .roles) (B .ends) concept 17 0 _ (was-read .held .tree)
+      whole : Holds names roles ends concept 17 0 (nodes (was-read .tree))
+      whole =
+          same-rows (λ n r e. Holds n r e concept 17 0 (nodes (was-read .tree))) (sym names-are) (sym roles-are) (sym ends-are) (was-read .held .tree)
 
-      ruled : Marked (B .ends) marks concept 0
-      ruled = marked .marked concept stands
+      pub plain-held : Held names roles ends 17 0
+      plain-held = held names roles ends 17 concept 0 _ whole (was-read .held .few)
 
-      small : v ≡ sizeIn concept
-      small = sized .right (B .roles) concept stands ruled
+      module _ (none : k ≤ 0) (marks : List ℕ) (marked : MarkedWhole names roles ends marks) (v : ℕ)
+          (sized : Sized names ends 17 marks 0 v) where
+        stands : Holds names roles ends concept 17 0 (getD ends 0 0)
+        stands = holds-ended names roles ends concept 17 0 _ whole
 
-      -- no threshold stands in the way of 14
-      tested : readPlain s ≡ (refuseIf (ltb mostSize (size (reduce concept))) (at requirement 14 3) >> good concept)
-      unfolding readPlain
-      tested = let w = was-read in
-          took (readRequirement s) _ (w .tree, w .parts) (w .read) ∙ no-part (w .parts) _ (omega (arith, w .many))
+        ruled : Marked ends marks concept 0
+        ruled = marked .marked concept stands
 
-      pub plain-big : mostSize < v → (A : Rows) (r : Plain) → r ≡ plainRefused 14 3 → PlainDone s A r
-      plain-big l A r is =
-          subst (λ a. PlainOutcome A a r)
-          (sym (tested ∙ stop (ltb mostSize (size (reduce concept))) _ _ (below mostSize (size (reduce concept)) (omega (arith, small, size-in concept)))))
-          is
+        small : v ≡ sizeIn concept
+        small = sized .right roles concept stands ruled
 
-      pub plain-good : v ≤ mostSize → PlainDone s (rows (B .names) (B .roles) (B .ends) marks) (GoodPlain n)
-      plain-good l =
-          let w = was-read in
-          let A = rows (B .names) (B .roles) (B .ends) marks in
-          let t : Holds (B .names) (B .roles) (B .ends) concept 17 0 (nodes (w .tree)) = w .held .tree in
-          let c : nodes concept ≡ nodes (w .tree) = omega (arith, holds-nodes (B .names) (B .roles) (B .ends) concept 17 0 _ t) in
-          subst (λ a. PlainOutcome A a (GoodPlain n))
-          (sym (tested ∙ pass (ltb mostSize (size (reduce concept))) _ _ (not-below mostSize (size (reduce concept)) (omega (arith, small, size-in concept)))))
-          (record {
-            answer = ap GoodPlain (sym (w .written) ∙ sym c);
-            held = record {
-              tree = subst (λ (z : ℕ). Holds (B .names) (B .roles) (B .ends) concept 17 0 z) (sym c) t;
-              marked = ruled;
-              few = omega (arith, w .held .few);
-              small = omega (arith, small);
-            };
-          })
+        -- no threshold stands in the way of 14
+        tested : readPlain s ≡ (refuseIf (ltb mostSize (size (reduce concept))) (at requirement 14 3) >> good concept)
+        unfolding readPlain
+        tested = let w = was-read in
+            took (readRequirement s) _ (w .tree, w .parts) (w .read) ∙ no-part (w .parts) _ (omega (arith, w .many))
+
+        pub plain-big : mostSize < v → (A : Rows) (r : Plain) → r ≡ plainRefused 14 3 → PlainDone s A r
+        plain-big l A r is =
+            subst (λ a. PlainOutcome A a r)
+            (sym (tested ∙ stop (ltb mostSize (size (reduce concept))) _ _ (below mostSize (size (reduce concept)) (omega (arith, small, size-in concept)))))
+            is
+
+        pub plain-good : v ≤ mostSize → PlainDone s (rows names roles ends marks) (GoodPlain n)
+        plain-good l =
+            let w = was-read in
+            let A = rows names roles ends marks in
+            let t : Holds names roles ends concept 17 0 (nodes (w .tree)) = whole in
+            let c : nodes concept ≡ nodes (w .tree) = omega (arith, holds-nodes names roles ends concept 17 0 _ t) in
+            subst (λ a. PlainOutcome A a (GoodPlain n))
+            (sym (tested ∙ pass (ltb mostSize (size (reduce concept))) _ _ (not-below mostSize (size (reduce concept)) (omega (arith, small, size-in concept)))))
+            (record {
+              answer = ap GoodPlain (sym (w .written) ∙ sym c);
+              held = record {
+                tree = subst (λ (z : ℕ). Holds names roles ends concept 17 0 z) (sym c) t;
+                marked = ruled;
+                few = omega (arith, w .held .few);
+                small = omega (arith, small);
+              };
+            })

@@ -64,14 +64,17 @@ pub fn read_plain(
     ensures { λ r. ⌜ PlainDone (now (message .entry))
         (rows (now (names .exit)) (now (roles .exit)) (now (ends .exit)) (now (marks .exit))) r ⌝ }
 {
-    let mut owners = [0u8; 16];
-    let mut firsts = [0u16; 16];
-    let m = requirement::read_message(message, names, roles, ends, &mut owners, &mut firsts);
+    let mut packed = [0u64; 144];
+    let m = requirement::read_message(message, &mut packed);
     match m {
         Message::Good { nodes, parts } => {
             if 0 < parts {
+                let firsts = rows::firsts(&packed);
                 return plain_refused(11, fields::pair(firsts[0]));
             }
+            *names = rows::names(&packed);
+            *roles = rows::roles(&packed);
+            *ends = rows::ends(&packed);
             reduction::reduce(names, roles, ends, marks);
             if meaning::MOST_SIZE < reduction::size(names, ends, marks, 0, meaning::MOST_LEVELS) {
                 return plain_refused(14, 3);

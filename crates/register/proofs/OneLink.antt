@@ -1,19 +1,21 @@
 -- The end of each test at a link, as the code comes to it.
 -- Assumes nothing.
-use mathlib.Core.Path.{_≡_, refl, ap, _∙_}
+use mathlib.Core.Path.{_≡_, refl, sym, ap, _∙_, subst}
 use mathlib.Core.Bool.{not}
 use mathlib.Core.List.{List, [], _∷_}
 use mathlib.Core.Option.{Option}
-use Prim.Native.Nat.{ℕ, _+_, _-_, _≤_, _<_}
+use Prim.Native.Nat.{ℕ, _+_, _*_, _-_, _/_, _%_, _≤_, _<_}
 use native.Mathlib.Omega.{arith}
 use native.Mathlib.Decide.{decLt}
 use lib.Dec.{ltb, leb}
+use lib.ListN.{getD}
 use Rattle.meaning.specs.declared.Side.the-variants.{Register as register}
 use Rattle.meaning.specs.Refusal.{Answer, good, refused, at, refuseIf, _>>=_, _>>_}
-use Rattle.meaning.specs.Bytes.{number, fields}
+use Rattle.meaning.specs.Bounds.{mostItems, mostRole}
+use Rattle.meaning.specs.Bytes.{number, fields, Bytes}
 use Rattle.meaning.specs.Register.{Link, linkAt, above, readLink}
-use Rattle.meaning.proofs.Reading.{pass, stop, stopped, halted, took, below, not-below, at-most, not-le, fitted}
-use Rattle.register.specs.Reading.{key, Floor, paperLink, keyed, cutAt}
+use Rattle.meaning.proofs.Reading.{pass, stop, stopped, halted, took, below, not-below, at-most, not-le, fitted, number-one, number-two}
+use Rattle.register.specs.Reading.{key, Floor, paperLink, keyed, Right, cutAt}
 use Rattle.register.proofs.Rising.{above-floor}
 
 module _ (s : List ℕ) (end n : ℕ) (before : Option Link) (p : ℕ) where
@@ -84,3 +86,44 @@ module _ (s : List ℕ) (end n : ℕ) (before : Option Link) (p : ℕ) where
           link-good h =
               took (readLink s end n before p) _ (linkAt s p)
               (to-order ∙ pass (not (above before (linkAt s p))) _ _ (ap not order ∙ ap not (at-most floor _ h)))
+
+-- ---- by the number alone
+
+part-to : (a r t : ℕ) → t < 65536 → ((a * 256 + r) * 65536 + t) % 65536 ≡ t
+part-to a r t l = omega arith
+
+part-role : (a r t : ℕ) → r < 256 → t < 65536 → ((a * 256 + r) * 65536 + t) / 65536 % 256 ≡ r
+part-role a r t k l = omega arith
+
+part-from : (a r t n : ℕ) → (a * 256 + r) * 65536 + t < n * 16777216 → a < n
+part-from a r t n h = omega arith
+
+module _ (s : List ℕ) where
+  -- the number of a link from its first four bytes and its last
+  pub key-parts : (front last at : ℕ) → front ≡ number s at 2 * 65536 + number s (at + 2) 2 → last ≡ number s (at + 4) 1 → front * 256 + last ≡ key (linkAt s at)
+  key-parts front last at ef el =
+      let e0 : getD s (at + 2 + 1) 0 ≡ getD s (at + 3) 0 = ap (λ (z : ℕ). getD s z 0) (omega arith) in
+      let e1 : getD s (at + 3 + 1) 0 ≡ getD s (at + 4) 0 = ap (λ (z : ℕ). getD s z 0) (omega arith) in
+      omega (arith, number-two s (at + 2), number-two s (at + 3), number-one s (at + 2), number-one s (at + 4))
+
+  module _ (b : Bytes s) where
+    two-below : (p : ℕ) → number s p 2 < 65536
+    two-below p = omega (arith, number-two s p, b p, b (p + 1))
+
+    one-below : (p : ℕ) → number s p 1 < 256
+    one-below p = omega (arith, number-one s p, b p)
+
+    -- a link whose number passes every test
+    pub link-passed : (end n p floor k : ℕ) (before : Option Link) → p + 5 ≤ end → n ≤ mostItems → k ≡ key (linkAt s p) → Right k n floor → Floor before floor
+        → good (k + 1) ≡ keyed (readLink s end n before p)
+    link-passed end n p floor k before fit few ek w fl =
+        let a = number s p 2 in
+        let r = number s (p + 2) 1 in
+        let t = number s (p + 3) 2 in
+        let er : k / 65536 % 256 ≡ r = ap (λ (z : ℕ). z / 65536 % 256) ek ∙ part-role a r t (one-below (p + 2)) (two-below (p + 3)) in
+        let et : k % 65536 ≡ t = ap (λ (z : ℕ). z % 65536) ek ∙ part-to a r t (two-below (p + 3)) in
+        let ha : a < n = part-from a r t n (subst (λ (z : ℕ). z < n * 16777216) ek (w .1)) in
+        let hr : r ≤ mostRole = subst (λ (z : ℕ). z ≤ mostRole) er (w .3) in
+        let ht : t < n = subst (λ (z : ℕ). z < n) et (w .2) in
+        let hf : floor ≤ key (linkAt s p) = subst (λ (z : ℕ). floor ≤ z) ek (w .0) in
+        ap (λ (z : ℕ). good (z + 1)) ek ∙ sym (link-good s end n before p fit ha hr ht few floor fl hf)

@@ -5,7 +5,7 @@ use mathlib.Core.Bool.{Bool, cond}
 use mathlib.Core.List.{List}
 use mathlib.Core.Option.{Option, some}
 use mathlib.Core.Option.{none as nowhere}
-use Prim.Native.Nat.{ℕ, _+_, _*_, _≤_, _<_}
+use Prim.Native.Nat.{ℕ, _+_, _*_, _/_, _%_, _≤_, _<_}
 use lib.Dec.{ltb}
 use lib.ListN.{length}
 use Rattle.meaning.specs.declared.Side.the-variants.{Register as register}
@@ -71,6 +71,14 @@ keyed a = a >>= λ l. good (key l + 1)
 abbrev pub Passed : ℕ → ℕ → Linked → Type 0
 Passed p end (GoodLink f) = p + 5 ≤ end
 Passed p end (RefusedLink k q) = Unit {0}
+
+-- a link's number passes every test, among n items
+abbrev pub Right : ℕ → ℕ → ℕ → Type 0
+Right k n floor = (floor ≤ k) × (k < n * 16777216) × (k % 65536 < n) × (k / 65536 % 256 ≤ mostRole)
+
+-- m links from place p on are read
+abbrev pub AllRead : List ℕ → ℕ → ℕ → ℕ → ℕ → Type 0
+AllRead s end n m p = (ls : List Link) × (readLinks s end n m nowhere p ≡ good ls)
 
 -- the first field of a link that does not fit into so much room
 abbrev pub cutAt : ℕ → ℕ → Linked

@@ -5,13 +5,15 @@ use fields::Head;
 use meaning::Refusal;
 use meaning::Side;
 ghost use mathlib.Core.Path.{_≡_};
+ghost use mathlib.Core.Bool.{true, false};
 ghost use mathlib.Core.Option.{Option};
 ghost use Prim.Native.Nat.{_+_, _*_, _≤_, _<_};
 ghost use lib.ListN.{length, getD};
+ghost use Rattle.meaning.specs.Bytes.{number};
 ghost use Rattle.meaning.specs.Register.{Link, linkAt, readLink, readBody};
 ghost use Rattle.meaning.specs.Bounds.{mostItems, mostLinks, mostRole};
 ghost use Rattle.register.specs.Image.{Asked, Image, linkNo, Begins};
-ghost use Rattle.register.specs.Reading.{ReadPromise, paperReading, counted, linksAnswer, refusedAt, key, Floor, paperLink, keyed, Passed, cutAt};
+ghost use Rattle.register.specs.Reading.{ReadPromise, paperReading, counted, linksAnswer, refusedAt, key, Floor, paperLink, keyed, Passed, Right, AllRead, cutAt};
 
 // An image: how many items and links it has, or its refusal.
 pub enum Reading {
@@ -77,8 +79,79 @@ fn read_body(s: &[u8], end: usize) -> Reading
     read_links(s, end, items, links, layout::link_at(items, 0))
 }
 
-// The links, and that nothing is left behind them.
+// The links, and that nothing is left behind them. Where they are not all right at once, they are read field by field, up to the fault.
 fn read_links(s: &[u8], end: usize, items: usize, links: usize, start: usize) -> Reading
+    requires { ⌜ (start ≤ end) × (end ≤ length (now s)) × (items ≤ mostItems) × (links ≤ mostLinks) ⌝ }
+    ensures { λ r. ⌜ paperReading r ≡ linksAnswer (now (s .entry)) end items links start ⌝ }
+{
+    if quick_links(s, end, items, links, start) {
+        if start + 5 * links < end {
+            return refused(8, start + 5 * links);
+        }
+        return Reading::Good { items, links };
+    }
+    slow_links(s, end, items, links, start)
+}
+
+// The number of the first four bytes of a link.
+fn four(s: &[u8], at: usize) -> usize
+    requires { ⌜ at + 4 ≤ length (now s) ⌝ }
+    ensures { λ r. ⌜ r ≡ number (now (s .entry)) at 2 * 65536 + number (now (s .entry)) (at + 2) 2 ⌝ }
+    ensures { λ r. ⌜ r < 4294967296 ⌝ }
+{
+    fields::two(s, at) * 65536 + fields::two(s, at + 2)
+}
+
+// Whether something is wrong with a link that has this number.
+fn wrong(number: usize, items: usize, floor: usize) -> bool
+    requires { ⌜ items ≤ mostItems ⌝ }
+    ensures { λ r. ⌜ (r ≡ false → Right number items floor) ⌝ }
+{
+    if number < floor {
+        return true;
+    }
+    if items * 16777216 <= number {
+        return true;
+    }
+    if items <= number % 65536 {
+        return true;
+    }
+    meaning::MOST_ROLE < number / 65536 % 256
+}
+
+// Whether all links are right, by their numbers alone: each is read in one load of four bytes and one of one, a turn before it is tested (so that the
+// compiler keeps the load whole).
+fn quick_links(s: &[u8], end: usize, items: usize, links: usize, start: usize) -> bool
+    requires { ⌜ (start ≤ end) × (end ≤ length (now s)) × (items ≤ mostItems) × (links ≤ mostLinks) ⌝ }
+    ensures { λ r. ⌜ (r ≡ true → AllRead (now (s .entry)) end items links start) ⌝ }
+{
+    if end - start < 5 {
+        return links == 0;
+    }
+    let mut i = 0;
+    let mut at = start;
+    let mut floor = 0;
+    let mut front = four(s, start);
+    let mut last = fields::one(s, start + 4);
+    while i < links {
+        let number = front * 256 + last;
+        if wrong(number, items, floor) {
+            return false;
+        }
+        floor = number + 1;
+        i += 1;
+        at += 5;
+        if end - at < 5 {
+            return i == links;
+        }
+        front = four(s, at);
+        last = fields::one(s, at + 4);
+    }
+    true
+}
+
+// The links, read field by field.
+fn slow_links(s: &[u8], end: usize, items: usize, links: usize, start: usize) -> Reading
     requires { ⌜ (start ≤ end) × (end ≤ length (now s)) × (items ≤ mostItems) × (links ≤ mostLinks) ⌝ }
     ensures { λ r. ⌜ paperReading r ≡ linksAnswer (now (s .entry)) end items links start ⌝ }
 {
@@ -204,7 +277,7 @@ fn key_at(s: &[u8], at: usize) -> usize
     requires { ⌜ at + 5 ≤ length (now s) ⌝ }
     ensures { λ r. ⌜ r ≡ key (linkAt (now (s .entry)) at) ⌝ }
 {
-    (fields::two(s, at) * 256 + fields::one(s, at + 2)) * 65536 + fields::two(s, at + 3)
+    four(s, at) * 256 + fields::one(s, at + 4)
 }
 
 // The number of its k-th link.

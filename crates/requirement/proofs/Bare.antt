@@ -73,12 +73,15 @@ module _ (s : List ℕ) (end : ℕ) where
       ∙ sym (step-over (readChildren lab s end read k (x .1)) _ bareForest))
       ∙ sym (step-over (read (passed 1 w)) _ bareForest)
       )
-      ∙ sym (test-over (fields requirement end (_∷_ 1 []) (w .next)) _ bareForest ∙ ap (λ a. fields requirement end (_∷_ 1 []) (w .next) >> a) (test-over (refuseIf (ltb 31 role) (at requirement 7 (w .next))) _ bareForest))
+      ∙ sym (
+      test-over (fields requirement end (_∷_ 1 []) (w .next)) _ bareForest
+      ∙ ap (λ a. fields requirement end (_∷_ 1 []) (w .next) >> a) (test-over (refuseIf (ltb 31 role) (at requirement 7 (w .next))) _ bareForest))
 
   pub bare-node : (left : ℕ) (w : Spot) → nodeIn false s end left w ≡ (readNode lab s end left w >>= bareTree)
   unfolding readNode relabel
   bare-node zero w =
-      sym (test-over (fields requirement end (_∷_ 8 (_∷_ 1 (_∷_ 1 []))) (w .next)) _ bareTree ∙ ap (λ a. fields requirement end (_∷_ 8 (_∷_ 1 (_∷_ 1 []))) (w .next) >> a) (refused-step _ bareTree))
+      let head = fields requirement end (_∷_ 8 (_∷_ 1 (_∷_ 1 []))) (w .next) in
+      sym (test-over head _ bareTree ∙ ap (λ a. head >> a) (refused-step _ bareTree))
   bare-node (suc left) w =
       let head = fields requirement end (_∷_ 8 (_∷_ 1 (_∷_ 1 []))) (w .next) in
       let many = refuseIf (leb mostNodes (w .nodes)) (at requirement 10 (w .next)) in

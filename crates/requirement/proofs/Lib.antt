@@ -2,9 +2,9 @@ pub mod Same
 pub mod Outcomes
 pub mod Nodes
 pub mod Thresholds
+pub mod Places
+pub mod Holding
 pub mod Cycle
 pub mod Bare
 pub mod Whole
-pub mod Inner
-pub mod Concept
 pub mod Turns

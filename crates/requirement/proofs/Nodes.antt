@@ -1,14 +1,12 @@
 -- Reading a node and its children: each end, as the code comes to it.
 -- Assumes nothing.
-use mathlib.Core.Path.{_≡_, refl, sym, ap, _∙_, subst}
+use mathlib.Core.Path.{_≡_, refl, sym, ap, _∙_}
 use mathlib.Core.Bool.{Bool, true, false, _&&_, cond}
 use mathlib.Core.List.{List, [], _∷_}
 use Prim.Native.Nat.{ℕ, zero, suc, _+_, _-_, _≤_, _<_}
 use native.Mathlib.Decide.{decLt}
 use native.Mathlib.Omega.{arith}
 use lib.Dec.{ltb, leb}
-use lib.ListN.{length, getD, set}
-use lib.Seq.{getD-set-same, getD-set-other}
 use Rattle.meaning.specs.declared.Side.the-variants.{Requirement as requirement}
 use Rattle.meaning.specs.declared.Refusal.{Refusal}
 use Rattle.meaning.specs.Refusal.{Answer, good, refused, at, _>>=_, _>>_}
@@ -16,10 +14,8 @@ use Rattle.meaning.specs.Bytes.{number, fields}
 use Rattle.meaning.specs.Tree.{node, Forest, none, more, Concept}
 use Rattle.meaning.specs.Requirement.{Threshold}
 use Rattle.meaning.specs.Message.{Part, Spot, entered, readChildren, readNode, noThresholds, readThresholds, withThresholds}
-use Rattle.meaning.specs.Rows.{Holds, HoldsF}
 use Rattle.meaning.proofs.Reading.{good-inj, not-good, le-of-not-below, pass, stop, stopped, halted, took, below, not-below, at-most, not-le, fitted}
-use Rattle.requirement.specs.Reading.{spot, Arrays, Parted, RowsKept, NodeHeld, ForestHeld, labelIn, nodeIn, childrenIn}
-use Rattle.requirement.proofs.Same.{tree-some, tree-same, forest-same}
+use Rattle.requirement.specs.Reading.{spot, labelIn, nodeIn, childrenIn}
 
 suc-of : (k : ℕ) → 0 < k → suc (k - 1) ≡ k
 suc-of k h = omega arith
@@ -164,61 +160,3 @@ module _ (inner : Bool) (s : List ℕ) (end p n : ℕ) (ps : List Part) where
       pub rest-good : (y : Forest ℕ × Spot) → childrenIn inner s end left (k - 1) (x .1) ≡ good y
           → childrenIn inner s end left k w ≡ good (more (number s p 1) (x .0) (y .0), y .1)
       rest-good y d = to-child ∙ took (nodeIn inner s end left (spot (p + 1) n ps)) _ x e ∙ took (childrenIn inner s end left (k - 1) (x .1)) _ y d
-
--- ---- what the rows hold
-
-pub ends-at : (B : Arrays) (left n m : ℕ) (t : Concept) → Holds (B .names) (B .roles) (B .ends) t left n m → getD (B .ends) n 0 ≡ m
-unfolding Holds
-ends-at B left n m (node a f) h = h .3
-
--- rows kept in two steps
-pub kept-trans : (n m : ℕ) (A B C : Arrays) → n ≤ m → RowsKept n A B → RowsKept m B C → RowsKept n A C
-kept-trans n m A B C l h k = record {
-  names = λ i b. k .names i (omega arith) ∙ h .names i b;
-  roles = λ i b. k .roles i (omega arith) ∙ h .roles i b;
-  ends = λ i b. k .ends i (omega arith) ∙ h .ends i b;
-}
-
--- a child, and the others behind it
-pub forest-held : (B C : Arrays) (left role n m e : ℕ) (t : Concept) (f : Forest ℕ) → NodeHeld B left role n t m → RowsKept m B C → HoldsF (C .names) (C .roles) (C .ends) f left m e → m ≤ e
-    → ForestHeld C left n (more role t f) e
-unfolding Holds
-forest-held B C left role n m e t f h k g l =
-    let some′ = tree-some (B .names) (B .roles) (B .ends) t left n m (h .tree) in
-    let last = ends-at B left n m t (h .tree) in
-    let same : getD (C .ends) n 0 ≡ m = k .ends n some′ ∙ last in
-    let here = tree-same (B .names) (B .roles) (B .ends) (C .names) (C .roles) (C .ends) t left n m (λ i a b. k .names i b) (λ i a b. k .roles i b) (λ i a b. k .ends i b) (h .tree) in (
-      k .roles n some′ ∙ h .under,
-      omega arith,
-      subst (λ (z : ℕ). Holds (C .names) (C .roles) (C .ends) t left n z) (sym same) here,
-      subst (λ (z : ℕ). HoldsF (C .names) (C .roles) (C .ends) f left z e) (sym same) g,
-    )
-
--- a node over its children
-module _ (N R E : List ℕ) (n a role : ℕ) (small : n < length N) (small′ : n < length R) where
-  pub node-held : (C : Arrays) (left m : ℕ) (f : Forest ℕ) (p q : Parted) → 0 < left → n < length (C .ends) → n + 1 ≤ m
-      → RowsKept (n + 1) (record { names = set N n a; roles = set R n role; ends = E; parts = p }) C
-      → HoldsF (C .names) (C .roles) (C .ends) f (left - 1) (n + 1) m
-      → NodeHeld (record { names = C .names; roles = C .roles; ends = set (C .ends) n m; parts = q }) left role n (node a f) m
-  unfolding Holds
-  node-held C left m f p q l b u k h = record {
-    tree = (
-      l,
-      omega arith,
-      k .names n (omega arith) ∙ getD-set-same N n a 0 small,
-      getD-set-same (C .ends) n m 0 b,
-      forest-same (C .names) (C .roles) (C .ends) (C .names) (C .roles) (set (C .ends) n m) f (left - 1) (n + 1) m (λ i x y. refl) (λ i x y. refl)
-          (λ i x y. getD-set-other (C .ends) n i m 0 (λ e. let z : i ≡ n = e in omega arith)) h,
-    );
-    under = k .roles n (omega arith) ∙ getD-set-same R n role 0 small′;
-    some′ = omega arith;
-  }
-
-  pub node-kept : (C : Arrays) (m : ℕ) (p q o : Parted)
-      → RowsKept (n + 1) (record { names = set N n a; roles = set R n role; ends = E; parts = p }) C
-      → RowsKept n (record { names = N; roles = R; ends = E; parts = q }) (record { names = C .names; roles = C .roles; ends = set (C .ends) n m; parts = o })
-  node-kept C m p q o k = record {
-    names = λ i b. k .names i (omega arith) ∙ getD-set-other N n i a 0 (λ e. let z : i ≡ n = e in omega arith);
-    roles = λ i b. k .roles i (omega arith) ∙ getD-set-other R n i role 0 (λ e. let z : i ≡ n = e in omega arith);
-    ends = λ i b. getD-set-other (C .ends) n i m 0 (λ e. let z : i ≡ n = e in omega arith) ∙ k .ends i (omega arith);
-  }

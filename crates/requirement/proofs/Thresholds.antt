@@ -1,15 +1,13 @@
 -- Reading thresholds and their inner concepts: each end, as the code comes to it.
 -- Assumes nothing.
-use mathlib.Core.Path.{_≡_, refl, sym, ap, _∙_}
+use mathlib.Core.Path.{_≡_, refl, sym, ap, _∙_, subst}
 use mathlib.Core.Bool.{Bool, true, false, _&&_, not, cond}
 use mathlib.Core.List.{List, [], _∷_, _++_}
 use Prim.Native.Nat.{ℕ, zero, suc, _+_, _-_, _≤_, _<_}
 use native.Mathlib.Decide.{decLt}
 use native.Mathlib.Omega.{arith}
-use lib.Dec.{ltb, leb, leb→le}
-use lib.ListN.{length, getD, set, length-append}
-use lib.ListN.{List·getD-append as getD-append}
-use lib.Seq.{getD-set-same, getD-set-other, getD-append-seam}
+use lib.Dec.{T, T-not, ltb, leb, leb→le}
+use lib.ListN.{length}
 use Rattle.meaning.specs.declared.Side.the-variants.{Requirement as requirement}
 use Rattle.meaning.specs.declared.Refusal.{Refusal}
 use Rattle.meaning.specs.Refusal.{Answer, good, refused, at, refuseIf, _>>=_, _>>_}
@@ -20,9 +18,10 @@ use Rattle.meaning.specs.Reduce.{reduce, size}
 use Rattle.meaning.specs.Bounds.{mostSize}
 use Rattle.meaning.specs.Requirement.{Threshold}
 use Rattle.meaning.specs.Message.{Part, Spot, comparison, readInner, readThreshold, readThresholds}
-use Rattle.meaning.proofs.Tests.{holds, is-true, and-both}
+use Rattle.meaning.proofs.Tests.{holds, is-true, is-false, of-not, and-both}
 use Rattle.meaning.proofs.Reading.{pass, stop, stopped, halted, took, below, not-below, at-most, not-le, fitted}
-use Rattle.requirement.specs.Reading.{spot, parted, noPart, PartsHeld, nodeIn, wholeInner}
+use Rattle.requirement.specs.Reading.{spot, nodeIn, wholeInner}
+use Rattle.requirement.specs.Fixed.{lawfulAt}
 
 -- ---- one after the other
 
@@ -134,15 +133,12 @@ module _ (s : List ℕ) (end owner p n : ℕ) (ps : List Part) where
       abbrev low : Bool
       low = lawful (number s (p + 1) 2) (number s (p + 3) 2)
 
-      abbrev rule : Bool
-      rule = compared && low
-
       abbrev ruled : {B : Type 0} → Answer B → Answer B
       ruled k =
           refuseIf (ltb 3 (number s p 1)) (at requirement 13 p)
           >> (fraction (at requirement 13 p) (number s (p + 1) 2) (number s (p + 3) 2) >> k)
 
-      broken : {B : Type 0} (k : Answer B) → rule ≡ false → ruled k ≡ refused (at requirement 13 p)
+      broken : {B : Type 0} (k : Answer B) → lawfulAt s p ≡ false → ruled k ≡ refused (at requirement 13 p)
       broken k e = go (decLt 3 (number s p 1))
         where
           go : Dec (3 < number s p 1) → ruled k ≡ refused (at requirement 13 p)
@@ -151,17 +147,17 @@ module _ (s : List ℕ) (end owner p n : ℕ) (ps : List Part) where
               pass (ltb 3 (number s p 1)) _ _ (not-below 3 (number s p 1) (omega arith))
               ∙ stop (not low) _ _ (ap not (ap (λ (b : Bool). b && low) (sym (at-most (number s p 1) 3 (omega arith))) ∙ e))
 
-      kept-rule : {B : Type 0} (k : Answer B) → rule ≡ true → ruled k ≡ k
+      kept-rule : {B : Type 0} (k : Answer B) → lawfulAt s p ≡ true → ruled k ≡ k
       kept-rule k e =
           let c = and-both compared low (holds e) in
           pass (ltb 3 (number s p 1)) _ _ (not-below 3 (number s p 1) (leb→le (number s p 1) 3 (c .0)))
           ∙ pass (not low) _ _ (ap not (is-true low (c .1)))
 
-      pub threshold-rule : rule ≡ false → readThreshold s end owner w ≡ refused (at requirement 13 p)
+      pub threshold-rule : lawfulAt s p ≡ false → readThreshold s end owner w ≡ refused (at requirement 13 p)
       unfolding readThreshold
       threshold-rule e = open-room _ ∙ whole _ ∙ broken _ e
 
-      module _ (kept : rule ≡ true) where
+      module _ (kept : lawfulAt s p ≡ true) where
         abbrev len : ℕ
         len = number s (p + 5) 2
 
@@ -197,23 +193,23 @@ module _ (s : List ℕ) (end owner p n : ℕ) (ps : List Part) where
             pub threshold-good : (x : Concept × Spot) → wholeInner s (p + 7 + len) (p + 7) ≡ good x → readThreshold s end owner w ≡ good (threshold (x .0), after)
             threshold-good x e = to-inner ∙ took (wholeInner s (p + 7 + len) (p + 7)) _ x e
 
--- ---- what the rows hold
+-- ---- the comparison, p and q as code tests them
 
--- one threshold more, in either array
-one-more : (g : Part → ℕ) (L : List ℕ) (ps : List Part) (x : Part) → length ps < length L → ((k : ℕ) → k < length ps → getD L k 0 ≡ g (getD ps k noPart))
-    → (k : ℕ) → k < length (ps ++ (x ∷ [])) → getD (set L (length ps) (g x)) k 0 ≡ g (getD (ps ++ (x ∷ [])) k noPart)
-one-more g L ps x a h k l = go (decLt k (length ps))
-  where
-    go : Dec (k < length ps) → getD (set L (length ps) (g x)) k 0 ≡ g (getD (ps ++ (x ∷ [])) k noPart)
-    go (yes m) =
-        getD-set-other L (length ps) k (g x) 0 (λ e. let z : k ≡ length ps = e in omega arith) ∙ h k m ∙ ap g (sym (getD-append ps (x ∷ []) noPart k m))
-    go (no m) =
-        let e : k ≡ length ps = omega (arith, length-append ps (x ∷ [])) in
-        rw e (getD-set-same L (length ps) (g x) 0 a ∙ ap g (sym (getD-append-seam ps x [] noPart)))
+module _ (s : List ℕ) (p x y : ℕ) (bad : Bool) (ex : x ≡ number s (p + 1) 2) (ey : y ≡ number s (p + 3) 2) (is : bad ≡ not (lawful x y)) (small : number s p 1 ≤ 3) where
+  abbrev ok : Bool
+  ok = lawful (number s (p + 1) 2) (number s (p + 3) 2)
 
-pub parts-more : (O F : List ℕ) (ps : List Part) (x : Part) → length ps < length O → length ps < length F → PartsHeld (parted O F) ps
-    → PartsHeld (parted (set O (length ps) (x .owner)) (set F (length ps) (x .first))) (ps ++ (x ∷ []))
-parts-more O F ps x a b h = record {
-  owner = one-more (λ y. y .owner) O ps x a (h .owner);
-  first = one-more (λ y. y .first) F ps x b (h .first);
-}
+  law : bad ≡ not ok
+  law = rw (ex, ey) at is
+
+  whole-rule : lawfulAt s p ≡ ok
+  whole-rule = ap (λ (b : Bool). b && ok) (at-most (number s p 1) 3 small)
+
+  pub rule-kept : bad ≡ false → lawfulAt s p ≡ true
+  rule-kept e = whole-rule ∙ is-true ok (of-not ok (sym law ∙ e))
+
+  pub rule-broken : bad ≡ true → lawfulAt s p ≡ false
+  rule-broken e = whole-rule ∙ is-false ok (T-not ok (subst T (sym e ∙ law) tt))
+
+pub rule-above : (s : List ℕ) (p : ℕ) → 3 < number s p 1 → lawfulAt s p ≡ false
+rule-above s p h = ap (λ (b : Bool). b && lawful (number s (p + 1) 2) (number s (p + 3) 2)) (not-le (number s p 1) 3 h)

@@ -14,14 +14,18 @@ use Rattle.meaning.specs.Bytes.{Bytes, readHead, unequal}
 use Rattle.meaning.proofs.Head.{read-head}
 use Rattle.meaning.specs.Tree.{Tree, node, Forest, none, more, Concept, nodes, nodesF, relabel, relabelF}
 use Rattle.meaning.specs.Requirement.{Label, Requirement, bare}
-use Rattle.meaning.specs.Message.{Spot, readNode, withThresholds, readRequirement}
+use Rattle.meaning.specs.Message.{Part, Spot, readNode, withThresholds, readRequirement}
 use Rattle.meaning.specs.Rows.{Holds, HoldsF}
 use Rattle.meaning.proofs.Reading.{number-below, pass, stop, stopped, took, taken, below, not-below, good-inj}
-use Rattle.requirement.specs.declared.Read.{Read}
-use Rattle.requirement.specs.declared.Read.the-variants.{Good, Refused}
+use Rattle.requirement.specs.declared.Reached.{Reached}
+use Rattle.requirement.specs.declared.Reached.the-variants.{Good, Refused}
+use Rattle.requirement.specs.declared.Message.{Message}
 use Rattle.requirement.specs.declared.Message.the-variants.{Good as GoodMessage}
-use Rattle.requirement.specs.Reading.{spot, Arrays, PartsHeld, nodeIn, Outcome, ReadGood, NodeHeld, NodeDone, refusedAt, MessageOutcome, MessageDone}
+use Rattle.rows.specs.Packed.{namesIn, rolesIn, endsIn}
+use Rattle.requirement.specs.Reading.{spot, PartsHeld, nodeIn, Outcome, ReadGood, NodeHeld, NodeDone}
+use Rattle.requirement.specs.Message.{refusedAt, MessageOutcome, MessageDone, paperMessage, counted}
 use Rattle.requirement.proofs.Outcomes.{outcome-refused, outcome-good}
+use Rattle.requirement.proofs.Places.{no-parts}
 use Rattle.requirement.proofs.Bare.{names, bareTree, bare-node}
 
 -- a tree without its thresholds has as many nodes
@@ -51,17 +55,17 @@ module _ (N R E : List ℕ) where
 pub head-short : (s : List ℕ) (end : ℕ) → Bytes s → readHead requirement unequal s ≡ good end → end ≤ 65538
 head-short s end b e = let h = read-head requirement unequal s end e in omega (arith, h .ends, number-below s 1 2 b)
 
-module _ (s : List ℕ) (B : Arrays) where
+module _ (s : List ℕ) (B : List ℕ) where
   pub head-refused : (k q : ℕ) → readHead requirement unequal s ≡ refused (at requirement k q) → MessageDone s B (refusedAt k q)
   unfolding readRequirement
-  head-refused k q e = subst (λ a. MessageOutcome s B a (refusedAt k q)) (sym (stopped (readHead requirement unequal s) _ _ e)) refl
+  head-refused k q e = subst (λ a. MessageOutcome B a (refusedAt k q)) (sym (stopped (readHead requirement unequal s) _ _ e)) refl
 
-  module _ (A : Arrays) (end : ℕ) (h : readHead requirement unequal s ≡ good end) (r : Read) (done : NodeDone false s end 17 0 3 0 0 A B r) where
+  module _ (A : List ℕ) (end : ℕ) (h : readHead requirement unequal s ≡ good end) (r : Reached) (done : NodeDone false s end 17 0 3 0 0 A B r) where
     abbrev tree : Answer (Tree Label × Spot)
     tree = readNode (withThresholds s end) s end 17 (spot 3 0 [])
 
-    abbrev here : Outcome (NodeHeld B 17 0 0) end 3 0 0 A B (nodeIn false s end 17 (spot 3 0 [])) r
-    here = done [] refl (record { owner = λ k l. absurd (omega arith); first = λ k l. absurd (omega arith) })
+    abbrev here : Outcome (NodeHeld B 17 0 0) end 3 0 A B (nodeIn false s end 17 (spot 3 0 [])) r
+    here = done [] refl (no-parts A)
 
     tree-refused : (a : Answer (Tree Label × Spot)) (e : Refusal) → (a >>= bareTree) ≡ refused e → a ≡ refused e
     unfolding _>>=_
@@ -71,14 +75,14 @@ module _ (s : List ℕ) (B : Arrays) where
     pub whole-refused : (k q : ℕ) → r ≡ Refused k q → MessageDone s B (refusedAt k q)
     unfolding readRequirement
     whole-refused k q e =
-        let d = outcome-refused (NodeHeld B 17 0 0) end 3 0 0 A B (nodeIn false s end 17 (spot 3 0 [])) r k q here e in
+        let d = outcome-refused (NodeHeld B 17 0 0) end 3 0 A B (nodeIn false s end 17 (spot 3 0 [])) r k q here e in
         let f = tree-refused tree _ (sym (bare-node s end 17 (spot 3 0 [])) ∙ d) in
-        subst (λ a. MessageOutcome s B a (refusedAt k q)) (sym (took (readHead requirement unequal s) _ end h ∙ stopped tree _ _ f)) refl
+        subst (λ a. MessageOutcome B a (refusedAt k q)) (sym (took (readHead requirement unequal s) _ end h ∙ stopped tree _ _ f)) refl
 
     module _ (i j m : ℕ) (e : r ≡ Good i j m) where
-      x : (x : Concept × Spot) × (nodeIn false s end 17 (spot 3 0 []) ≡ good x) × ReadGood (NodeHeld B 17 0 0) end 3 0 0 A B (x .0) (x .1) r
+      x : (x : Concept × Spot) × (nodeIn false s end 17 (spot 3 0 []) ≡ good x) × ReadGood (NodeHeld B 17 0 0) end 3 0 A B (x .0) (x .1) r
           × (x .1 .next ≡ i) × (x .1 .nodes ≡ j) × (length (x .1 .parts) ≡ m)
-      x = outcome-good (NodeHeld B 17 0 0) end 3 0 0 A B (nodeIn false s end 17 (spot 3 0 [])) r i j m here e
+      x = outcome-good (NodeHeld B 17 0 0) end 3 0 A B (nodeIn false s end 17 (spot 3 0 [])) r i j m here e
 
       y : (y : Tree Label × Spot) × (tree ≡ good y) × (bareTree y ≡ good (x .0))
       y = taken tree bareTree (sym (bare-node s end 17 (spot 3 0 [])) ∙ x .1)
@@ -93,7 +97,7 @@ module _ (s : List ℕ) (B : Arrays) where
       unfolding readRequirement
       whole-left l =
           let n : y .0 .1 .next ≡ i = ap (λ (z : Spot). z .next) spots ∙ x .3 in
-          subst (λ a. MessageOutcome s B a (refusedAt 8 i))
+          subst (λ a. MessageOutcome B a (refusedAt 8 i))
           (sym (took (readHead requirement unequal s) _ end h ∙ took tree _ (y .0) (y .1) ∙ stop (ltb (y .0 .1 .next) end) _ _ (below (y .0 .1 .next) end (omega arith))))
           (ap (λ (k : ℕ). refusedAt 8 k) (sym n))
 
@@ -101,15 +105,25 @@ module _ (s : List ℕ) (B : Arrays) where
       unfolding readRequirement
       whole-good l =
           let n : y .0 .1 .next ≡ i = ap (λ (z : Spot). z .next) spots ∙ x .3 in
-          let held = subst (λ (t : Concept). Holds (B .names) (B .roles) (B .ends) t 17 0 j) (ap (λ (z : Concept × Spot). z .0) (sym same)) (subst (λ (k : ℕ). Holds (B .names) (B .roles) (B .ends) (x .0 .0) 17 0 k) (x .4) (x .2 .held .tree)) in
-          let rows : j ≡ nodes (y .0 .0) = tree-rows (B .names) (B .roles) (B .ends) (bare (y .0 .0)) 17 0 j held ∙ omega (arith, bare-nodes (y .0 .0)) in
+          let tree′ = subst (λ (k : ℕ). Holds (namesIn B) (rolesIn B) (endsIn B) (x .0 .0) 17 0 k) (x .4) (x .2 .held .tree) in
+          let held = subst (λ (t : Concept). Holds (namesIn B) (rolesIn B) (endsIn B) t 17 0 j) (ap (λ (z : Concept × Spot). z .0) (sym same)) tree′ in
+          let rows : j ≡ nodes (y .0 .0) = tree-rows (namesIn B) (rolesIn B) (endsIn B) (bare (y .0 .0)) 17 0 j held ∙ omega (arith, bare-nodes (y .0 .0)) in
           let ps : y .0 .1 .parts ≡ x .0 .1 .parts = ap (λ (z : Spot). z .parts) spots in
-          subst (λ a. MessageOutcome s B a (GoodMessage j m))
+          subst (λ a. MessageOutcome B a (GoodMessage j m))
           (sym (took (readHead requirement unequal s) _ end h ∙ took tree _ (y .0) (y .1) ∙ pass (ltb (y .0 .1 .next) end) _ _ (not-below (y .0 .1 .next) end (omega arith))))
           (record {
             answer = ap (λ (k : ℕ). GoodMessage k m) rows ∙ ap (λ (k : ℕ). GoodMessage (nodes (y .0 .0)) k) (sym (ap length ps ∙ x .5));
-            tree = subst (λ (k : ℕ). Holds (B .names) (B .roles) (B .ends) (bare (y .0 .0)) 17 0 k) rows held;
+            tree = subst (λ (k : ℕ). Holds (namesIn B) (rolesIn B) (endsIn B) (bare (y .0 .0)) 17 0 k) rows held;
             few = omega (arith, x .2 .further .few, x .4);
             room = omega (arith, x .2 .further .room, ap length ps);
-            parted = subst (PartsHeld (B .parts)) (sym ps) (x .2 .parted);
+            parted = subst (PartsHeld B) (sym ps) (x .2 .parted);
           })
+
+-- ---- without the rows
+
+pub message-counted : (s B : List ℕ) (r : Message) → MessageDone s B r → paperMessage r ≡ counted (readRequirement s)
+message-counted s B r h = go (readRequirement s) h
+  where
+    go : (a : Answer (Requirement × List Part)) → MessageOutcome B a r → paperMessage r ≡ counted a
+    go (good x) m = ap paperMessage (m .answer)
+    go (refused e) m = ap paperMessage m

@@ -1,1 +1,3 @@
 pub mod Reading
+pub mod Fixed
+pub mod Message

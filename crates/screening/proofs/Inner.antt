@@ -24,10 +24,14 @@ use Rattle.meaning.proofs.Bound.{scale-bound}
 use Rattle.meaning.proofs.InPlace.{scale-in, degree-in}
 use Rattle.reduction.specs.Held.{Held}
 use Rattle.reduction.specs.Marks.{MarkedWhole}
-use Rattle.requirement.specs.Reading.{Here, ConceptDone}
+use Rattle.rows.specs.Packed.{namesIn, rolesIn, endsIn}
+use Rattle.requirement.specs.Reading.{Here}
+use Rattle.requirement.proofs.Places.{same-rows}
+use Rattle.parts.specs.Inner.{ConceptDone}
 use Rattle.graph.specs.Judged.{Judged}
 use Rattle.graph.specs.Sets.{inSet}
-use Rattle.degrees.specs.Case.{Case, Member}
+use Rattle.folds.specs.Members.{Member}
+use Rattle.degrees.specs.Case.{Case}
 use Rattle.degrees.specs.Given.{Worked}
 use Rattle.screening.specs.Sifting.{Sifted}
 use Rattle.screening.specs.Standing.{StandsAt}
@@ -37,9 +41,14 @@ pub scale-small : (t : Concept) → size (reduce t) ≤ mostSize → scaleIn t �
 scale-small t h = rw (← scale-in t) (scale-bound (reduce t) h)
 
 -- the bytes of the inner concept lie in the message
-pub inner-here : (s : List ℕ) (p : ℕ) (h : Threshold) → StandsAt s p h → (len : ℕ) → len ≡ number s (p + 5) 2 → Here s (p + 7 + len) (p + 7) 0 0
+pub inner-here : (s : List ℕ) (p : ℕ) (h : Threshold) → StandsAt s p h → (len : ℕ) → len ≡ number s (p + 5) 2 → Here s (p + 7 + len) (p + 7)
 inner-here s p h c len e =
-    record { before = omega arith; inside = omega (arith, c .inside); short = omega (arith, c .inside, c .short); few = omega arith; room = omega arith }
+    record { before = omega arith; inside = omega (arith, c .inside); short = omega (arith, c .inside, c .short) }
+
+-- the arrays that stand in the rows
+pub concept-arrays : (s : List ℕ) (stop p : ℕ) (B : List ℕ) {names roles ends : List ℕ} → names ≡ namesIn B → roles ≡ rolesIn B → ends ≡ endsIn B
+    → ConceptDone s stop p (namesIn B) (rolesIn B) (endsIn B) → ConceptDone s stop p names roles ends
+concept-arrays s stop p B en er ee done = same-rows (λ n r e. ConceptDone s stop p n r e) (sym en) (sym er) (sym ee) done
 
 module _ (s : List ℕ) (p : ℕ) (h : Threshold) (c : StandsAt s p h) (len : ℕ) (e : len ≡ number s (p + 5) 2) (names roles ends : List ℕ)
     (done : ConceptDone s (p + 7 + len) (p + 7) names roles ends) where

@@ -12,7 +12,7 @@ ghost use Rattle.meaning.specs.Register.{judged};
 ghost use Rattle.meaning.specs.Requirement.{Threshold, passes};
 ghost use Rattle.graph.specs.Judged.{Judged};
 ghost use Rattle.graph.specs.Sets.{inSet, Among};
-ghost use Rattle.degrees.specs.Case.{Member};
+ghost use Rattle.folds.specs.Members.{Member};
 ghost use Rattle.degrees.specs.Given.{Worked};
 ghost use Rattle.screening.specs.Sifting.{Sifted, Retained};
 ghost use Rattle.screening.specs.Standing.{StandsAt, OneStands, AllStand, ruledAt};
@@ -91,13 +91,14 @@ fn grade(
     ensures { λ r. ⌜ ((j : Judged (now (s .entry)) items (now (index .entry))) (h : Threshold) → StandsAt (now (message .entry)) first h
         → Worked (j .register) (h .inner) (Member (now (set .entry))) 0 r (now (numbers .exit))) ⌝ }
 {
-    let mut names = [0u64; 64];
-    let mut roles = [0u8; 64];
-    let mut ends = [0u8; 64];
+    let mut packed = [0u64; 144];
     let mut marks = [0u8; 64];
     let at = first + 7;
     let stop = at + fields::two(message, first + 5);
-    requirement::read_concept(message, at, stop, &mut names, &mut roles, &mut ends);
+    parts::read_concept(message, at, stop, &mut packed);
+    let names = rows::names(&packed);
+    let roles = rows::roles(&packed);
+    let ends = rows::ends(&packed);
     reduction::reduce(&names, &roles, &ends, &mut marks);
     degrees::degrees(s, items, index, &names, &roles, &ends, &marks, set, numbers)
 }

@@ -12,7 +12,7 @@ use Rattle.meaning.specs.Calls.{degreeCall, afterDegree, marginCall, memberCall
 use Rattle.meaning.specs.Session.{openCall, editCall, undoCall, keepCall, noSteps, counted, bufferOpened, bufferAfter}
 use Rattle.fields.specs.Head.{wrongIn}
 use Rattle.register.specs.Reading.{counted as countedItems}
-use Rattle.requirement.specs.Reading.{placeOf}
+use Rattle.parts.specs.Inner.{innerPlace}
 use Rattle.asking.specs.Answers.{told}
 use Rattle.deciding.specs.Answers.{said}
 use Rattle.session.specs.Calls.{anEdit}
@@ -28,7 +28,7 @@ abbrev pub RequirementPromise : List ℕ → List ℕ → Type 0
 RequirementPromise message l = l ≡ numbers written (readRequirement message)
 
 abbrev pub InnerPromise : List ℕ → ℕ → List ℕ → Type 0
-InnerPromise message k l = l ≡ placeNumbers (placeOf k (readRequirement message))
+InnerPromise message k l = l ≡ placeNumbers (innerPlace k (readRequirement message))
 
 -- ---- asking, with the map before and after
 

@@ -25,19 +25,7 @@ pub extern "C" fn svelgandur_read_register(image: &[u8], session: u64, answer: &
 pub extern "C" fn svelgandur_read_requirement(message: &[u8], answer: &mut [u64; 4])
     ensures { λ _. ⌜ RequirementPromise (now (message .entry)) (now (answer .exit)) ⌝ }
 {
-    let mut names = [0u64; 64];
-    let mut roles = [0u8; 64];
-    let mut ends = [0u8; 64];
-    let mut owners = [0u8; 16];
-    let mut firsts = [0u16; 16];
-    let r = requirement::read_message(
-        message,
-        &mut names,
-        &mut roles,
-        &mut ends,
-        &mut owners,
-        &mut firsts,
-    );
+    let r = requirement::read(message);
     answers::of_message(answer, r);
 }
 
@@ -47,6 +35,6 @@ pub extern "C" fn svelgandur_read_requirement(message: &[u8], answer: &mut [u64;
 pub extern "C" fn svelgandur_inner_part(message: &[u8], k: u64, answer: &mut [u64; 4])
     ensures { λ _. ⌜ InnerPromise (now (message .entry)) k (now (answer .exit)) ⌝ }
 {
-    let p = requirement::find_inner(message, k as usize);
+    let p = parts::find_inner(message, k as usize);
     answers::of_place(answer, p);
 }

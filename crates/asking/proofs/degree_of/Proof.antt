@@ -5,7 +5,7 @@ use Rattle.asking.proofs.degree_of.Statement.{statement}
 use Rattle.asking.proofs.degree_of.Tie as tie
 use native.Mathlib.Omega.{arith}
 use Rattle.fields.proofs.Known.{bytes-known}
-use Rattle.degree.proofs.Entry.{graded-fits}
+use Rattle.shown.proofs.Entry.{graded-fits}
 use Rattle.asking.proofs.Calls.{degree-stopped, case, room, degree-no-item, degree-no-room, degree-answer}
 
 read-both-requires : tie.Need-read-both-requires
@@ -73,7 +73,7 @@ lowest-requires c κs =
     let done = at-read-both .read-both .ensures in
     let told = at-b .b .given .1 in
     let k = case image message item _ _ done _ _ _ told (bytes-known image (at-shared-slice-known .shared-slice-known .given)) in
-    graded-fits (k .register) (k .tree) item _ (c .before .before .shown-at .ensures .0 k) .0
+    graded-fits (k .register) (k .tree) item _ (c .before .before .shown-at .ensures k .0) .0
 
 enum-known-b-2 : tie.Need-enum-known-b-2
 enum-known-b-2 c = search needs
@@ -96,8 +96,8 @@ returns-3 c =
     let done = at-read-both .read-both .ensures in
     let told = at-b .b .given .1 in
     let k = case image message item _ _ done _ _ _ told (bytes-known image (at-shared-slice-known .shared-slice-known .given)) in
-    degree-answer image message item _ _ done _ _ _ told (omega (arith, at-if1 .if1 .left)) _ _ (omega (arith, at-if2 .if2 .left)) _ _ (at-shown-at .shown-at .ensures .0 k)
-    (c .lowest .ensures) (at-shown-at .shown-at .ensures .1 k)
+    degree-answer image message item _ _ done _ _ _ told (omega (arith, at-if1 .if1 .left)) _ _ (omega (arith, at-if2 .if2 .left)) _ _ (at-shown-at .shown-at .ensures k .0)
+    (c .lowest .ensures) (at-shown-at .shown-at .ensures k .1)
 
 returns-4 : tie.Need-returns-4
 returns-4 c =

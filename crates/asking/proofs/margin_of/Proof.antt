@@ -5,7 +5,7 @@ use Rattle.asking.proofs.margin_of.Statement.{statement}
 use Rattle.asking.proofs.margin_of.Tie as tie
 use native.Mathlib.Omega.{arith}
 use Rattle.fields.proofs.Known.{bytes-known}
-use Rattle.degree.proofs.Entry.{graded-fits}
+use Rattle.shown.proofs.Entry.{graded-fits}
 use Rattle.asking.proofs.Calls.{margin-stopped, case, margin-no-item, margin-no-threshold, margin-small, margin-answer}
 
 read-both-requires : tie.Need-read-both-requires
@@ -49,12 +49,9 @@ returns-2 c =
     margin-no-threshold image message item _ _ done _ _ _ told (omega (arith, at-if1 .if1 .left)) (start .args .p) (start .args .q) _ (c .before .before .wrong .ensures)
     (c .before .if2 .taken) (c .margin-refused2 .result) (search needs)
 
-slice-aggregate-shown-at : tie.Need-slice-aggregate-shown-at
-slice-aggregate-shown-at c = search needs
-
-shown-at-requires : tie.Need-shown-at-requires
-shown-at-requires c κs =
-    let at-if1 = c .before .before .before .before .before .before .before in
+degree-at-requires : tie.Need-degree-at-requires
+degree-at-requires c κs =
+    let at-if1 = c .before .before .before .before .before .before in
     let at-b = at-if1 .before .before in
     let at-read-both = at-b .before .before in
     let at-shared-slice-known = at-read-both .before .before .before .before .before .before in
@@ -65,11 +62,11 @@ shown-at-requires c κs =
     let done = at-read-both .read-both .ensures in
     let told = at-b .b .given .1 in
     let k = case image message item _ _ done _ _ _ told (bytes-known image (at-shared-slice-known .shared-slice-known .given)) in
-    (k, (k .few, omega (arith, at-if1 .if1 .left)))
+    (k, omega (arith, at-if1 .if1 .left))
 
 lowest-requires : tie.Need-lowest-requires
 lowest-requires c κs =
-    let at-b = c .before .before .before .before .before .before .before .before .before .before .before in
+    let at-b = c .before .before .before .before .before .before .before .before .before in
     let at-read-both = at-b .before .before in
     let at-shared-slice-known = at-read-both .before .before .before .before .before .before in
     let start = at-shared-slice-known .before in
@@ -79,11 +76,11 @@ lowest-requires c κs =
     let done = at-read-both .read-both .ensures in
     let told = at-b .b .given .1 in
     let k = case image message item _ _ done _ _ _ told (bytes-known image (at-shared-slice-known .shared-slice-known .given)) in
-    graded-fits (k .register) (k .tree) item _ (c .before .shown-at .ensures .0 k) .0
+    graded-fits (k .register) (k .tree) item _ (c .degree-at .ensures k) .0
 
 against-requires : tie.Need-against-requires
 against-requires c κs =
-    let at-if2 = c .before .before .before .before .before .before .before .before in
+    let at-if2 = c .before .before .before .before .before .before in
     let at-wrong = at-if2 .before in
     let at-b = at-wrong .before .before .before in
     let at-read-both = at-b .before .before in
@@ -95,15 +92,15 @@ against-requires c κs =
     let done = at-read-both .read-both .ensures in
     let told = at-b .b .given .1 in
     let k = case image message item _ _ done _ _ _ told (bytes-known image (at-shared-slice-known .shared-slice-known .given)) in
-    margin-small image message item _ _ done _ _ _ told _ _ _ (at-wrong .wrong .ensures) (at-if2 .if2 .left) _ _ (c .before .before .shown-at .ensures .0 k) (c .lowest .ensures)
+    margin-small image message item _ _ done _ _ _ told _ _ _ (at-wrong .wrong .ensures) (at-if2 .if2 .left) _ _ (c .before .degree-at .ensures k) (c .lowest .ensures)
 
 enum-known-b-2 : tie.Need-enum-known-b-2
 enum-known-b-2 c = search needs
 
 returns-3 : tie.Need-returns-3
 returns-3 c =
-    let at-shown-at = c .before .before .before .before in
-    let at-if2 = at-shown-at .before .before .before .before .before .before in
+    let at-degree-at = c .before .before .before in
+    let at-if2 = at-degree-at .before .before .before .before .before in
     let at-wrong = at-if2 .before in
     let at-if1 = at-wrong .before in
     let at-b = at-if1 .before .before in
@@ -117,7 +114,7 @@ returns-3 c =
     let told = at-b .b .given .1 in
     let k = case image message item _ _ done _ _ _ told (bytes-known image (at-shared-slice-known .shared-slice-known .given)) in
     let rule = at-wrong .wrong .ensures in
-    let graded = at-shown-at .shown-at .ensures .0 k in
+    let graded = at-degree-at .degree-at .ensures k in
     let low = c .before .before .lowest .ensures in
     margin-answer image message item _ _ done _ _ _ told _ _ _ rule (at-if2 .if2 .left) _ _ graded low (omega (arith, at-if1 .if1 .left))
     _ (c .before .against .ensures .0) (c .before .against .ensures .1)
@@ -144,8 +141,7 @@ margin-of-spec =
     wrong-requires
     margin-refused-requires-2
     returns-2
-    slice-aggregate-shown-at
-    shown-at-requires
+    degree-at-requires
     lowest-requires
     against-requires
     enum-known-b-2

@@ -10,10 +10,10 @@ use Rattle.degrees.proofs.+others+reach+work.Lts-reach as reach-lts
 use Rattle.degrees.proofs.work.Reads as work
 use Rattle.degrees.proofs.work.Kinds as work-kinds
 use Rattle.degrees.proofs.+others+reach+work.Lts-work as work-lts
-use Rattle.degrees.proofs.alone.Reads as alone-reads
-use Rattle.degrees.proofs.fold.Reads as fold-reads
+use Rattle.folds.proofs.alone.Reads as alone-reads
+use Rattle.folds.proofs.fold.Reads as fold-reads
 use Rattle.degrees.proofs.heaviest.Reads as heaviest-reads
-use Rattle.degrees.proofs.own.Reads as own-reads
+use Rattle.folds.proofs.own.Reads as own-reads
 use Rattle.degrees.proofs.passed.Reads as passed-reads
 use Rattle.fields.proofs.octet.Reads as octet-reads
 use Rattle.fields.proofs.quad.Reads as quad-reads

@@ -7,7 +7,7 @@ use Rattle.degrees.proofs.work.Reads as work-reads
 use native.Mathlib.Omega.{arith}
 use lib.ListN.{length}
 use Rattle.degrees.proofs.Room.{room-start}
-use Rattle.degrees.proofs.Noting.{clear-none}
+use Rattle.folds.proofs.Noting.{clear-none}
 
 -- src/lib.rt:410:9
 array-borrow-prefix-notes : tie.Need-array-borrow-prefix-notes

@@ -1,6 +1,7 @@
 -- `list::main` meets its contract: the buffer has its size.
 -- Assumes nothing.
 use borrow.Author.Needs.{needs}
+use native.Mathlib.Omega.{arith}
 use Rattle.list.proofs.main.Statement.{statement}
 use Rattle.list.proofs.main.Tie as tie
 
@@ -23,7 +24,7 @@ slice-aggregate-print : tie.Need-slice-aggregate-print
 slice-aggregate-print c = search needs
 
 print-requires : tie.Need-print-requires
-print-requires c κs = search needs
+print-requires c κs = (omega arith, omega arith)
 
 slice-aggregate-fail-2 : tie.Need-slice-aggregate-fail-2
 slice-aggregate-fail-2 c = search needs

@@ -9,30 +9,15 @@ use Rattle.listing.proofs.Items.{items-plain, items-ruled, items-refuse
 use Rattle.listing.proofs.Pieces.{begins, opens, opens-as, opens-line}
 use native.Mathlib.Omega.{arith}
 
-slice-aggregate-read-message : tie.Need-slice-aggregate-read-message
-slice-aggregate-read-message c = search needs
-
-slice-aggregate-read-message-2 : tie.Need-slice-aggregate-read-message-2
-slice-aggregate-read-message-2 c = search needs
-
-slice-aggregate-read-message-3 : tie.Need-slice-aggregate-read-message-3
-slice-aggregate-read-message-3 c = search needs
-
-slice-aggregate-read-message-4 : tie.Need-slice-aggregate-read-message-4
-slice-aggregate-read-message-4 c = search needs
-
-slice-aggregate-read-message-5 : tie.Need-slice-aggregate-read-message-5
-slice-aggregate-read-message-5 c = search needs
-
-read-message-requires : tie.Need-read-message-requires
-read-message-requires c κs = search needs
+read-requires : tie.Need-read-requires
+read-requires c κs = search needs
 
 enum-known-m : tie.Need-enum-known-m
 enum-known-m c = search needs
 
 plan-degrees-requires : tie.Need-plan-degrees-requires
 plan-degrees-requires c κs =
-    let start = c .before .before .before .before .before .before .before .before .before .before .before .before .before .before .before .before .before .before .before in
+    let start = c .before .before .before .before .before .before .before .before .before in
     start .pre
 
 same-length : tie.Need-same-length
@@ -42,8 +27,8 @@ returns : tie.Need-returns
 returns c =
     let at-if1 = c .before .before .before .before in
     let at-m = at-if1 .before .before in
-    let at-read-message = at-m .before .before .before .before .before .before .before in
-    let all = items-plain _ _ _ _ _ (at-read-message .read-message .ensures) _ _ (at-m .m .given .1) (at-if1 .if1 .taken) in
+    let at-read = at-m .before .before in
+    let all = items-plain _ _ _ _ (at-read .read .ensures) _ _ (at-m .m .given .1) (at-if1 .if1 .taken) in
     opens-as all (c .before .before .plan-degrees .ensures)
 
 slice-aggregate-put-word : tie.Need-slice-aggregate-put-word
@@ -51,7 +36,7 @@ slice-aggregate-put-word c = search needs
 
 put-word-requires : tie.Need-put-word-requires
 put-word-requires c κs =
-    let start = c .before .before .before .before .before .before .before .before .before .before .before .before .before .before .before .before .before .before .before .before in
+    let start = c .before .before .before .before .before .before .before .before .before .before in
     omega (arith, start .pre .0)
 
 enum-known-m-2 : tie.Need-enum-known-m-2
@@ -59,7 +44,7 @@ enum-known-m-2 c = search needs
 
 only-requires : tie.Need-only-requires
 only-requires c κs =
-    let start = c .before .before .before .before .before .before .before .before .before .before .before .before .before .before .before .before .before .before in
+    let start = c .before .before .before .before .before .before .before .before in
     omega (arith, start .pre .0)
 
 same-length-2 : tie.Need-same-length-2
@@ -70,9 +55,9 @@ returns-2 c =
     let at-put-word = c .before .before in
     let at-if1 = at-put-word .before .before .before in
     let at-m = at-if1 .before .before in
-    let at-read-message = at-m .before .before .before .before .before .before .before in
-    let start = at-read-message .before .before .before .before .before .before .before .before .before in
-    let all = items-ruled _ _ _ _ _ (at-read-message .read-message .ensures) _ _ (at-m .m .given .1) (at-if1 .if1 .left) in
+    let at-read = at-m .before .before in
+    let start = at-read .before .before .before .before in
+    let all = items-ruled _ _ _ _ (at-read .read .ensures) _ _ (at-m .m .given .1) (at-if1 .if1 .left) in
     opens _ _ _ _ memberHead _ (begins (at-put-word .put-word .ensures) (omega (arith, start .pre .0, at-put-word .put-word .ensures .next))) (start .pre .1) refl all
 
 same-length-3 : tie.Need-same-length-3
@@ -82,20 +67,15 @@ returns-3 : tie.Need-returns-3
 returns-3 c =
     let at-only = c .before .before in
     let at-m2 = at-only .before .before .before in
-    let at-read-message = at-m2 .before .before .before .before .before .before .before in
-    let all = items-refused _ _ _ _ _ (at-read-message .read-message .ensures) _ (at-m2 .m2 .given .1) in
+    let at-read = at-m2 .before .before in
+    let all = items-refused _ _ _ _ (at-read .read .ensures) _ (at-m2 .m2 .given .1) in
     opens-as all (opens-line _ _ _ _ _ (at-only .only .ensures .0) (at-only .only .ensures .1) (at-only .only .ensures .2))
 
 pub plan-items-spec : {M : Type 1} → statement M
 plan-items-spec =
     tie.close
     (tie.spec
-    slice-aggregate-read-message
-    slice-aggregate-read-message-2
-    slice-aggregate-read-message-3
-    slice-aggregate-read-message-4
-    slice-aggregate-read-message-5
-    read-message-requires
+    read-requires
     enum-known-m
     plan-degrees-requires
     same-length

@@ -3,20 +3,27 @@
 use borrow.Author.Needs.{needs}
 use Rattle.plain.proofs.read_plain.Statement.{statement}
 use Rattle.plain.proofs.read_plain.Tie as tie
+use mathlib.Core.Path.{ap, _∙_}
+use mathlib.Core.List.{List}
+use Prim.Native.Nat.{ℕ}
+use lib.ListN.{getD}
 use native.Mathlib.Omega.{arith}
 use Rattle.plain.proofs.ReadPlain.{plain-refused, plain-first, plain-held, plain-big, plain-good}
 
 slice-aggregate-read-message : tie.Need-slice-aggregate-read-message
 slice-aggregate-read-message c = search needs
 
-slice-aggregate-read-message-2 : tie.Need-slice-aggregate-read-message-2
-slice-aggregate-read-message-2 c = search needs
-
 read-message-requires : tie.Need-read-message-requires
 read-message-requires c κs = search needs
 
 enum-known-m : tie.Need-enum-known-m
 enum-known-m c = search needs
+
+slice-aggregate-firsts : tie.Need-slice-aggregate-firsts
+slice-aggregate-firsts c = search needs
+
+firsts-requires : tie.Need-firsts-requires
+firsts-requires c κs = search needs
 
 array-read-pair : tie.Need-array-read-pair
 array-read-pair c = search needs
@@ -29,33 +36,55 @@ plain-refused-requires c κs = search needs
 
 returns : tie.Need-returns
 returns c =
-    let at-m = c .before .before .before .before in
-    let at-read-message = at-m .before .before .before .before in
-    let start = at-read-message .before .before .before .before .before .before .before in
-    let message = start .args .message .now in
-    let done = at-read-message .read-message .ensures in
-    let told = at-m .m .given .1 in
-    plain-first message _ _ done _ _ told (omega (arith, c .before .before .if1 .taken)) _ _ _ (c .before .pair .ensures .0) (search needs)
+    let at-if1 = c .before .before .before .before in
+    let at-m = at-if1 .before .before in
+    let at-read-message = at-m .before .before .before in
+    let start = at-read-message .before .before .before in
+    let first = c .before .pair .ensures .0 ∙ ap (λ (l : List ℕ). getD l 0 0) (c .before .before .firsts .ensures) in
+    plain-first (start .args .message .now) _ _ (at-read-message .read-message .ensures) _ _ (at-m .m .given .1) (omega (arith, at-if1 .if1 .taken)) _ _ _ first (search needs)
+
+slice-aggregate-names : tie.Need-slice-aggregate-names
+slice-aggregate-names c = search needs
+
+names-requires : tie.Need-names-requires
+names-requires c κs = search needs
+
+slice-aggregate-roles : tie.Need-slice-aggregate-roles
+slice-aggregate-roles c = search needs
+
+roles-requires : tie.Need-roles-requires
+roles-requires c κs = search needs
+
+slice-aggregate-ends : tie.Need-slice-aggregate-ends
+slice-aggregate-ends c = search needs
+
+ends-requires : tie.Need-ends-requires
+ends-requires c κs = search needs
 
 reduce-requires : tie.Need-reduce-requires
 reduce-requires c κs =
-    let at-m = c .before .before .before .before .before .before in
-    let at-read-message = at-m .before .before .before .before in
-    let start = at-read-message .before .before .before .before .before .before .before in
-    let message = start .args .message .now in
-    let done = at-read-message .read-message .ensures in
-    let told = at-m .m .given .1 in
-    plain-held message _ _ done _ _ told
+    let at-ends = c .before .before .before .before in
+    let at-roles = at-ends .before .before in
+    let at-names = at-roles .before .before in
+    let at-m = at-names .before .before .before .before in
+    let at-read-message = at-m .before .before .before in
+    let start = at-read-message .before .before .before in
+    plain-held (start .args .message .now) _ _ (at-read-message .read-message .ensures) _ _ (at-m .m .given .1) _ _ _ (at-names .names .ensures) (at-roles .roles .ensures)
+    (at-ends .ends .ensures)
 
 size-requires : tie.Need-size-requires
 size-requires c κs =
-    let at-m = c .before .before .before .before .before .before .before .before .before .before in
-    let at-read-message = at-m .before .before .before .before in
-    let start = at-read-message .before .before .before .before .before .before .before in
-    let message = start .args .message .now in
-    let done = at-read-message .read-message .ensures in
-    let told = at-m .m .given .1 in
-    record { roles = _; held = plain-held message _ _ done _ _ told }
+    let at-ends = c .before .before .before .before .before .before .before .before in
+    let at-roles = at-ends .before .before in
+    let at-names = at-roles .before .before in
+    let at-m = at-names .before .before .before .before in
+    let at-read-message = at-m .before .before .before in
+    let start = at-read-message .before .before .before in
+    record {
+      roles = _;
+      held = plain-held (start .args .message .now) _ _ (at-read-message .read-message .ensures) _ _ (at-m .m .given .1) _ _ _ (at-names .names .ensures)
+          (at-roles .roles .ensures) (at-ends .ends .ensures);
+    }
 
 plain-refused-requires-2 : tie.Need-plain-refused-requires-2
 plain-refused-requires-2 c κs = search needs
@@ -63,16 +92,15 @@ plain-refused-requires-2 c κs = search needs
 returns-2 : tie.Need-returns-2
 returns-2 c =
     let at-reduce = c .before .before .before .before .before .before in
-    let at-if1 = at-reduce .before .before .before .before .before in
+    let at-ends = at-reduce .before .before .before .before .before in
+    let at-roles = at-ends .before .before in
+    let at-names = at-roles .before .before in
+    let at-if1 = at-names .before .before in
     let at-m = at-if1 .before .before in
-    let at-read-message = at-m .before .before .before .before in
-    let start = at-read-message .before .before .before .before .before .before .before in
-    let message = start .args .message .now in
-    let done = at-read-message .read-message .ensures in
-    let told = at-m .m .given .1 in
-    let marked = at-reduce .reduce .ensures in
-    let sized = c .before .before .size .ensures in
-    plain-big message _ _ done _ _ told (omega (arith, at-if1 .if1 .left)) _ marked _ sized (omega (arith, c .before .if2 .taken)) _ _ (search needs)
+    let at-read-message = at-m .before .before .before in
+    let start = at-read-message .before .before .before in
+    plain-big (start .args .message .now) _ _ (at-read-message .read-message .ensures) _ _ (at-m .m .given .1) _ _ _ (at-names .names .ensures) (at-roles .roles .ensures)
+    (at-ends .ends .ensures) (omega (arith, at-if1 .if1 .left)) _ (at-reduce .reduce .ensures) _ (c .before .before .size .ensures) (omega (arith, c .before .if2 .taken)) _ _ (search needs)
 
 enum-known-m-2 : tie.Need-enum-known-m-2
 enum-known-m-2 c = search needs
@@ -80,38 +108,41 @@ enum-known-m-2 c = search needs
 returns-3 : tie.Need-returns-3
 returns-3 c =
     let at-reduce = c .before .before .before .before .before in
-    let at-if1 = at-reduce .before .before .before .before .before in
+    let at-ends = at-reduce .before .before .before .before .before in
+    let at-roles = at-ends .before .before in
+    let at-names = at-roles .before .before in
+    let at-if1 = at-names .before .before in
     let at-m = at-if1 .before .before in
-    let at-read-message = at-m .before .before .before .before in
-    let start = at-read-message .before .before .before .before .before .before .before in
-    let message = start .args .message .now in
-    let done = at-read-message .read-message .ensures in
-    let told = at-m .m .given .1 in
-    let marked = at-reduce .reduce .ensures in
-    let sized = c .before .size .ensures in
-    plain-good message _ _ done _ _ told (omega (arith, at-if1 .if1 .left)) _ marked _ sized (omega (arith, c .if2 .left))
+    let at-read-message = at-m .before .before .before in
+    let start = at-read-message .before .before .before in
+    plain-good (start .args .message .now) _ _ (at-read-message .read-message .ensures) _ _ (at-m .m .given .1) _ _ _ (at-names .names .ensures) (at-roles .roles .ensures)
+    (at-ends .ends .ensures) (omega (arith, at-if1 .if1 .left)) _ (at-reduce .reduce .ensures) _ (c .before .size .ensures) (omega (arith, c .if2 .left))
 
 returns-4 : tie.Need-returns-4
 returns-4 c =
-    let at-read-message = c .before .before .before .before .before in
-    let start = at-read-message .before .before .before .before .before .before .before in
-    let message = start .args .message .now in
-    let done = at-read-message .read-message .ensures in
-    let told = c .before .m2 .given .1 in
-    plain-refused message _ _ done _ _ told
+    let at-read-message = c .before .before .before .before in
+    let start = at-read-message .before .before .before in
+    plain-refused (start .args .message .now) _ _ (at-read-message .read-message .ensures) _ _ (c .before .m2 .given .1)
 
 pub read-plain-spec : {M : Type 1} → statement M
 read-plain-spec =
     tie.close
     (tie.spec
     slice-aggregate-read-message
-    slice-aggregate-read-message-2
     read-message-requires
     enum-known-m
+    slice-aggregate-firsts
+    firsts-requires
     array-read-pair
     pair-requires
     plain-refused-requires
     returns
+    slice-aggregate-names
+    names-requires
+    slice-aggregate-roles
+    roles-requires
+    slice-aggregate-ends
+    ends-requires
     reduce-requires
     size-requires
     plain-refused-requires-2

@@ -1,90 +1,56 @@
+use borrow.Author.Needs.{needs}
 use Rattle.register.proofs.read_links.Statement.{statement}
 use Rattle.register.proofs.read_links.Tie as tie
-use mathlib.Core.Path.{_≡_, sym, _∙_, ap, subst}
-use Prim.Native.Nat.{_+_, _*_, _-_, _≤_}
+use mathlib.Core.Path.{sym, _∙_, ap}
 use native.Mathlib.Omega.{arith}
-use Rattle.register.specs.Reading.{paperReading, paperLink, Passed}
-use Rattle.register.proofs.Links.{Going, going-none, going-more, going-stop, going-left, going-done}
-use borrow.Author.Needs.{needs}
+use Rattle.register.specs.Reading.{paperReading}
+use Rattle.register.proofs.Links.{links-left, links-done}
 
-abbrev Inv-loop : tie.InvT-loop
-Inv-loop s end items links start i₀ at₀ floor₀ i at floor =
-    (i ≤ links) × (at ≡ start + 5 * i) × (at ≤ end) × Going s end items links start i at floor
+quick-links-requires : tie.Need-quick-links-requires
+quick-links-requires c κs = search needs
 
-abbrev μ-loop : tie.MeasureT-loop
-μ-loop s end items links start i₀ at₀ floor₀ i at floor =
-    links - i
+mul-if2 : tie.Need-mul-if2
+mul-if2 c = search needs
 
-loop-holds : tie.Need-loop-holds Inv-loop μ-loop
-loop-holds c =
-    (omega arith, omega arith, omega arith, going-none _ _ _ _ _)
+add-if2 : tie.Need-add-if2
+add-if2 c = search needs
 
-read-link-requires : tie.Need-read-link-requires Inv-loop μ-loop
-read-link-requires c κs = search needs
+mul-refused : tie.Need-mul-refused
+mul-refused c = search needs
 
-enum-known-l : tie.Need-enum-known-l Inv-loop μ-loop
-enum-known-l c = search needs
+add-refused : tie.Need-add-refused
+add-refused c = search needs
 
-enum-known-l-2 : tie.Need-enum-known-l-2 Inv-loop μ-loop
-enum-known-l-2 c = search needs
-
-refused-requires : tie.Need-refused-requires Inv-loop μ-loop
+refused-requires : tie.Need-refused-requires
 refused-requires c κs = search needs
 
-returns : tie.Need-returns Inv-loop μ-loop
+returns : tie.Need-returns
 returns c =
-    let w = c .before .before .before .before .before .before .loop .inv .3 in
-    ap paperReading (c .refused .ensures)
-    ∙ sym (going-stop _ _ _ _ _ _ _ _ w _ _ (omega arith) (ap paperLink (sym (c .before .before .l2 .given .1)) ∙ c .before .before .before .before .read-link .ensures .0 (w .before) (w .floor)))
+    let a = c .before .before .before .before .before .args in
+    ap paperReading (c .refused .ensures) ∙ sym (links-left (a .s .now) (a .end) (a .items) (a .links) (a .start) (c .before .before .before .quick-links .ensures (c .before .before .if1 .taken)) (omega arith))
 
-add-i : tie.Need-add-i Inv-loop μ-loop
-add-i c = search needs
-
-add-at : tie.Need-add-at Inv-loop μ-loop
-add-at c =
-    let fit = subst (λ z. Passed (c .before .before .before .before .before .loop .at) (c .before .before .before .before .before .before .before .args .end) z) (c .before .l .given .1) (c .before .before .before .read-link .ensures .1) in
-    omega arith
-
-loop-less : tie.Need-loop-less Inv-loop μ-loop
-loop-less c = search needs
-
-loop-again : tie.Need-loop-again Inv-loop μ-loop
-loop-again c =
-    let fit = subst (λ z. Passed (c .before .before .before .before .before .loop .at) (c .before .before .before .before .before .before .before .args .end) z) (c .before .l .given .1) (c .before .before .before .read-link .ensures .1) in
-    let w = c .before .before .before .before .before .loop .inv .3 in (
-      omega arith,
-      omega arith,
-      fit,
-      going-more _ _ _ _ _ _ _ _ w _ (omega arith) (omega arith) (ap paperLink (sym (c .before .l .given .1)) ∙ c .before .before .before .read-link .ensures .0 (w .before) (w .floor)),
-    )
-
-refused-requires-2 : tie.Need-refused-requires-2 Inv-loop μ-loop
-refused-requires-2 c κs = search needs
-
-returns-2 : tie.Need-returns-2 Inv-loop μ-loop
+returns-2 : tie.Need-returns-2
 returns-2 c =
-    ap paperReading (c .refused2 .ensures) ∙ sym (going-left _ _ _ _ _ _ _ _ (c .before .before .before .loop .inv .3) (omega arith) (c .before .before .before .loop .inv .1) (omega arith))
+    let a = c .before .before .before .before .args in
+    sym (links-done (a .s .now) (a .end) (a .items) (a .links) (a .start) (c .before .before .quick-links .ensures (c .before .if1 .taken)) (omega arith))
 
-returns-3 : tie.Need-returns-3 Inv-loop μ-loop
-returns-3 c =
-    sym (going-done _ _ _ _ _ _ _ _ (c .before .before .loop .inv .3) (omega arith) (c .before .before .loop .inv .1) (omega arith))
+slow-links-requires : tie.Need-slow-links-requires
+slow-links-requires c κs = search needs
+
+returns-3 : tie.Need-returns-3
+returns-3 c = search needs
 
 pub read-links-spec : {M : Type 1} → statement M
 read-links-spec =
     tie.close
     (tie.spec
-    Inv-loop
-    μ-loop
-    loop-holds
-    read-link-requires
-    enum-known-l
-    enum-known-l-2
+    quick-links-requires
+    mul-if2
+    add-if2
+    mul-refused
+    add-refused
     refused-requires
     returns
-    add-i
-    add-at
-    loop-less
-    loop-again
-    refused-requires-2
     returns-2
+    slow-links-requires
     returns-3)

@@ -2,7 +2,7 @@ use borrow.Author.Needs.{needs}
 use Rattle.screening.proofs.grade.Statement.{statement}
 use Rattle.screening.proofs.grade.Tie as tie
 use native.Mathlib.Omega.{arith}
-use Rattle.screening.proofs.Inner.{inner-here, inner-held, inner-case}
+use Rattle.screening.proofs.Inner.{inner-here, concept-arrays, inner-held, inner-case}
 
 add-at : tie.Need-add-at
 add-at c =
@@ -23,37 +23,58 @@ add-stop c =
 slice-aggregate-read-concept : tie.Need-slice-aggregate-read-concept
 slice-aggregate-read-concept c = search needs
 
-slice-aggregate-read-concept-2 : tie.Need-slice-aggregate-read-concept-2
-slice-aggregate-read-concept-2 c = search needs
-
-slice-aggregate-read-concept-3 : tie.Need-slice-aggregate-read-concept-3
-slice-aggregate-read-concept-3 c = search needs
-
 read-concept-requires : tie.Need-read-concept-requires
 read-concept-requires c κs =
-    let start = c .before .before .before .before .before .before .before .before .before in
+    let start = c .before .before .before .before .before .before .before in
     let one = start .pre .1 .0 in
-    let len = c .before .before .before .two in
+    let len = c .before .two in
     (inner-here (start .args .message .now) (start .args .first) (one .threshold) (one .stands) (len .result) (len .ensures .0), search needs)
+
+slice-aggregate-names : tie.Need-slice-aggregate-names
+slice-aggregate-names c = search needs
+
+names-requires : tie.Need-names-requires
+names-requires c κs = search needs
+
+slice-aggregate-roles : tie.Need-slice-aggregate-roles
+slice-aggregate-roles c = search needs
+
+roles-requires : tie.Need-roles-requires
+roles-requires c κs = search needs
+
+slice-aggregate-ends : tie.Need-slice-aggregate-ends
+slice-aggregate-ends c = search needs
+
+ends-requires : tie.Need-ends-requires
+ends-requires c κs = search needs
 
 reduce-requires : tie.Need-reduce-requires
 reduce-requires c κs =
-    let start = c .before .before .before .before .before .before .before .before .before .before .before .before .before .before .before .before .before in
+    let at-ends = c .before .before .before .before in
+    let at-roles = at-ends .before .before in
+    let at-names = at-roles .before .before in
+    let at-read-concept = at-names .before .before .before in
+    let at-two = at-read-concept .before .before in
+    let at-19 = at-two .before .before .before .before .before .before in
+    let start = at-19 in
     let one = start .pre .1 .0 in
-    let len = c .before .before .before .before .before .before .before .before .before .before .before .two in
-    let rows = c .before .before .before .before .before .before .before .read-concept .ensures in
+    let len = at-two .two in
+    let rows = concept-arrays (start .args .message .now) _ _ _ (at-names .names .ensures) (at-roles .roles .ensures) (at-ends .ends .ensures) (at-read-concept .read-concept .ensures) in
     inner-held (start .args .message .now) (start .args .first) (one .threshold) (one .stands) (len .result) (len .ensures .0) _ _ _ rows
 
 degrees-requires : tie.Need-degrees-requires
 degrees-requires c κs =
     let at-reduce = c .before .before .before .before .before in
-    let at-read-concept = at-reduce .before .before .before .before .before .before .before .before in
-    let at-two = at-read-concept .before .before .before .before in
-    let at-23 = at-two .before .before .before .before .before .before in
-    let start = at-23 in
+    let at-ends = at-reduce .before .before .before .before .before in
+    let at-roles = at-ends .before .before in
+    let at-names = at-roles .before .before in
+    let at-read-concept = at-names .before .before .before in
+    let at-two = at-read-concept .before .before in
+    let at-25 = at-two .before .before .before .before .before .before in
+    let start = at-25 in
     let one = start .pre .1 .0 in
     let len = at-two .two in
-    let rows = at-read-concept .read-concept .ensures in
+    let rows = concept-arrays (start .args .message .now) _ _ _ (at-names .names .ensures) (at-roles .roles .ensures) (at-ends .ends .ensures) (at-read-concept .read-concept .ensures) in
     let marks = at-reduce .reduce .ensures in
     let p = start .pre .1 .1 in
     (inner-case (start .args .message .now) (start .args .first) (one .threshold) (one .stands) (len .result) (len .ensures .0) _ _ _ rows (start .pre .0) _ marks, ((p .0, p .1), p .2))
@@ -65,12 +86,15 @@ returns : tie.Need-returns
 returns c =
     let at-degrees = c .before .before in
     let at-reduce = at-degrees .before .before .before .before .before .before in
-    let at-read-concept = at-reduce .before .before .before .before .before .before .before .before in
-    let at-two = at-read-concept .before .before .before .before in
-    let at-26 = at-two .before .before .before .before .before .before in
-    let start = at-26 in
+    let at-ends = at-reduce .before .before .before .before .before in
+    let at-roles = at-ends .before .before in
+    let at-names = at-roles .before .before in
+    let at-read-concept = at-names .before .before .before in
+    let at-two = at-read-concept .before .before in
+    let at-28 = at-two .before .before .before .before .before .before in
+    let start = at-28 in
     let len = at-two .two in
-    let rows = at-read-concept .read-concept .ensures in
+    let rows = concept-arrays (start .args .message .now) _ _ _ (at-names .names .ensures) (at-roles .roles .ensures) (at-ends .ends .ensures) (at-read-concept .read-concept .ensures) in
     let marks = at-reduce .reduce .ensures in
     λ j h st. at-degrees .degrees .ensures (inner-case (start .args .message .now) (start .args .first) h st (len .result) (len .ensures .0) _ _ _ rows j _ marks)
 
@@ -83,9 +107,13 @@ grade-spec =
     two-requires
     add-stop
     slice-aggregate-read-concept
-    slice-aggregate-read-concept-2
-    slice-aggregate-read-concept-3
     read-concept-requires
+    slice-aggregate-names
+    names-requires
+    slice-aggregate-roles
+    roles-requires
+    slice-aggregate-ends
+    ends-requires
     reduce-requires
     degrees-requires
     same-length

@@ -14,7 +14,8 @@ use borrow.Author.Needs.{needs}
 
 abbrev Inv-loop : tie.InvT-loop
 Inv-loop s items index message owners firsts parts node set₀ k₀ set k =
-    (length set ≡ 8) × (k ≤ parts) × Among items set × ((j : Judged s items index) (a : AllStand message firsts parts) → Through (judged (j .register)) owners (a .thresholds) node set₀ set k)
+    (length set ≡ 8) × (k ≤ parts) × Among items set
+    × ((j : Judged s items index) (a : AllStand message firsts parts) → Through (judged (j .register)) owners (a .thresholds) node set₀ set k)
 
 abbrev μ-loop : tie.MeasureT-loop
 μ-loop s items index message owners firsts parts node set₀ k₀ set k =

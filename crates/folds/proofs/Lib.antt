@@ -1,0 +1,4 @@
+pub mod Fill
+pub mod OnePass
+pub mod Noting
+pub mod Step

@@ -1,0 +1,136 @@
+use Rattle.register.proofs.quick_links.Statement.{statement}
+use Rattle.register.proofs.quick_links.Tie as tie
+use mathlib.Core.Path.{_≡_}
+use Prim.Native.Nat.{ℕ, _+_, _*_, _-_, _≤_, _<_}
+use native.Mathlib.Omega.{arith}
+use borrow.Author.Tests.{eqb-true}
+use Rattle.meaning.specs.Register.{linkAt}
+use Rattle.fields.proofs.Known.{bytes-known}
+use Rattle.register.specs.Reading.{key}
+use Rattle.register.proofs.OneLink.{key-parts, link-passed}
+use Rattle.register.proofs.Links.{Going, going-none, going-more, all-read, none-to-read}
+use borrow.Author.Needs.{needs}
+
+abbrev Inv-loop : tie.InvT-loop
+Inv-loop s end items links start i₀ at₀ floor₀ front₀ last₀ i at floor front last =
+    (i ≤ links) × (at ≡ start + 5 * i) × (at + 5 ≤ end) × (front < 4294967296) × (last < 256) × (front * 256 + last ≡ key (linkAt s at)) × Going s end items links start i at floor
+
+abbrev μ-loop : tie.MeasureT-loop
+μ-loop s end items links start i₀ at₀ floor₀ front₀ last₀ i at floor front last =
+    links - i
+
+sub-if1 : tie.Need-sub-if1 Inv-loop μ-loop
+sub-if1 c = search needs
+
+returns : tie.Need-returns Inv-loop μ-loop
+returns c =
+    λ h. none-to-read _ _ _ _ _ (eqb-true _ _ h)
+
+four-requires : tie.Need-four-requires Inv-loop μ-loop
+four-requires c κs = search needs
+
+add-one : tie.Need-add-one Inv-loop μ-loop
+add-one c = search needs
+
+one-requires : tie.Need-one-requires Inv-loop μ-loop
+one-requires c κs = search needs
+
+loop-holds : tie.Need-loop-holds Inv-loop μ-loop
+loop-holds c =
+    (omega arith, omega arith, omega arith, c .before .four .ensures .1, c .one .ensures .1, key-parts (c .before .before .before .before .args .s .now) _ _ _ (c .before .four .ensures .0) (c .one .ensures .0), going-none _ _ _ _ _)
+
+mul-number : tie.Need-mul-number Inv-loop μ-loop
+mul-number c = search needs
+
+add-number : tie.Need-add-number Inv-loop μ-loop
+add-number c = search needs
+
+wrong-requires : tie.Need-wrong-requires Inv-loop μ-loop
+wrong-requires c κs = search needs
+
+returns-2 : tie.Need-returns-2 Inv-loop μ-loop
+returns-2 c =
+    λ h. absurd (let z : _≡_ {A = ℕ} 0 1 = cc in omega arith)
+
+add-floor : tie.Need-add-floor Inv-loop μ-loop
+add-floor c = search needs
+
+add-i : tie.Need-add-i Inv-loop μ-loop
+add-i c = search needs
+
+add-at : tie.Need-add-at Inv-loop μ-loop
+add-at c = search needs
+
+sub-if3 : tie.Need-sub-if3 Inv-loop μ-loop
+sub-if3 c = search needs
+
+returns-3 : tie.Need-returns-3 Inv-loop μ-loop
+returns-3 c =
+    let a = c .before .before .before .before .before .before .before .before .before .args in
+    let l = c .before .before .before .before .loop .inv in
+    let w = l .6 in
+    let by = bytes-known (a .s .now) (c .before .before .before .before .before .before .before .before .shared-slice-known .given) in
+    let right = c .before .before .wrong .ensures (c .before .if2 .left) in
+    let read = link-passed (a .s .now) by (a .end) (a .items) (c .before .before .before .before .loop .at) (c .before .before .before .before .loop .floor) _ (w .before) (l .2) (c .before .before .before .before .before .before .before .before .before .pre .2) (l .5) right (w .floor) in
+    λ h. all-read _ _ _ _ _ _ _ _ (going-more _ _ _ _ _ _ _ _ w _ (c .before .before .before .loop-test .taken) (c .before .before .before .before .before .before .before .before .before .pre .2) read) (eqb-true _ _ h)
+
+four-requires-2 : tie.Need-four-requires-2 Inv-loop μ-loop
+four-requires-2 c κs = search needs
+
+add-one-2 : tie.Need-add-one-2 Inv-loop μ-loop
+add-one-2 c = search needs
+
+one-requires-2 : tie.Need-one-requires-2 Inv-loop μ-loop
+one-requires-2 c κs = search needs
+
+loop-less : tie.Need-loop-less Inv-loop μ-loop
+loop-less c = search needs
+
+loop-again : tie.Need-loop-again Inv-loop μ-loop
+loop-again c =
+    let a = c .before .before .before .before .before .before .before .before .before .before .before .args in
+    let l = c .before .before .before .before .before .before .loop .inv in
+    let w = l .6 in
+    let by = bytes-known (a .s .now) (c .before .before .before .before .before .before .before .before .before .before .shared-slice-known .given) in
+    let right = c .before .before .before .before .wrong .ensures (c .before .before .before .if2 .left) in
+    let read = link-passed (a .s .now) by (a .end) (a .items) (c .before .before .before .before .before .before .loop .at) (c .before .before .before .before .before .before .loop .floor) _ (w .before) (l .2) (c .before .before .before .before .before .before .before .before .before .before .before .pre .2) (l .5) right (w .floor) in (
+      omega arith,
+      omega arith,
+      omega arith,
+      c .before .four2 .ensures .1,
+      c .one2 .ensures .1,
+      key-parts (a .s .now) _ _ _ (c .before .four2 .ensures .0) (c .one2 .ensures .0),
+      going-more _ _ _ _ _ _ _ _ w _ (c .before .before .before .before .before .loop-test .taken) (c .before .before .before .before .before .before .before .before .before .before .before .pre .2) read,
+    )
+
+returns-4 : tie.Need-returns-4 Inv-loop μ-loop
+returns-4 c =
+    λ h. all-read _ _ _ _ _ _ _ _ (c .before .loop .inv .6) (omega arith)
+
+pub quick-links-spec : {M : Type 1} → statement M
+quick-links-spec =
+    tie.close
+    (tie.spec
+    Inv-loop
+    μ-loop
+    sub-if1
+    returns
+    four-requires
+    add-one
+    one-requires
+    loop-holds
+    mul-number
+    add-number
+    wrong-requires
+    returns-2
+    add-floor
+    add-i
+    add-at
+    sub-if3
+    returns-3
+    four-requires-2
+    add-one-2
+    one-requires-2
+    loop-less
+    loop-again
+    returns-4)

@@ -1,0 +1,4 @@
+pub mod Along
+pub mod Walk
+pub mod Alone
+pub mod Entry

@@ -1,0 +1,51 @@
+-- What is answered and drawn, in meaning's words.
+-- Assumes nothing.
+use mathlib.Core.Path.{_≡_}
+use mathlib.Core.List.{List, map}
+use mathlib.Core.Option.{Option, some}
+use mathlib.Core.Option.{none as nowhere}
+use Prim.Native.Nat.{ℕ, _≤_, _<_}
+use lib.ListN.{length, getD}
+use lib.Seq.{sets}
+use Rattle.meaning.specs.Bounds.{mostNodes}
+use Rattle.meaning.specs.Tree.{Concept}
+use Rattle.meaning.specs.Register.{Register, judged}
+use Rattle.meaning.specs.InPlace.{scaleIn, degreeIn}
+use Rattle.meaning.specs.Rows.{Holds, Marked}
+use Rattle.meaning.specs.Shown.{goes, shown, markNumber}
+use Rattle.graph.specs.Judged.{Judged}
+use Rattle.degrees.specs.Notes.{Noted}
+use Rattle.shown.specs.declared.Degree.{Degree}
+
+-- a place in the map: an item, or nowhere
+abbrev pub placeOf : Option ℕ → ℕ
+placeOf o = markNumber (goes o)
+
+-- one of so many items, where it is one
+abbrev pub Inside : ℕ → Option ℕ → Type 0
+Inside items nowhere = Unit {0}
+Inside items (some x) = x < items
+
+-- the map with what is shown for a tree from a row on, whose root goes to o
+abbrev pub drawn : Register → Concept → ℕ → Option ℕ → List ℕ → List ℕ
+drawn g t row o m = sets m row (map markNumber (shown (judged g) t o))
+
+-- the degree of item x
+pub record Graded (g : Register) (t : Concept) (x : ℕ) (d : Degree) : Type 0 where
+  pub number : d .number ≡ degreeIn (judged g) t x
+  pub scale : d .scale ≡ scaleIn t
+
+-- What is to be drawn: rows that hold a tree, whose root goes to an item or nowhere, and notes for all links that say where its kept nodes go.
+pub record Drawing (s : List ℕ) (items : ℕ) (index ends marks notes : List ℕ) (node left item : ℕ) : Type 0 where
+  pub graph : Judged s items index
+  pub names : List ℕ
+  pub roles : List ℕ
+  pub tree : Concept
+  pub held : Holds names roles ends tree left node (getD ends node 0)
+  pub marked : Marked ends marks tree node
+  pub few : getD ends node 0 ≤ mostNodes
+  pub places : length (graph .register .links) ≤ length notes
+  pub to : Option ℕ
+  pub inside : Inside items to
+  pub same : item ≡ placeOf to
+  pub noted : (x : ℕ) → to ≡ some x → Noted ends marks (graph .register) notes tree node x
