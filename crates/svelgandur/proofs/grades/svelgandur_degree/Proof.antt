@@ -1,8 +1,8 @@
--- `svelgandur::degrees::svelgandur_degree` meets its contract: the numbers written are those of the document's answer, and the map is its map.
+-- `svelgandur::grades::svelgandur_degree` meets its contract: the numbers written are those of the document's answer, and the map is its map.
 -- Assumes nothing.
 use borrow.Author.Needs.{needs}
-use Rattle.svelgandur.proofs.degrees.svelgandur_degree.Statement.{statement}
-use Rattle.svelgandur.proofs.degrees.svelgandur_degree.Tie as tie
+use Rattle.svelgandur.proofs.grades.svelgandur_degree.Statement.{statement}
+use Rattle.svelgandur.proofs.grades.svelgandur_degree.Tie as tie
 use mathlib.Core.Path.{_∙_, ap}
 use Rattle.answers.specs.Numbers.{numbers, degreeNumbers}
 

@@ -1,8 +1,8 @@
--- `svelgandur::degrees::svelgandur_margin` meets its contract: the numbers written are those of the document's answer.
+-- `svelgandur::grades::svelgandur_margin` meets its contract: the numbers written are those of the document's answer.
 -- Assumes nothing.
 use borrow.Author.Needs.{needs}
-use Rattle.svelgandur.proofs.degrees.svelgandur_margin.Statement.{statement}
-use Rattle.svelgandur.proofs.degrees.svelgandur_margin.Tie as tie
+use Rattle.svelgandur.proofs.grades.svelgandur_margin.Statement.{statement}
+use Rattle.svelgandur.proofs.grades.svelgandur_margin.Tie as tie
 use mathlib.Core.Path.{_∙_, ap}
 use Rattle.asking.proofs.Promise.{margin-within}
 use Rattle.answers.specs.Numbers.{numbers, marginNumbers}
