@@ -167,7 +167,7 @@ module _ {M : Type 1} (𝓤 : URA M) (H : Heap 𝓤) (A : Atoms 𝓤) (W : Given
       qed W (‵ (fobs γ′ (codedHoleys R .code (heres R ls))) ∷ ‵ (fbor κ′ (Held R (length ls) b′ o′ γ′)) ∷ ‵ (flft κ′ q′) ∷ (‵ (flft κ q) ⊛ ‵ ftrue) ∷ ‵ (finally u8 γ zs) ∷ []) ∵
       suffices ! _ (ends-at 𝓤 H A edit.ended stayed (edit.clauses 𝓤 H A mem run) W (((κ, (κ′, tt)), (q, (q′, tt)), tt, a, at), tt) (ans r) r (zs, (ls, (tt, (tt, (tt, tt)))))
       (l, (l′, (tt, (tt, (tt, tt)))))) $
-      shown ! (holds 𝓤 (edit-promised bs ys c f v r zs ls answer buffer log)) $
+      let promised = edit-promised bs ys c f v r zs ls answer buffer log in shown ! (holds 𝓤 (search promised)) $
       -- the tokens
       move ! (3 ∷ []) $ split ! $ move ! (4 ∷ 1 ∷ []) $ join ! $ move ! (1 ∷ 0 ∷ []) $ join ! $ frame ! $
       -- [obs; the borrow; the buffer's last list]: what the log owns, and the parameters
