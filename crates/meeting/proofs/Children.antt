@@ -144,7 +144,8 @@ module _ (names roles ends : List ℕ) (G : Graph ℕ) where
       so-far = λ x y. absurd (true-false y (h x));
     }
       where
-        go : (x : ℕ) (b : Bool) → b ≡ false → (b && meetsByF (fulfils G) G (w .rest) x) ≡ (inSet all x && meetsByF (fulfils G) G (children t) x) → (b && true) ≡ (inSet all x && meetsByF (fulfils G) G (children t) x)
+        go : (x : ℕ) (b : Bool) → b ≡ false → (b && meetsByF (fulfils G) G (w .rest) x) ≡ (inSet all x && meetsByF (fulfils G) G (children t) x)
+            → (b && true) ≡ (inSet all x && meetsByF (fulfils G) G (children t) x)
         go x true q r = absurd (true-false refl q)
         go x false q r = r
 

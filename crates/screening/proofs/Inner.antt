@@ -30,7 +30,8 @@ use Rattle.requirement.proofs.Places.{same-rows}
 use Rattle.parts.specs.Inner.{ConceptDone}
 use Rattle.graph.specs.Judged.{Judged}
 use Rattle.graph.specs.Sets.{inSet}
-use Rattle.degrees.specs.Case.{Case, Member}
+use Rattle.folds.specs.Members.{Member}
+use Rattle.degrees.specs.Case.{Case}
 use Rattle.degrees.specs.Given.{Worked}
 use Rattle.screening.specs.Sifting.{Sifted}
 use Rattle.screening.specs.Standing.{StandsAt}

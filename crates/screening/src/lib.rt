@@ -12,7 +12,7 @@ ghost use Rattle.meaning.specs.Register.{judged};
 ghost use Rattle.meaning.specs.Requirement.{Threshold, passes};
 ghost use Rattle.graph.specs.Judged.{Judged};
 ghost use Rattle.graph.specs.Sets.{inSet, Among};
-ghost use Rattle.degrees.specs.Case.{Member};
+ghost use Rattle.folds.specs.Members.{Member};
 ghost use Rattle.degrees.specs.Given.{Worked};
 ghost use Rattle.screening.specs.Sifting.{Sifted, Retained};
 ghost use Rattle.screening.specs.Standing.{StandsAt, OneStands, AllStand, ruledAt};

@@ -35,11 +35,16 @@ loop-holds c =
 
 seek-requires : tie.Need-seek-requires Inv-loop μ-loop
 seek-requires c κs =
-    (c .before .before .before .before .before .before .before .before .pre .0, (c .before .before .before .before .before .before .before .before .pre .1 .2 _ (sifting-old _ _ _ _ (c .before .loop .inv .1 (c .before .before .before .before .before .before .before .before .pre .0)) (c .loop-test .taken)), c .before .before .before .before .before .before .before .before .pre .1 .0))
+    let at-loop = c .before in
+    let start = at-loop .before .before .before .before .before .before .before in
+    (start .pre .0, (start .pre .1 .2 _ (sifting-old _ _ _ _ (at-loop .loop .inv .1 (start .pre .0)) (c .loop-test .taken)), start .pre .1 .0))
 
 retain-requires : tie.Need-retain-requires Inv-loop μ-loop
 retain-requires c κs =
-    (c .before .before .before .loop .inv .0, c .before .before .loop-test .taken, c .before .before .before .loop .inv .1 (c .before .before .before .before .before .before .before .before .before .before .pre .0) .member (c .before .before .loop-test .taken))
+    let at-loop-test = c .before .before in
+    let at-loop = at-loop-test .before in
+    let start = at-loop .before .before .before .before .before .before .before in
+    (at-loop .loop .inv .0, at-loop-test .loop-test .taken, at-loop .loop .inv .1 (start .pre .0) .member (at-loop-test .loop-test .taken))
 
 add-next-in : tie.Need-add-next-in Inv-loop μ-loop
 add-next-in c = search needs

@@ -33,7 +33,10 @@ names-requires c κs =
 
 retain-requires : tie.Need-retain-requires Inv-loop μ-loop
 retain-requires c κs =
-    (c .before .before .before .loop .inv .0, c .before .before .loop-test .taken, c .before .before .before .loop .inv .1 (c .before .before .before .before .before .before .before .before .pre .0 .register) (c .before .before .before .before .before .before .before .before .pre .0 .read) .member (c .before .before .loop-test .taken))
+    let at-loop-test = c .before .before in
+    let at-loop = at-loop-test .before in
+    let start = at-loop .before .before .before .before .before in
+    (at-loop .loop .inv .0, at-loop-test .loop-test .taken, at-loop .loop .inv .1 (start .pre .0 .register) (start .pre .0 .read) .member (at-loop-test .loop-test .taken))
 
 add-next-in : tie.Need-add-next-in Inv-loop μ-loop
 add-next-in c = search needs
@@ -48,8 +51,16 @@ loop-less c =
 
 loop-again : tie.Need-loop-again Inv-loop μ-loop
 loop-again c =
-    let w = c .before .before .before .before .before .before .before .before .loop in
-    (c .before .before .before .before .retain .kept .0 ∙ w .inv .0, λ g h. sifting-step _ _ _ _ _ _ _ (w .inv .1 g h) (c .before .before .before .before .before .before .before .loop-test .taken) (c .before .before .before .before .retain .ensures) (ap (λ (z : ℕ). within (c .before .before .before .before .before .before .before .before .before .before .before .before .before .args .names) z) (c .before .before .before .before .before .names .ensures g h)) (c .next-in2 .ensures))
+    let at-retain = c .before .before .before .before in
+    let at-names = at-retain .before in
+    let at-loop-test = at-names .before .before in
+    let at-loop = at-loop-test .before in
+    let start = at-loop .before .before .before .before .before in
+    let w = at-loop .loop in (
+      at-retain .retain .kept .0 ∙ w .inv .0,
+      λ g h. sifting-step _ _ _ _ _ _ _ (w .inv .1 g h) (at-loop-test .loop-test .taken) (at-retain .retain .ensures)
+          (ap (λ (z : ℕ). within (start .args .names) z) (at-names .names .ensures g h)) (c .next-in2 .ensures),
+    )
 
 same-length : tie.Need-same-length Inv-loop μ-loop
 same-length c =

@@ -21,8 +21,10 @@ slice-aggregate-meet-2 c = search needs
 
 meet-requires : tie.Need-meet-requires
 meet-requires c κs =
-    let one = c .before .before .before .include in
-    (c .before .before .before .before .before .before .before .before .before .pre .0, (one .kept .0 ∙ zeros-length, one-among _ (one .last .0) (one .ensures) _ (c .before .before .before .before .before .before .before .before .before .pre .1 .0), zeros-all))
+    let at-include = c .before .before .before in
+    let start = at-include .before .before .before .before .before .before in
+    let one = at-include .include in
+    (start .pre .0, (one .kept .0 ∙ zeros-length, one-among _ (one .last .0) (one .ensures) _ (start .pre .1 .0), zeros-all))
 
 slice-aggregate-contains : tie.Need-slice-aggregate-contains
 slice-aggregate-contains c =
@@ -30,7 +32,10 @@ slice-aggregate-contains c =
 
 contains-requires : tie.Need-contains-requires
 contains-requires c κs =
-    (c .before .before .before .meet .kept .1 .1 .1 .1 .1 .1 .1 .1 .1 .1 .1 .1 .0 ∙ c .before .before .before .before .before .before .before .include .kept .0 ∙ zeros-length, omega (arith, c .before .before .before .before .before .before .before .before .before .before .before .before .before .pre .1 .0, c .before .before .before .before .before .before .before .before .before .before .before .before .before .pre .0 .graph .most))
+    let at-meet = c .before .before .before in
+    let at-include = at-meet .before .before .before .before in
+    let start = at-include .before .before .before .before .before .before in
+    (at-meet .meet .kept .1 .1 .1 .1 .1 .1 .1 .1 .1 .1 .1 .1 .0 ∙ at-include .include .kept .0 ∙ zeros-length, omega (arith, start .pre .1 .0, start .pre .0 .graph .most))
 
 returns : tie.Need-returns
 returns c =
@@ -46,10 +51,17 @@ slice-aggregate-walk c =
 
 walk-requires : tie.Need-walk-requires
 walk-requires c κs =
-    let k = c .before .before .before .before .before .before .before .before .before .before .before .before .before .before .before .before .before .pre .0 in
-    let one = c .before .before .before .before .before .before .before .before .before .before .before .include in
-    let done = c .before .before .before .before .before .before .before .meet in
-    (walk-case k _ _ _ _ _ _ (done .ensures k) (one-in _ (one .last .0) (one .ensures)) (c .before .before .before .contains .ensures) (c .before .before .if1 .left) (c .before .before .before .before .before .before .before .before .before .before .before .before .before .before .before .before .before .pre .1 .0), (c .before .before .before .before .before .before .before .before .before .before .before .before .before .before .before .before .before .pre .1 .1, done .kept .1 .1 .1 .1 .1 .1 .1 .1 .1 .1 .1 .1 .1 .0 ∙ zeros-all))
+    let at-if1 = c .before .before in
+    let at-contains = at-if1 .before in
+    let at-meet = at-contains .before .before .before .before in
+    let at-include = at-meet .before .before .before .before in
+    let start = at-include .before .before .before .before .before .before in
+    let k = start .pre .0 in
+    let one = at-include .include in
+    let done = at-meet .meet in (
+      walk-case k _ _ _ _ _ _ (done .ensures k) (one-in _ (one .last .0) (one .ensures)) (at-contains .contains .ensures) (at-if1 .if1 .left) (start .pre .1 .0),
+      (start .pre .1 .1, done .kept .1 .1 .1 .1 .1 .1 .1 .1 .1 .1 .1 .1 .1 .0 ∙ zeros-all),
+    )
 
 same-length : tie.Need-same-length
 same-length c = search needs

@@ -25,8 +25,9 @@ slice-aggregate-grade c = search needs
 
 grade-requires : tie.Need-grade-requires
 grade-requires c κs =
-    let p = c .before .before .before .before .before .before .before .before .before .pre .1 .1 in
-    (c .before .before .before .before .before .before .before .before .before .pre .0, (c .before .before .before .before .before .before .before .before .before .pre .1 .0, (p .0, p .1, numbers-length)))
+    let start = c .before .before .before .before .before .before .before .before .before in
+    let p = start .pre .1 .1 in
+    (start .pre .0, (start .pre .1 .0, (p .0, p .1, numbers-length)))
 
 add-two : tie.Need-add-two
 add-two c =

@@ -36,11 +36,14 @@ quad-requires c κs = search needs
 
 satisfies-requires : tie.Need-satisfies-requires Inv-loop μ-loop
 satisfies-requires c κs =
-    (c .quad .ensures .1, c .before .before .before .before .before .before .before .before .pre .2, c .before .before .before .before .before .before .before .before .pre .3, c .before .before .before .before .before .before .before .before .pre .4)
+    let start = c .before .before .before .before .before .before .before .before in
+    (c .quad .ensures .1, start .pre .2, start .pre .3, start .pre .4)
 
 retain-requires : tie.Need-retain-requires Inv-loop μ-loop
 retain-requires c κs =
-    (c .before .before .before .before .before .loop .inv .0, c .before .before .before .before .loop-test .taken, c .before .before .before .before .before .loop .inv .1 .member (c .before .before .before .before .loop-test .taken))
+    let at-loop-test = c .before .before .before .before in
+    let at-loop = at-loop-test .before in
+    (at-loop .loop .inv .0, at-loop-test .loop-test .taken, at-loop .loop .inv .1 .member (at-loop-test .loop-test .taken))
 
 add-next-in : tie.Need-add-next-in Inv-loop μ-loop
 add-next-in c = search needs
@@ -55,9 +58,18 @@ loop-less c =
 
 loop-again : tie.Need-loop-again Inv-loop μ-loop
 loop-again c =
-    let a = c .before .before .before .before .before .before .before .before .before .before .before .before .before .before .before .args in
-    let same = c .before .before .before .before .before .before .satisfies .ensures ∙ ap (λ (z : ℕ). compares (comparison (a .how)) (z // a .scale) (a .p // a .q)) (c .before .before .before .before .before .before .before .quad .ensures .0) in
-    (c .before .before .before .before .retain .kept .0 ∙ c .before .before .before .before .before .before .before .before .before .before .loop .inv .0, sifting-step _ _ _ _ _ _ _ (c .before .before .before .before .before .before .before .before .before .before .loop .inv .1) (c .before .before .before .before .before .before .before .before .before .loop-test .taken) (c .before .before .before .before .retain .ensures) same (c .next-in2 .ensures))
+    let at-retain = c .before .before .before .before in
+    let at-satisfies = at-retain .before .before in
+    let at-quad = at-satisfies .before in
+    let at-loop-test = at-quad .before .before in
+    let at-loop = at-loop-test .before in
+    let start = at-loop .before .before .before .before .before in
+    let a = start .args in
+    let same = at-satisfies .satisfies .ensures ∙ ap (λ (z : ℕ). compares (comparison (a .how)) (z // a .scale) (a .p // a .q)) (at-quad .quad .ensures .0) in (
+      at-retain .retain .kept .0 ∙ at-loop .loop .inv .0,
+      sifting-step _ _ _ _ _ _ _ (at-loop .loop .inv .1) (at-loop-test .loop-test .taken) (at-retain .retain .ensures) same
+          (c .next-in2 .ensures),
+    )
 
 same-length : tie.Need-same-length Inv-loop μ-loop
 same-length c =
