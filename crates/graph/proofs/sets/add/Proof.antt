@@ -13,7 +13,9 @@ same-length : tie.Need-same-length
 same-length c = search needs
 
 returns : tie.Need-returns
-returns c = with-there _ _ (sym (c .before .contains .ensures) ∙ c .if1 .taken)
+returns c =
+    let start = c .before .before .before .before in
+    with-there (start .args .set .now) (start .args .x) (sym (c .before .contains .ensures) ∙ c .if1 .taken)
 
 include-requires : tie.Need-include-requires
 include-requires c κs = search needs
