@@ -26,7 +26,7 @@ use Rattle.meaning.proofs.YesShown.{yes-shows}
 use Rattle.register.specs.declared.Reading.{Reading}
 use Rattle.register.specs.declared.Reading.the-variants.{Good as GoodReading, Refused as RefusedReading}
 use Rattle.register.specs.Reading.{Counts, counted}
-use Rattle.register.specs.Reading.{paper as paperReading}
+use Rattle.register.specs.Reading.{paperReading}
 use Rattle.requirement.specs.declared.Message.{Message}
 use Rattle.requirement.specs.declared.Message.the-variants.{Good as GoodMessage, Refused as RefusedMessage}
 use Rattle.rows.specs.Packed.{namesIn, rolesIn, endsIn, ownersIn, firstsIn}
@@ -34,7 +34,7 @@ use Rattle.requirement.specs.Message.{MessageGood, MessageOutcome, MessageDone}
 use Rattle.requirement.proofs.Places.{same-rows}
 use Rattle.deciding.specs.declared.Verdict.{Verdict}
 use Rattle.deciding.specs.declared.Verdict.the-variants.{Yes, No, Refused}
-use Rattle.member.specs.Case.{Settled}
+use Rattle.meeting.specs.Case.{Settled}
 use Rattle.deciding.specs.Answers.{yes, said, paperVerdict, refusedCall}
 use Rattle.deciding.specs.BothRead.{Imaged, BothRead}
 use Rattle.deciding.proofs.Decided.{member-answer}

@@ -1,28 +1,30 @@
--- A message that was read: each of its thresholds stands where reading found it, and with their table its rows make a case.
+-- A message that was read: each of its thresholds stands where reading found it, and with the image's index its rows make a case.
 -- Assumes nothing.
-use mathlib.Core.Path.{_≡_, sym, ap, subst, _∙_}
+use mathlib.Core.Path.{_≡_, refl, sym, ap, subst, _∙_}
+use mathlib.Core.Bool.{Bool}
 use mathlib.Core.List.{List, Forall₂, Forall₂·nil, Forall₂·cons}
 use Prim.Native.Nat.{ℕ, zero, suc, _+_, _≤_, _<_}
 use native.Mathlib.Nat.{le-trans, le-of-eq}
 use native.Mathlib.Omega.{arith}
-use lib.ListN.{length, getD}
+use lib.ListN.{length, getD, replicate, length-replicate}
 use Rattle.meaning.specs.Bytes.{Bytes}
 use Rattle.meaning.specs.Tree.{nodes}
-use Rattle.meaning.specs.Register.{judged}
-use Rattle.meaning.specs.Requirement.{Threshold, bare}
+use Rattle.meaning.specs.Graph.{Graph}
+use Rattle.meaning.specs.Register.{Register, judged}
+use Rattle.meaning.specs.Requirement.{Threshold, Requirement, bare}
 use Rattle.meaning.specs.Message.{lawful, comparison, soundInner, Part, readInner, thresholdsOf}
 use Rattle.meaning.specs.Rows.{Holds}
 use Rattle.meaning.proofs.Tests.{and-both}
 use Rattle.meaning.proofs.Reading.{number-one}
 use Rattle.meaning.proofs.Rows.{opened}
-use Rattle.meaning.proofs.Image.{image-fits}
 use Rattle.meaning.proofs.MessageLabel.{PartAt, decoded, lawful-open, inner-read, sound-inner}
-use Rattle.meaning.proofs.Message.{Accepted, read-back, accepted-length, parts-stand, parts-length, partsIn}
+use Rattle.meaning.proofs.Message.{Accepted, read-back, accepted-length, parts-stand, partsIn}
 use Rattle.register.specs.Image.{Asked}
 use Rattle.requirement.specs.Reading.{noPart}
-use Rattle.member.specs.Table.{Ruled}
-use Rattle.member.specs.Case.{Case}
-use Rattle.deciding.specs.Thresholds.{noThreshold, StandsAt, AllStand, Tabled}
+use Rattle.graph.specs.Judged.{Judged}
+use Rattle.screening.specs.Standing.{noThreshold, StandsAt, AllStand, Ruled}
+use Rattle.graph.proofs.Use.{one-register}
+use Rattle.meeting.specs.Case.{Case, Settled}
 use Rattle.deciding.specs.BothRead.{BothRead}
 use Rattle.deciding.proofs.Messages.{message-ruled}
 
@@ -84,31 +86,33 @@ module _ {image : List ℕ} {items links : ℕ} {message names roles ends owners
   pub read-room : getD ends 0 0 ≤ room
   read-room = omega (arith, read-end, k .room-enough)
 
-  pub read-most : Bytes image → items ≤ 512
-  read-most b = le-trans (le-of-eq (k .items-are)) (image-fits image (k .register) b (k .read) .0 .items)
-
-  pub read-ruled : Bytes message → (table : List ℕ) → Tabled items (judged (k .register)) (thresholdsOf (k .requirement)) parts table
-      → Ruled items ends (judged (k .register)) owners table parts (k .requirement) 0
-  read-ruled b table t =
+  pub read-ruled : Bytes message → (G : Graph ℕ) → Ruled G owners (thresholdsOf (k .requirement)) ends parts (k .requirement) 0
+  read-ruled b G =
       let c = read-accepted b in
       let same : length (k .places) ≡ length (partsIn (k .requirement)) = ap length (c .parts) in
-      let many = parts-length (k .requirement) 0 3 in
-      message-ruled items (judged (k .register)) owners table names roles ends (k .requirement) 17 (nodes (k .requirement)) parts (k .tree)
+      message-ruled G owners (thresholdsOf (k .requirement)) names roles ends (k .requirement) 17 (nodes (k .requirement)) parts (k .tree)
       (k .parts-are ∙ same)
-      (λ j l. k .held .owner j (omega (arith, same)) ∙ ap (λ (ps : List Part). getD ps j noPart .owner) (c .parts))
-      (λ j l x i. t j x (omega (arith, k .parts-are, same, many)) i)
+      (λ j l. k .held .owner j (omega (arith, same)) ∙ ap (λ (ps : List Part). getD ps j noPart .owner) (c .parts)) refl
 
-  -- with the table it is a case
-  abbrev pub read-case : Bytes image → Bytes message → (table : List ℕ)
-      → Tabled items (judged (k .register)) (thresholdsOf (k .requirement)) parts table → Case image items links names roles ends owners parts table 0 17
-  read-case bi bm table t = record {
-    register = k .register;
-    read = k .read;
-    items-are = k .items-are;
-    links-are = k .links-are;
-    most = read-most bi;
+  -- with the index it is a case
+  abbrev pub read-case : Bytes message → {index : List ℕ} → Judged image items index → Case image items index message names roles ends owners firsts parts 0 17
+  read-case b j = record {
+    graph = j;
+    stand = read-stand b;
+    most = k .most;
     tree = k .requirement;
     held = read-held;
     few = read-few;
-    ruled = read-ruled bm table t;
+    ruled = read-ruled b (judged (j .register));
   }
+
+  -- the index is of the register that was read
+  pub settled-by : {index : List ℕ} (j : Judged image items index) (t : Requirement) (old new : List ℕ) (r : Bool) → Settled (j .register) t item old new r
+      → Settled (k .register) t item old new r
+  settled-by j t old new r s = subst (λ (g : Register). Settled g t item old new r) (one-register j (k .register) (k .read)) s
+
+abbrev noIndex : List ℕ
+noIndex = replicate 513 0
+
+pub index-length : length noIndex ≡ 513
+index-length = length-replicate {A = ℕ} 513 0

@@ -1,4 +1,4 @@
--- The thresholds that reading a message hands on, one after the other, and what a table says of them: so each written node's are its label's.
+-- The thresholds that reading a message hands on, one after the other: each written node's are its label's.
 -- Assumes nothing.
 use mathlib.Core.Path.{_≡_, refl, sym, ap, subst, _∙_}
 use mathlib.Core.List.{List, [], _∷_, _++_, append-assoc}
@@ -10,15 +10,14 @@ use lib.ListN.{length, getD, length-append, List·getD-append}
 use lib.Seq.{getD-append-add}
 use Rattle.meaning.specs.Tree.{node, Forest, none, more, nodes, written, writtenF}
 use Rattle.meaning.specs.Graph.{Graph}
-use Rattle.meaning.specs.Requirement.{Threshold, Label, Requirement, passes, bare}
+use Rattle.meaning.specs.Requirement.{Threshold, Label, Requirement, bare}
 use Rattle.meaning.specs.Message.{Part, joined, thresholdsOf, thresholdsBytes, requirementBytes, conceptBytes}
 use Rattle.meaning.specs.Rows.{Holds}
 use Rattle.meaning.proofs.MessageTree.{partsOf, partsOfF}
 use Rattle.meaning.proofs.MessageLabel.{partsAt, at-length, outerKind}
 use Rattle.meaning.proofs.Message.{partsIn, parts-length}
 use Rattle.requirement.specs.Reading.{noPart}
-use Rattle.member.specs.Table.{cell, Ruled}
-use Rattle.deciding.specs.Thresholds.{noThreshold}
+use Rattle.screening.specs.Standing.{noThreshold, Ruled}
 use Rattle.deciding.proofs.Owners.{many, manyF, Own, Listed, ListedF, ruled-all}
 
 -- each element of a list that is numbered from k on
@@ -49,15 +48,15 @@ mutual
   many-thresholdsF (more r t f) =
       rw (many-thresholds t, many-thresholdsF f, joined-append (written t) (writtenF f)) (sym (length-append (joined (written t)) (joined (writtenF f))))
 
-module _ (items : ℕ) (G : Graph ℕ) (owners table : List ℕ) where
-  -- the k-th threshold is of this part's node, and its row says where it is satisfied
+module _ (G : Graph ℕ) (owners : List ℕ) (all : List Threshold) where
+  -- the k-th threshold is of this part's node, and is this one
   abbrev pub OfNode : ℕ → Part → Type 0
   OfNode k x = getD owners k 0 ≡ x .owner
 
   abbrev pub Says : ℕ → Threshold → Type 0
-  Says k h = (x : ℕ) → x < items → cell table k x ≡ passes G h x
+  Says k h = getD all k noThreshold ≡ h
 
-  own-from : (hs : List Threshold) (i p k : ℕ) → Each OfNode noPart (partsAt hs i p) k → Each Says noThreshold hs k → Own items G owners table hs i k
+  own-from : (hs : List Threshold) (i p k : ℕ) → Each OfNode noPart (partsAt hs i p) k → Each Says noThreshold hs k → Own G owners all hs i k
   unfolding Own partsAt
   own-from [] i p k o b = tt
   own-from (h ∷ hs) i p k o b =
@@ -74,19 +73,19 @@ module _ (items : ℕ) (G : Graph ℕ) (owners table : List ℕ) where
     unfolding Listed many partsOf joined written
 
     listed-from : (t : Requirement) (i p k : ℕ) → Each OfNode noPart (partsOf outerKind t i p) k → Each Says noThreshold (thresholdsOf t) k
-        → Listed items G owners table t i k
+        → Listed G owners all t i k
     listed-from (node a f) i p k o b =
         let hs = a .thresholds in
         let rest = p + 10 + length (thresholdsBytes hs) in
         let q = each-split OfNode noPart (partsAt hs i (p + 10)) (partsOfF outerKind f (suc i) rest) k o in
         let r = each-split Says noThreshold hs (joined (writtenF f)) k b in (
           own-from hs i (p + 10) k (q .0) (r .0),
-          subst (λ (z : ℕ). ListedF items G owners table f z (k + length hs)) (sym (add-one i))
+          subst (λ (z : ℕ). ListedF G owners all f z (k + length hs)) (sym (add-one i))
               (listedF-from f (suc i) rest (k + length hs) (subst (λ (z : ℕ). Each OfNode noPart (partsOfF outerKind f (suc i) rest) (k + z)) (at-length hs i (p + 10)) (q .1)) (r .1)),
         )
 
     listedF-from : (f : Forest Label) (i p k : ℕ) → Each OfNode noPart (partsOfF outerKind f i p) k → Each Says noThreshold (joined (writtenF f)) k
-        → ListedF items G owners table f i k
+        → ListedF G owners all f i k
     listedF-from none i p k o b = tt
     listedF-from (more r t f) i p k o b =
         let rest = p + 1 + length (requirementBytes t) in
@@ -100,13 +99,12 @@ module _ (items : ℕ) (G : Graph ℕ) (owners table : List ℕ) where
               (subst (λ (z : ℕ). Each Says noThreshold (joined (writtenF f)) (k + z)) (sym (many-thresholds t)) (s .1)),
         )
 
-  -- a requirement that was read, its rows, the owners of its thresholds and their table
+  -- a requirement that was read, its rows, the owners of its thresholds and these themselves
   pub message-ruled : (names roles ends : List ℕ) (q : Requirement) (left e n : ℕ) → Holds names roles ends (bare q) left 0 e
       → n ≡ length (partsIn q)
       → ((k : ℕ) → k < length (partsIn q) → getD owners k 0 ≡ getD (partsIn q) k noPart .owner)
-      → ((k : ℕ) → k < length (thresholdsOf q) → (x : ℕ) → x < items → cell table k x ≡ passes G (getD (thresholdsOf q) k noThreshold) x)
-      → Ruled items ends G owners table n q 0
+      → all ≡ thresholdsOf q → Ruled G owners all ends n q 0
   message-ruled names roles ends q left e n h en o b =
-      ruled-all items G owners table names roles ends n q left e h
-      (listed-from q 0 3 0 (λ j l. rw zero-add (o j l)) (λ j l. rw zero-add (b j l)))
+      ruled-all G owners all names roles ends n q left e h
+      (listed-from q 0 3 0 (λ j l. rw zero-add (o j l)) (λ j l. rw zero-add (ap (λ (hs : List Threshold). getD hs j noThreshold) b)))
       (en ∙ parts-length q 0 3 ∙ sym (many-thresholds q))

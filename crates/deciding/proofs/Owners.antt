@@ -12,9 +12,10 @@ use Rattle.meaning.specs.Tree.{node, Forest, none, more, relabel, nodes, nodesF
 use Rattle.meaning.specs.Graph.{Graph}
 use Rattle.meaning.specs.Requirement.{Threshold, Label, Requirement, every, passes, bare}
 use Rattle.meaning.specs.Rows.{Holds, HoldsF}
-use Rattle.member.specs.Table.{cell, ruledAt, Ruled, RuledF}
-use Rattle.member.proofs.Children.{bareF}
-use Rattle.member.proofs.Trail.{holds-nodes}
+use Rattle.screening.specs.Standing.{noThreshold, ruledAt, Ruled, RuledF}
+use Rattle.screening.proofs.Through.{and-assoc}
+use Rattle.meeting.proofs.Children.{bareF}
+use Rattle.meeting.proofs.Trail.{holds-nodes}
 
 -- how many thresholds a tree has
 unfoldable mutual
@@ -25,15 +26,11 @@ unfoldable mutual
   manyF none = 0
   manyF (more r t f) = many t + manyF f
 
-and-assoc : (a b c : Bool) → ((a && b) && c) ≡ (a && (b && c))
-and-assoc true b c = refl
-and-assoc false b c = refl
-
-module _ (items : ℕ) (G : Graph ℕ) (owners table : List ℕ) where
+module _ (G : Graph ℕ) (owners : List ℕ) (all : List Threshold) where
   -- the thresholds from the k-th on are these, of the written node i
   unfoldable pub Own : List Threshold → ℕ → ℕ → Type 0
   Own [] i k = Unit {0}
-  Own (h ∷ hs) i k = (getD owners k 0 ≡ i) × ((x : ℕ) → x < items → cell table k x ≡ passes G h x) × Own hs i (suc k)
+  Own (h ∷ hs) i k = (getD owners k 0 ≡ i) × (getD all k noThreshold ≡ h) × Own hs i (suc k)
 
   -- those of a tree whose root is the i-th written node
   unfoldable mutual
@@ -85,40 +82,40 @@ module _ (items : ℕ) (G : Graph ℕ) (owners table : List ℕ) where
   -- ---- what they say at an item
 
   -- thresholds of other nodes
-  ruled-skip : (a d i x : ℕ) → ((j : ℕ) → a ≤ j → j < a + d → getD owners j 0 ≡ i → ⊥) → ruledAt owners table (a + d) i x ≡ ruledAt owners table a i x
+  ruled-skip : (a d i x : ℕ) → ((j : ℕ) → a ≤ j → j < a + d → getD owners j 0 ≡ i → ⊥) → ruledAt G owners all (a + d) i x ≡ ruledAt G owners all a i x
   unfolding ruledAt
   ruled-skip a zero i x h = let e : a + 0 ≡ a = omega arith in rw e
   ruled-skip a (suc d) i x h =
       let e : a + suc d ≡ suc (a + d) = omega arith in
       rw e (
-      ap (λ (b : Bool). ruledAt owners table (a + d) i x && (not b || cell table (a + d) x)) (ne-eqb (getD owners (a + d) 0) i (h (a + d) (omega arith) (omega arith)))
-      ∙ and-true (ruledAt owners table (a + d) i x)
+      ap (λ (b : Bool). ruledAt G owners all (a + d) i x && (not b || passes G (getD all (a + d) noThreshold) x)) (ne-eqb (getD owners (a + d) 0) i (h (a + d) (omega arith) (omega arith)))
+      ∙ and-true (ruledAt G owners all (a + d) i x)
       ∙ ruled-skip a d i x (λ j p q. h j p (omega arith)))
 
   -- the node's own
-  ruled-own : (hs : List Threshold) (i k x : ℕ) → x < items → Own hs i k
-      → ruledAt owners table (k + length hs) i x ≡ (ruledAt owners table k i x && every (λ h. passes G h x) hs)
+  ruled-own : (hs : List Threshold) (i k x : ℕ) → Own hs i k
+      → ruledAt G owners all (k + length hs) i x ≡ (ruledAt G owners all k i x && every (λ h. passes G h x) hs)
   unfolding Own ruledAt every
-  ruled-own [] i k x l w = let e : k + 0 ≡ k = omega arith in rw e (sym (and-true (ruledAt owners table k i x)))
-  ruled-own (h ∷ hs) i k x l w =
+  ruled-own [] i k x w = let e : k + 0 ≡ k = omega arith in rw e (sym (and-true (ruledAt G owners all k i x)))
+  ruled-own (h ∷ hs) i k x w =
       let e : k + suc (length hs) ≡ suc k + length hs = omega arith in
       rw e (
-      ruled-own hs i (suc k) x l (w .2)
-      ∙ ap₂ (λ (b c : Bool). (ruledAt owners table k i x && (not b || c)) && every (λ z. passes G z x) hs) (eq-eqb (getD owners k 0) i (w .0)) (w .1 x l)
-      ∙ and-assoc (ruledAt owners table k i x) (passes G h x) (every (λ z. passes G z x) hs))
+      ruled-own hs i (suc k) x (w .2)
+      ∙ ap₂ (λ (b c : Bool). (ruledAt G owners all k i x && (not b || c)) && every (λ z. passes G z x) hs) (eq-eqb (getD owners k 0) i (w .0)) (ap (λ (z : Threshold). passes G z x) (w .1))
+      ∙ and-assoc (ruledAt G owners all k i x) (passes G h x) (every (λ z. passes G z x) hs))
 
-  ruled-node : (hs : List Threshold) (i k n x : ℕ) → x < items → Own hs i k → ((j : ℕ) → j < k → getD owners j 0 < i)
+  ruled-node : (hs : List Threshold) (i k n x : ℕ) → Own hs i k → ((j : ℕ) → j < k → getD owners j 0 < i)
       → ((j : ℕ) → k + length hs ≤ j → j < n → i < getD owners j 0) → k + length hs ≤ n
-      → ruledAt owners table n i x ≡ every (λ h. passes G h x) hs
+      → ruledAt G owners all n i x ≡ every (λ h. passes G h x) hs
   unfolding ruledAt
-  ruled-node hs i k n x l w before behind m =
+  ruled-node hs i k n x w before behind m =
       let e : k + length hs + (n - (k + length hs)) ≡ n = omega arith in
       let f : 0 + k ≡ k = omega arith in
-      ap (λ (z : ℕ). ruledAt owners table z i x) (sym e)
+      ap (λ (z : ℕ). ruledAt G owners all z i x) (sym e)
       ∙ ruled-skip (k + length hs) (n - (k + length hs)) i x (λ j p q d. let z = behind j p (omega arith) in let y : getD owners j 0 ≡ i = d in omega arith)
-      ∙ ruled-own hs i k x l w
+      ∙ ruled-own hs i k x w
       ∙ ap (λ (b : Bool). b && every (λ h. passes G h x) hs)
-      (ap (λ (z : ℕ). ruledAt owners table z i x) (sym f)
+      (ap (λ (z : ℕ). ruledAt G owners all z i x) (sym f)
       ∙ ruled-skip 0 k i x (λ j p q d. let z = before j (omega arith) in let y : getD owners j 0 ≡ i = d in omega arith))
 
   module _ (names roles ends : List ℕ) (n : ℕ) where
@@ -127,10 +124,10 @@ module _ (items : ℕ) (G : Graph ℕ) (owners table : List ℕ) where
 
       listed-ruled : (t : Requirement) (left i e k : ℕ) → Holds names roles ends (bare t) left i e → Listed t i k
           → ((j : ℕ) → j < k → getD owners j 0 < i) → ((j : ℕ) → k + many t ≤ j → j < n → i + nodes t ≤ getD owners j 0) → k + many t ≤ n
-          → Ruled items ends G owners table n t i
+          → Ruled G owners all ends n t i
       listed-ruled (node a f) left i e k h w before behind m =
           let len : ℕ = length (a .thresholds) in (
-            (λ x l. ruled-node (a .thresholds) i k n x l (w .0) before (λ j p q. later j p q) (omega arith)),
+            (λ x. ruled-node (a .thresholds) i k n x (w .0) before (λ j p q. later j p q) (omega arith)),
             listedF-ruled f (left - 1) (i + 1) e (k + len) (h .4) (w .1) (λ j p. sooner j p) (λ j p q. let z = behind j (omega arith) q in omega arith) (omega arith),
           )
         where
@@ -153,7 +150,7 @@ module _ (items : ℕ) (G : Graph ℕ) (owners table : List ℕ) where
 
       listedF-ruled : (f : Forest Label) (left i e k : ℕ) → HoldsF names roles ends (bareF f) left i e → ListedF f i k
           → ((j : ℕ) → j < k → getD owners j 0 < i) → ((j : ℕ) → k + manyF f ≤ j → j < n → i + nodesF f ≤ getD owners j 0) → k + manyF f ≤ n
-          → RuledF items ends G owners table n f i
+          → RuledF G owners all ends n f i
       listedF-ruled none left i e k h w before behind m = tt
       listedF-ruled (more r t f) left i e k h w before behind m =
           let p = holds-nodes names roles ends t left i (getD ends i 0) (h .2) in (
@@ -177,6 +174,6 @@ module _ (items : ℕ) (G : Graph ℕ) (owners table : List ℕ) where
               go false q = listed-among t i k j (w .0) (ltb-false j k q) c .1
 
     -- the whole requirement
-    pub ruled-all : (q : Requirement) (left e : ℕ) → Holds names roles ends (bare q) left 0 e → Listed q 0 0 → n ≡ many q → Ruled items ends G owners table n q 0
+    pub ruled-all : (q : Requirement) (left e : ℕ) → Holds names roles ends (bare q) left 0 e → Listed q 0 0 → n ≡ many q → Ruled G owners all ends n q 0
     ruled-all q left e h w m =
         listed-ruled q left 0 e 0 h w (λ j p. absurd (let z : j < 0 = p in omega arith)) (λ j p c. absurd (omega arith)) (omega arith)

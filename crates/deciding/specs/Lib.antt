@@ -1,4 +1,3 @@
 pub mod Answers
-pub mod Thresholds
 pub mod BothRead
 pub mod Refusing

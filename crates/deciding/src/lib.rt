@@ -1,20 +1,12 @@
-// The yes/no call: it reads the image and the message, reads each threshold's inner concept again and judges it over all items, and settles.
+// The yes/no call: it reads the image and the message, indexes the image's links, and settles.
 use meaning::Refusal;
 use meaning::Side;
 use register::Reading;
 use requirement::Message;
 ghost use mathlib.Core.Path.{_≡_};
-ghost use Prim.Native.Nat.{_≤_, _<_};
 ghost use lib.ListN.{length};
-ghost use Rattle.meaning.specs.Bounds.{mostThresholds};
-ghost use Rattle.meaning.specs.Register.{judged};
-ghost use Rattle.meaning.specs.Requirement.{Threshold, passes};
-ghost use Rattle.register.specs.Image.{Asked, Image};
-ghost use Rattle.degree.specs.Given.{Worked};
-ghost use Rattle.member.specs.Table.{Rowed};
-ghost use Rattle.member.specs.Case.{Settled};
+ghost use Rattle.meeting.specs.Case.{Settled};
 ghost use Rattle.deciding.specs.Answers.{refusedCall};
-ghost use Rattle.deciding.specs.Thresholds.{StandsAt, OneStands, AllStand, Tabled};
 ghost use Rattle.deciding.specs.BothRead.{Imaged, BothRead};
 ghost use Rattle.deciding.specs.Refusing.{DecidePromise};
 
@@ -98,7 +90,7 @@ fn refused(number: usize) -> Verdict
     }
 }
 
-// The same, of an image and a message that were read: the thresholds' table, then the tree.
+// The same, of an image and a message that were read.
 fn decide_read(
     image: &[u8],
     items: usize,
@@ -118,120 +110,20 @@ fn decide_read(
         (now (owners .entry)) (now (firsts .entry)) parts item (length (now (map .entry))))
         → Settled (k .register) (k .requirement) item (now (map .entry)) (now (map .exit)) r) ⌝ }
 {
-    let mut table = [0u64; 512];
-    fill_table(image, items, links, message, firsts, parts, &mut table);
-    member::settle(
+    let mut index = [0u16; 513];
+    graph::fill_index(image, items, links, &mut index);
+    meeting::settle(
         image,
         items,
-        links,
+        &index,
+        message,
         names,
         roles,
         ends,
         owners,
+        firsts,
         parts,
-        &table,
         item,
         map,
-    )
-}
-
-// The rows of all thresholds: row k says which items satisfy the k-th.
-fn fill_table(
-    image: &[u8],
-    items: usize,
-    links: usize,
-    message: &[u8],
-    firsts: &[u16; 16],
-    parts: usize,
-    table: &mut [u64],
-)
-    requires { ⌜ Asked (now image) (λ g. (items ≡ length (g .names)) × (links ≡ length (g .links))) ⌝ }
-    requires { ⌜ AllStand (now message) (now firsts) parts ⌝ }
-    requires { ⌜ (parts ≤ mostThresholds) × (items ≤ length (now table)) ⌝ }
-    ensures { λ _. ⌜ Image (now (image .entry)) (λ g. (a : AllStand (now (message .entry)) (now (firsts .entry)) parts)
-        → Tabled items (judged g) (a .thresholds) parts (now (table .exit))) ⌝ }
-{
-    let mut k = 0;
-    while k < parts {
-        fill_row(
-            image,
-            items,
-            links,
-            message,
-            fields::pair(firsts[k]),
-            k,
-            table,
-        );
-        k += 1;
-    }
-}
-
-// The row of the k-th threshold, which stands at `first`.
-fn fill_row(
-    image: &[u8],
-    items: usize,
-    links: usize,
-    message: &[u8],
-    first: usize,
-    k: usize,
-    table: &mut [u64],
-)
-    requires { ⌜ Asked (now image) (λ g. (items ≡ length (g .names)) × (links ≡ length (g .links))) ⌝ }
-    requires { ⌜ OneStands (now message) first ⌝ }
-    requires { ⌜ (k < 64) × (items ≤ length (now table)) ⌝ }
-    ensures { λ _. ⌜ Image (now (image .entry)) (λ g. (h : Threshold) → StandsAt (now (message .entry)) first h
-        → Rowed (λ x. passes (judged g) h x) k (now (table .entry)) (now (table .exit)) items) ⌝ }
-{
-    let mut values = [0u32; 512];
-    let scale = grade(image, items, links, message, first, &mut values[..items]);
-    let p = fields::two(message, first + 1) as u64;
-    let q = fields::two(message, first + 3) as u64;
-    member::judge(
-        items,
-        &values[..items],
-        scale,
-        message[first],
-        p,
-        q,
-        k,
-        table,
-    );
-}
-
-// The degrees of all items in the inner concept of the threshold at `first`, over the scale that is answered.
-fn grade(
-    image: &[u8],
-    items: usize,
-    links: usize,
-    message: &[u8],
-    first: usize,
-    out: &mut [u32],
-) -> u64
-    requires { ⌜ Asked (now image) (λ g. (items ≡ length (g .names)) × (links ≡ length (g .links))) ⌝ }
-    requires { ⌜ OneStands (now message) first ⌝ }
-    requires { ⌜ length (now out) ≡ items ⌝ }
-    ensures { λ r. ⌜ Image (now (image .entry)) (λ g. (h : Threshold) → StandsAt (now (message .entry)) first h
-        → Worked g (h .inner) items r (now (out .exit))) ⌝ }
-{
-    let mut packed = [0u64; 144];
-    let mut marks = [0u8; 64];
-    let at = first + 7;
-    let stop = at + fields::two(message, first + 5);
-    parts::read_concept(message, at, stop, &mut packed);
-    let names = rows::names(&packed);
-    let roles = rows::roles(&packed);
-    let ends = rows::ends(&packed);
-    reduction::reduce(&names, &roles, &ends, &mut marks);
-    degree::degrees(
-        image,
-        items,
-        links,
-        &names,
-        &roles,
-        &ends,
-        &marks,
-        0,
-        meaning::MOST_LEVELS,
-        out,
     )
 }

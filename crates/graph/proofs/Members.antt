@@ -28,6 +28,14 @@ same-item x y e = go (eqb (x % 64) (y % 64)) refl
     go true q = let z = eqb-true (x % 64) (y % 64) q in sym (eq-eqb x y (omega arith))
     go false q = sym (ne-eqb x y (λ z. eqb-false (x % 64) (y % 64) q (ap (λ (n : ℕ). n % 64) z)))
 
+-- a set that has an item is the set with it
+pub with-there : (old : List ℕ) (x : ℕ) → inSet old x ≡ true → With old x old
+with-there old x h y = go (eqb x y) refl
+  where
+    go : (b : Bool) → eqb x y ≡ b → inSet old y ≡ (b || inSet old y)
+    go true q = ap (λ (z : ℕ). inSet old z) (sym (eqb-true x y q)) ∙ h
+    go false q = refl
+
 module _ (old : List ℕ) (x v : ℕ) (h : x / 64 < length old) where
   here : (y : ℕ) → y / 64 ≡ x / 64 → inSet (set old (x / 64) v) y ≡ has v (y % 64)
   here y e = ap (λ (z : ℕ). has z (y % 64)) (ap (λ (w : ℕ). getD (set old (x / 64) v) w 0) e ∙ getD-set-same old (x / 64) v 0 h)

@@ -149,7 +149,7 @@ fn gather(s: &[u8], items: usize, first: usize, end: usize, set: &mut [u64])
 {
     let mut k = first;
     while k < end {
-        sets::include(set, end_of(s, items, k));
+        sets::add(set, end_of(s, items, k));
         k += 1;
     }
 }

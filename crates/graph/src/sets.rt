@@ -24,6 +24,17 @@ pub fn include(set: &mut [u64], x: usize)
     set[w] = set[w] | (1u64 << (x % 64));
 }
 
+// The same, where the item is often there already: a number that is not written can be read again at once.
+pub fn add(set: &mut [u64], x: usize)
+    requires { ⌜ (length (now set) ≡ 8) × (x < mostItems) ⌝ }
+    ensures { λ _. ⌜ With (now (set .entry)) x (now (set .exit)) ⌝ }
+{
+    if contains(set, x) {
+        return;
+    }
+    include(set, x);
+}
+
 // Takes an item out of a set that has it.
 pub fn exclude(set: &mut [u64], x: usize)
     requires { ⌜ (length (now set) ≡ 8) × (x < mostItems) × (inSet (now set) x ≡ true) ⌝ }

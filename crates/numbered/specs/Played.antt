@@ -44,7 +44,8 @@ Promised s keeps r t =
     × (t .buffer ≡ s .buffer)
     × (t .log ≡ s .log)
 
--- What the contracts of `edit`, `undo` and `keep` say, and with `session::open` that of an opening: a call of a buffer of bytes. "the count in use is handed over and handed back"; after a refusal "the step count stays".
+-- What the contracts of `edit`, `undo` and `keep` say, and with `session::open` that of an opening: a call of a buffer of bytes.
+-- "the count in use is handed over and handed back"; after a refusal "the step count stays".
 pub record Called (s : Lent) (c : Call) (r : Counted) (t : Lent) : Type 0 where
   pub bytes : Bytes (s .buffer)
   pub promised : Promised s c r t

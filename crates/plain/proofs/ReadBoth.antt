@@ -13,17 +13,17 @@ use Rattle.meaning.specs.Calls.{readPlain}
 use Rattle.meaning.proofs.Reading.{took, stopped, not-good}
 use Rattle.register.specs.declared.Reading.{Reading}
 use Rattle.register.specs.declared.Reading.the-variants.{Good as GoodReading, Refused as RefusedReading}
-use Rattle.register.specs.Reading.{Counts, paper, counted}
+use Rattle.register.specs.Reading.{Counts, paperReading, counted}
 use Rattle.plain.specs.declared.Plain.{Plain}
 use Rattle.plain.specs.declared.Plain.the-variants.{Good as GoodPlain, Refused as RefusedPlain}
 use Rattle.plain.specs.declared.Both.the-variants.{Good as GoodBoth, Refused as RefusedBoth}
 use Rattle.plain.specs.Reading.{Rows, PlainOutcome, PlainDone, readBoth, BothOutcome, BothDone}
 
-module _ (image message : List ℕ) (r : Reading) (says : paper r ≡ counted (readRegister image)) where
+module _ (image message : List ℕ) (r : Reading) (says : paperReading r ≡ counted (readRegister image)) where
   pub register-refused : (A : Rows) (f : Refusal) → r ≡ RefusedReading f → BothDone image message A (RefusedBoth f)
   unfolding readBoth counted _>>=_
   register-refused A f e =
-      subst (λ a. BothOutcome image A a (RefusedBoth f)) (sym (stopped (readRegister image) _ f (go (readRegister image) (sym (ap paper e) ∙ says)))) refl
+      subst (λ a. BothOutcome image A a (RefusedBoth f)) (sym (stopped (readRegister image) _ f (go (readRegister image) (sym (ap paperReading e) ∙ says)))) refl
     where
       go : (a : Answer Register) → refused f ≡ counted a → a ≡ refused f
       go (good g) d = absurd (not-good d)
@@ -33,7 +33,7 @@ module _ (image message : List ℕ) (r : Reading) (says : paper r ≡ counted (r
     -- the register, and how many items and links it has
     read : (g : Register) × (readRegister image ≡ good g) × (n ≡ length (g .names)) × (m ≡ length (g .links))
     unfolding counted _>>=_
-    read = go (readRegister image) refl (sym (ap paper e) ∙ says)
+    read = go (readRegister image) refl (sym (ap paperReading e) ∙ says)
       where
         go : (a : Answer Register) → readRegister image ≡ a → good (record { items = n; links = m }) ≡ counted a
             → (g : Register) × (readRegister image ≡ good g) × (n ≡ length (g .names)) × (m ≡ length (g .links))

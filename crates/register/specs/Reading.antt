@@ -27,10 +27,6 @@ abbrev pub paperReading : Reading → Answer Counts
 paperReading (Good n m) = good (record { items = n; links = m })
 paperReading (Refused r) = refused r
 
--- the former name, for crates that still say it
-abbrev pub paper : Reading → Answer Counts
-paper r = paperReading r
-
 -- of a register that was read, its counts
 abbrev pub sizes : Register → Answer Counts
 sizes g = good (record { items = length (g .names); links = length (g .links) })

@@ -243,7 +243,8 @@ module _ (s : List ℕ) (end owner k p parts : ℕ) (A : List ℕ) where
       pub thresholds-then : (C : List ℕ) (r′ : Reached) → ThresholdsDone s end owner (k - 1) i m B C r′ → ThresholdsDone s end owner k p parts A C r′
       thresholds-then C r′ rest n ps l h =
           go (readThresholds s end owner (k - 1) (x .0 .1)) refl
-          (subst (λ (v : Spot). PartsOutcome end i n B C (readThresholds s end owner (k - 1) v) r′) (sym (same-spot (x .0 .1) i n (x .3) (x .2 .same))) (rest n (x .0 .1 .parts) (x .4) (x .2 .parted)))
+          (subst (λ (v : Spot). PartsOutcome end i n B C (readThresholds s end owner (k - 1) v) r′) (sym (same-spot (x .0 .1) i n (x .3) (x .2 .same)))
+          (rest n (x .0 .1 .parts) (x .4) (x .2 .parted)))
         where
           x : (x : Threshold × Spot) × (readThreshold s end owner (spot p n ps) ≡ good x) × PartsGood end (p + 7) n A B (x .1) r × (x .1 .next ≡ i) × (length (x .1 .parts) ≡ m)
           x = parts-good end (p + 7) n A B _ r i z m (done n ps l h) e

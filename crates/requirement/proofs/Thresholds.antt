@@ -74,7 +74,8 @@ module _ (s : List ℕ) (stop′ p : ℕ) where
 -- the tests after an inner concept, and then what is made of it
 regroup : {X : Type 0} (a : Answer (Concept × Spot)) (stop′ p : ℕ) (g : Concept → X)
     → (a >>= λ x. (refuseIf (ltb (x .1 .next) stop′) (at requirement 8 (x .1 .next)) >> (refuseIf (ltb mostSize (size (reduce (x .0)))) (at requirement 14 p) >> good (g (x .0)))))
-    ≡ ((a >>= λ x. (refuseIf (ltb (x .1 .next) stop′) (at requirement 8 (x .1 .next)) >> (refuseIf (ltb mostSize (size (reduce (x .0)))) (at requirement 14 p) >> good x))) >>= λ x. good (g (x .0)))
+    ≡ ((a >>= λ x. (refuseIf (ltb (x .1 .next) stop′) (at requirement 8 (x .1 .next)) >>
+    (refuseIf (ltb mostSize (size (reduce (x .0)))) (at requirement 14 p) >> good x))) >>= λ x. good (g (x .0)))
 unfolding _>>=_ _>>_ refuseIf
 regroup (refused r) stop′ p g = refl
 regroup (good x) stop′ p g = go (ltb (x .1 .next) stop′) (ltb mostSize (size (reduce (x .0))))
@@ -82,7 +83,8 @@ regroup (good x) stop′ p g = go (ltb (x .1 .next) stop′) (ltb mostSize (size
     go : (b c : Bool)
         → (refuseIf b (at requirement 8 (x .1 .next)) >> (refuseIf c (at requirement 14 p) >> good (g (x .0))))
         ≡ ((refuseIf b (at requirement 8 (x .1 .next)) >> (refuseIf c (at requirement 14 p) >> good x)) >>= λ x. good (g (x .0)))
-    go true c = refl
+    go true c =
+        refl
     go false true = refl
     go false false = refl
 

@@ -3,7 +3,7 @@
 // numbers, so no bit pattern that a caller hands in is undefined.
 use answers;
 
-mod degrees;
+mod asks;
 mod trial;
 pub mod yes_no;
 

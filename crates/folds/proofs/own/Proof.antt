@@ -1,10 +1,5 @@
 use Rattle.folds.proofs.own.Statement.{statement}
 use Rattle.folds.proofs.own.Tie as tie
-use Rattle.folds.proofs.own.Reads as reads
-use Rattle.folds.proofs.own.Lts as lts
-use Rattle.folds.proofs.folded.Reads as folded-reads
-use Rattle.graph.proofs.names.Reads as names-reads
-use Rattle.graph.proofs.sets.next_in.Reads as next-in-reads
 use Rattle.fields.proofs.Known.{bytes-known}
 use Rattle.meaning.proofs.Image.{image-fits}
 use Prim.Native.Nat.{_≤_, _<_, _-_, _+_, _*_, ℕ}
@@ -31,103 +26,60 @@ abbrev μ-loop : tie.MeasureT-loop
 μ-loop s names scale set at numbers₀ x₀ numbers x =
     512 - x
 
--- src/lib.rt:117:9
-next-in-requires : tie.Need-next-in-requires Inv-loop μ-loop
-next-in-requires c κs =
-    (c .before .before .before .pre .0 .holds .0 .0, omega arith)
-
--- src/lib.rt:118:5
-loop-holds : tie.Need-loop-holds Inv-loop μ-loop
-loop-holds c =
-    (c .next-in .ensures .within, c .next-in .ensures .member, refl, λ g h. filled-none _ _ _ _ _ (λ x a b m. true-false m (c .next-in .ensures .passed x a b)))
-
--- src/lib.rt:119:46
-names-requires : tie.Need-names-requires Inv-loop μ-loop
-names-requires c κs =
-    record { register = c .before .before .before .before .before .before .pre .0 .register; read = c .before .before .before .before .before .before .pre .0 .read; holds = c .before .before .before .before .before .before .pre .0 .holds .0 .1 _ (c .before .loop .inv .1 (c .loop-test .taken)) }
-
--- src/lib.rt:120:57
-add-folded : tie.Need-add-folded Inv-loop μ-loop
-add-folded c = search needs
-
--- src/lib.rt:120:57
-add-folded-2 : tie.Need-add-folded-2 Inv-loop μ-loop
-add-folded-2 c = search needs
-
--- src/lib.rt:120:49
-mul-folded : tie.Need-mul-folded Inv-loop μ-loop
-mul-folded c = search needs
-
--- src/lib.rt:120:49
-slice-read-folded : tie.Need-slice-read-folded Inv-loop μ-loop
-slice-read-folded c = search needs
-
--- src/lib.rt:120:27
-folded-requires : tie.Need-folded-requires Inv-loop μ-loop
-folded-requires c κs =
-    sum-fits _ _ _ _ _ 1 _ (ap (common (c .before .before .before .before .before .before .before .before .args .names)) (c .before .names .ensures (c .before .before .before .before .before .before .before .before .pre .0 .register) (c .before .before .before .before .before .before .before .before .pre .0 .read))) (filled-apart _ _ _ _ _ _ (c .before .before .before .loop .inv .3 (c .before .before .before .before .before .before .before .before .pre .0 .register) (c .before .before .before .before .before .before .before .before .pre .0 .read)) (c .before .before .before .before .before .before .before .before .args .at + 512) (inr (omega arith)) _ (c .before .before .loop-test .taken)) (rw times-one (c .before .before .before .before .before .before .before .before .pre .0 .holds .1 _ (c .before .before .before .loop .inv .1 (c .before .before .loop-test .taken))))
-
--- src/lib.rt:120:17
-add-numbers : tie.Need-add-numbers Inv-loop μ-loop
-add-numbers c = search needs
-
--- src/lib.rt:120:9
-mul-numbers : tie.Need-mul-numbers Inv-loop μ-loop
-mul-numbers c = search needs
-
--- src/lib.rt:120:9
-slice-write-numbers : tie.Need-slice-write-numbers Inv-loop μ-loop
-slice-write-numbers c = search needs
-
--- src/lib.rt:121:39
-add-next-in : tie.Need-add-next-in Inv-loop μ-loop
-add-next-in c = search needs
-
--- src/lib.rt:121:9
-next-in-requires-2 : tie.Need-next-in-requires-2 Inv-loop μ-loop
-next-in-requires-2 c κs =
-    (c .before .before .before .before .before .before .before .before .before .pre .0 .holds .0 .0, omega arith)
-
--- src/lib.rt:118:5
-loop-less : tie.Need-loop-less Inv-loop μ-loop
-loop-less c =
-    omega (arith, c .next-in2 .ensures .behind, c .before .before .before .before .loop-test .taken)
-
--- src/lib.rt:118:5
-loop-again : tie.Need-loop-again Inv-loop μ-loop
-loop-again c =
-    (c .next-in2 .ensures .within, c .next-in2 .ensures .member, simp length-set (c .before .before .before .before .before .loop .inv .2), λ g h. filled-more _ _ _ _ _ _ (c .before .before .before .before .before .loop .inv .3 g h) _ _ (c .before .before .before .before .loop-test .taken) (omega arith) (sum-is _ _ _ _ _ _ 1 (c .before .folded .ensures) (ap (common (c .before .before .before .before .before .before .before .before .before .before .args .names)) (c .before .before .before .names .ensures g h)) (filled-apart _ _ _ _ _ _ (c .before .before .before .before .before .loop .inv .3 g h) (c .before .before .before .before .before .before .before .before .before .before .args .at + 512) (inr (omega arith)) _ (c .before .before .before .before .loop-test .taken)) ∙ times-one _ _) (c .next-in2 .ensures .behind) (λ x a b m. true-false m (c .next-in2 .ensures .passed x a b)))
-
--- src/lib.rt:109:1
-same-length : tie.Need-same-length Inv-loop μ-loop
-same-length c =
-    c .before .loop .inv .2
-
--- src/lib.rt:109:1
-returns : tie.Need-returns Inv-loop μ-loop
-returns c =
-    (λ g h x m. c .before .loop .inv .3 g h .done x (omega (arith, c .loop-test .left, c .before .loop .inv .0, image-fits _ g (bytes-known (c .before .before .before .before .before .before .args .s .now) (c .before .before .before .before .before .shared-slice-known .given)) h .0 .items, asked-image (c .before .before .before .before .before .before .pre .0) g h .0 .1 x m)) m, filled-kept _ _ _ _ _ _ (c .before .loop .inv .3 (c .before .before .before .before .before .before .pre .0 .register) (c .before .before .before .before .before .before .pre .0 .read)))
-
 pub own-spec : {M : Type 1} → statement M
 own-spec =
     tie.close
     (tie.spec
     Inv-loop
     μ-loop
-    next-in-requires
-    loop-holds
-    names-requires
-    add-folded
-    add-folded-2
-    mul-folded
-    slice-read-folded
-    folded-requires
-    add-numbers
-    mul-numbers
-    slice-write-numbers
-    add-next-in
-    next-in-requires-2
-    loop-less
-    loop-again
-    same-length
-    returns)
+    (λ c κs. (c .before .before .before .pre .0 .holds .0 .0, omega arith))
+    (λ c.
+    (c .next-in .ensures .within, c .next-in .ensures .member, refl, λ g h. filled-none _ _ _ _ _ (λ x a b m. true-false m (c .next-in .ensures .passed x a b))))
+    (λ c κs.
+    let start = c .before .before .before .before .before .before in
+    record { register = start .pre .0 .register; read = start .pre .0 .read; holds = start .pre .0 .holds .0 .1 _ (c .before .loop .inv .1 (c .loop-test .taken)) })
+    (λ c. search needs)
+    (λ c. search needs)
+    (λ c. search needs)
+    (λ c. search needs)
+    (λ c κs.
+    let at-loop-test = c .before .before in
+    let turn = at-loop-test .before in
+    let start = turn .before .before .before .before .before in
+    sum-fits _ _ _ _ _ 1 _ (ap (common (start .args .names)) (c .before .names .ensures (start .pre .0 .register) (start .pre .0 .read))) (filled-apart _ _ _ _ _ _
+    (turn .loop .inv .3 (start .pre .0 .register) (start .pre .0 .read)) (start .args .at + 512) (inr (omega arith)) _ (at-loop-test .loop-test .taken)) (rw
+    times-one (start .pre .0 .holds .1 _ (turn .loop .inv .1 (at-loop-test .loop-test .taken)))))
+    (λ c. search needs)
+    (λ c. search needs)
+    (λ c. search needs)
+    (λ c. search needs)
+    (λ c κs. (c .before .before .before .before .before .before .before .before .before .pre .0 .holds .0 .0, omega arith))
+    (λ c. omega (arith, c .next-in2 .ensures .behind, c .before .before .before .before .loop-test .taken))
+    (λ c.
+    let at-names = c .before .before .before in
+    let at-loop-test = at-names .before in
+    let turn = at-loop-test .before in
+    let start = turn .before .before .before .before .before in (
+      c .next-in2 .ensures .within,
+      c .next-in2 .ensures .member,
+      simp length-set (turn .loop .inv .2),
+      λ g h. filled-more _ _ _ _ _ _ (turn .loop .inv .3 g h) _ _
+          (at-loop-test .loop-test .taken) (omega arith) (sum-is _ _ _ _ _ _ 1 (c .before .folded .ensures) (ap (common (start .args .names)) (at-names .names .ensures
+          g h)) (filled-apart _ _ _ _ _ _ (turn .loop .inv .3 g h) (start .args .at + 512) (inr (omega arith)) _ (at-loop-test .loop-test .taken)) ∙ times-one _ _) (c .next-in2 .ensures .behind)
+          (λ x a b m. true-false m (c .next-in2 .ensures .passed x a b)),
+    ))
+    (λ c. c .before .loop .inv .2)
+    (λ c.
+    let at-shared-slice-known = c .before .before .before .before .before in
+    let start = at-shared-slice-known .before in (
+      λ g h x m. c .before .loop .inv .3 g h .done x (omega (
+        arith,
+        c .loop-test .left,
+        c .before .loop .inv .0,
+        image-fits _ g (bytes-known (start .args .s .now)
+            (at-shared-slice-known .shared-slice-known .given)) h .0 .items,
+        asked-image (start .pre .0) g h .0 .1 x m,
+      )) m,
+      filled-kept _ _ _ _ _ _ (c .before .loop .inv .3
+          (start .pre .0 .register) (start .pre .0 .read)),
+    )))

@@ -22,10 +22,22 @@ same-length c =
 
 returns : tie.Need-returns
 returns c =
-    let b = bytes-known (c .before .before .before .before .before .before .before .before .before .before .args .s .now) (c .before .before .before .before .before .before .before .before .before .shared-slice-known .given) in
-    let a = c .before .before .before .before .before .before .before .before .before .before .pre .0 in
-    let w = c .before .before .before .before .before .before .note-ends .ensures .0 (a .register) (a .read) in
-    record { register = a .register; read = a .read; items-are = a .holds .0; most = omega (arith, image-fits (c .before .before .before .before .before .before .before .before .before .before .args .s .now) (a .register) b (a .read) .0 .items, a .holds .0); room = omega (arith, c .before .before .before .before .before .before .before .before .before .before .pre .1 .0, c .before .before .raise .kept .1 .0, c .before .before .before .before .before .before .note-ends .kept .1 .1 .1 .0); indexed = begins-all (c .before .before .before .before .before .before .before .before .before .before .args .s .now) b (a .register) (a .read) _ _ _ (c .before .before .before .before .before .before .note-ends .ensures .1) (rw (a .holds .1) at w) (c .before .before .raise .ensures) }
+    let at-raise = c .before .before in
+    let at-note-ends = at-raise .before .before .before .before in
+    let at-shared-slice-known = at-note-ends .before .before .before in
+    let start = at-shared-slice-known .before in
+    let b = bytes-known (start .args .s .now) (at-shared-slice-known .shared-slice-known .given) in
+    let a = start .pre .0 in
+    let w = at-note-ends .note-ends .ensures .0 (a .register) (a .read) in
+    record {
+      register = a .register;
+      read = a .read;
+      items-are = a .holds .0;
+      most = omega (arith, image-fits (start .args .s .now) (a .register) b (a .read) .0 .items, a .holds .0);
+      room = omega (arith, start .pre .1 .0, at-raise .raise .kept .1 .0, at-note-ends .note-ends .kept .1 .1 .1 .0);
+      indexed = begins-all (start .args .s .now) b (a .register) (a .read) _ _
+          _ (at-note-ends .note-ends .ensures .1) (rw (a .holds .1) at w) (at-raise .raise .ensures);
+    }
 
 pub fill-index-spec : {M : Type 1} → statement M
 fill-index-spec = tie.close (tie.spec note-ends-requires raise-requires same-length returns)

@@ -25,11 +25,14 @@ loop-holds c =
 
 end-of-requires : tie.Need-end-of-requires Inv-loop μ-loop
 end-of-requires c κs =
-    record { register = c .before .before .before .before .before .pre .0 .register; read = c .before .before .before .before .before .pre .0 .read; holds = (c .before .before .before .before .before .pre .0 .holds .0, omega (arith, c .before .before .before .before .before .pre .0 .holds .1)) }
+    let start = c .before .before .before .before .before in
+    record { register = start .pre .0 .register; read = start .pre .0 .read; holds = (start .pre .0 .holds .0, omega (arith, start .pre .0 .holds .1)) }
 
-include-requires : tie.Need-include-requires Inv-loop μ-loop
-include-requires c κs =
-    (c .before .before .before .loop .inv .1 ∙ c .before .before .before .before .before .before .pre .1 .0, omega (arith, c .end-of .ensures .1, c .before .before .before .before .before .before .pre .1 .1))
+add-requires : tie.Need-add-requires Inv-loop μ-loop
+add-requires c κs =
+    let at-loop = c .before .before .before in
+    let start = at-loop .before .before .before in
+    (at-loop .loop .inv .1 ∙ start .pre .1 .0, omega (arith, c .end-of .ensures .1, start .pre .1 .1))
 
 add-k : tie.Need-add-k Inv-loop μ-loop
 add-k c = search needs
@@ -39,7 +42,14 @@ loop-less c = search needs
 
 loop-again : tie.Need-loop-again Inv-loop μ-loop
 loop-again c =
-    (omega arith, c .before .before .include .kept .0 ∙ c .before .before .before .before .before .before .loop .inv .1, λ g h. gathered-more _ _ _ _ _ _ _ _ (c .before .before .before .before .before .before .loop .inv .2 g h) (c .before .before .include .ensures) (c .before .before .before .end-of .ensures .0 g h) (c .before .before .before .end-of .ensures .1))
+    let at-include = c .before .before in
+    let at-end-of = at-include .before in
+    let at-loop = at-end-of .before .before .before in (
+      omega arith,
+      at-include .add .kept .0 ∙ at-loop .loop .inv .1,
+      λ g h. gathered-more _ _ _ _ _ _ _ _ (at-loop .loop .inv .2 g h) (at-include .add .ensures)
+          (at-end-of .end-of .ensures .0 g h) (at-end-of .end-of .ensures .1),
+    )
 
 same-length : tie.Need-same-length Inv-loop μ-loop
 same-length c =
@@ -57,7 +67,7 @@ gather-spec =
     μ-loop
     loop-holds
     end-of-requires
-    include-requires
+    add-requires
     add-k
     loop-less
     loop-again

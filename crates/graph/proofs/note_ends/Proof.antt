@@ -25,34 +25,54 @@ loop-holds c =
 
 from-of-requires : tie.Need-from-of-requires Inv-loop μ-loop
 from-of-requires c κs =
-    record { register = c .before .before .before .before .pre .0 .register; read = c .before .before .before .before .pre .0 .read; holds = (c .before .before .before .before .pre .0 .holds .0, omega (arith, c .before .before .before .before .pre .0 .holds .1)) }
+    let start = c .before .before .before .before in
+    record { register = start .pre .0 .register; read = start .pre .0 .read; holds = (start .pre .0 .holds .0, omega (arith, start .pre .0 .holds .1)) }
 
 add-at : tie.Need-add-at Inv-loop μ-loop
 add-at c =
-    omega (arith, c .from-of .ensures (c .before .before .before .before .before .pre .0 .register) (c .before .before .before .before .before .pre .0 .read) .1, c .before .before .before .before .before .pre .0 .holds .0)
+    let start = c .before .before .before .before .before in
+    omega (arith, c .from-of .ensures (start .pre .0 .register) (start .pre .0 .read) .1, start .pre .0 .holds .0)
 
 add-k : tie.Need-add-k Inv-loop μ-loop
 add-k c = search needs
 
 cast-index : tie.Need-cast-index Inv-loop μ-loop
 cast-index c =
-    omega (arith, image-fits (c .before .before .before .before .before .args .s .now) (c .before .before .before .before .before .pre .0 .register) (bytes-known (c .before .before .before .before .before .args .s .now) (c .before .before .before .before .shared-slice-known .given)) (c .before .before .before .before .before .pre .0 .read) .0 .few, c .before .before .before .before .before .pre .0 .holds .1)
+    let at-shared-slice-known = c .before .before .before .before in
+    let start = at-shared-slice-known .before in
+    omega (
+      arith,
+      image-fits (start .args .s .now) (start .pre .0 .register) (bytes-known (start .args .s .now) (at-shared-slice-known .shared-slice-known .given))
+          (start .pre .0 .read) .0 .few,
+      start .pre .0 .holds .1,
+    )
 
 mul-index : tie.Need-mul-index Inv-loop μ-loop
 mul-index c =
-    omega (arith, c .from-of .ensures (c .before .before .before .before .before .pre .0 .register) (c .before .before .before .before .before .pre .0 .read) .1, c .before .before .before .before .before .pre .0 .holds .0)
+    let start = c .before .before .before .before .before in
+    omega (arith, c .from-of .ensures (start .pre .0 .register) (start .pre .0 .read) .1, start .pre .0 .holds .0)
 
 slice-write-index : tie.Need-slice-write-index Inv-loop μ-loop
 slice-write-index c =
-    omega (arith, c .from-of .ensures (c .before .before .before .before .before .pre .0 .register) (c .before .before .before .before .before .pre .0 .read) .1, c .before .before .before .before .before .pre .0 .holds .0, c .before .before .loop .inv .0)
+    let at-loop = c .before .before in
+    let start = at-loop .before .before .before in
+    omega (arith, c .from-of .ensures (start .pre .0 .register) (start .pre .0 .read) .1, start .pre .0 .holds .0, at-loop .loop .inv .0)
 
 loop-less : tie.Need-loop-less Inv-loop μ-loop
 loop-less c = search needs
 
 loop-again : tie.Need-loop-again Inv-loop μ-loop
 loop-again c =
-    let l = c .from-of .ensures (c .before .before .before .before .before .pre .0 .register) (c .before .before .before .before .before .pre .0 .read) .1 in
-    (length-set (c .before .before .loop .index) _ _ ∙ c .before .before .loop .inv .0, omega arith, getD-set-other (c .before .before .loop .index) _ 0 _ 0 (λ e. let z : 0 ≡ c .from-of .result + 1 = e in omega arith) ∙ c .before .before .loop .inv .2, λ g h. noted-more g (c .before .before .before .before .before .args .items) (c .before .before .loop .k) (c .from-of .result) (c .before .before .loop .index) (c .from-of .ensures g h .0) (omega (arith, l, c .before .before .before .before .before .pre .0 .holds .0, c .before .before .loop .inv .0)) (c .before .before .loop .inv .3 g h))
+    let at-loop = c .before .before in
+    let start = at-loop .before .before .before in
+    let l = c .from-of .ensures (start .pre .0 .register) (start .pre .0 .read) .1 in (
+      length-set (at-loop .loop .index) _ _ ∙ at-loop .loop .inv .0,
+      omega arith,
+      getD-set-other (at-loop .loop .index) _ 0 _ 0 (λ e. let z : 0 ≡ c .from-of .result + 1 = e in omega arith)
+          ∙ at-loop .loop .inv .2,
+      λ g h. noted-more g (start .args .items) (at-loop .loop .k) (c .from-of .result) (at-loop .loop .index) (c .from-of .ensures g h .0)
+          (omega (arith, l, start .pre .0 .holds .0, at-loop .loop .inv .0)) (at-loop .loop .inv .3 g h),
+    )
 
 same-length : tie.Need-same-length Inv-loop μ-loop
 same-length c =

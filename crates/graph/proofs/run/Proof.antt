@@ -32,17 +32,28 @@ pair-requires-2 c κs = search needs
 
 skip-lower-requires : tie.Need-skip-lower-requires
 skip-lower-requires c κs =
-    let k = ends-within (c .before .before .before .before .before .before .pre .0) (c .before .before .before .before .before .before .pre .1) (c .before .before .pair .ensures .0) (c .pair2 .ensures .0) in
-    (asked-links (c .before .before .before .before .before .before .pre .0) (k .1), k .0)
+    let at-pair = c .before .before in
+    let start = at-pair .before .before .before .before in
+    let k = ends-within (start .pre .0) (start .pre .1) (at-pair .pair .ensures .0) (c .pair2 .ensures .0) in
+    (asked-links (start .pre .0) (k .1), k .0)
 
 skip-higher-requires : tie.Need-skip-higher-requires
 skip-higher-requires c κs =
-    let k = ends-within (c .before .before .before .before .before .before .before .pre .0) (c .before .before .before .before .before .before .before .pre .1) (c .before .before .before .pair .ensures .0) (c .before .pair2 .ensures .0) in
-    (asked-links (c .before .before .before .before .before .before .before .pre .0) (k .1), c .skip-lower .ensures (c .before .before .before .before .before .before .before .pre .0 .register) (c .before .before .before .before .before .before .before .pre .0 .read) .within)
+    let at-pair2 = c .before in
+    let at-pair = at-pair2 .before .before in
+    let start = at-pair .before .before .before .before in
+    let k = ends-within (start .pre .0) (start .pre .1) (at-pair .pair .ensures .0) (at-pair2 .pair2 .ensures .0) in
+    (asked-links (start .pre .0) (k .1), c .skip-lower .ensures (start .pre .0 .register) (start .pre .0 .read) .within)
 
 returns : tie.Need-returns
 returns c =
-    λ j. run-found (c .before .before .before .before .before .before .before .before .args .s .now) (bytes-known (c .before .before .before .before .before .before .before .before .args .s .now) (c .before .before .before .before .before .before .before .shared-slice-known .given)) _ _ j _ _ _ _ _ _ (c .before .before .before .before .before .before .before .before .pre .1) (c .before .before .before .before .pair .ensures .0) (c .before .before .pair2 .ensures .0) (c .before .skip-lower .ensures (j .register) (j .read)) (c .skip-higher .ensures (j .register) (j .read))
+    let at-skip-lower = c .before in
+    let at-pair2 = at-skip-lower .before in
+    let at-pair = at-pair2 .before .before in
+    let at-shared-slice-known = at-pair .before .before .before in
+    let start = at-shared-slice-known .before in
+    λ j. run-found (start .args .s .now) (bytes-known (start .args .s .now) (at-shared-slice-known .shared-slice-known .given)) _ _ j _ _ _ _ _ _ (start .pre .1) (at-pair .pair .ensures .0)
+    (at-pair2 .pair2 .ensures .0) (at-skip-lower .skip-lower .ensures (j .register) (j .read)) (c .skip-higher .ensures (j .register) (j .read))
 
 pub run-spec : {M : Type 1} → statement M
 run-spec =

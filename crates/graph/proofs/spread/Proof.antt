@@ -27,11 +27,16 @@ loop-holds c =
 
 run-requires : tie.Need-run-requires Inv-loop μ-loop
 run-requires c κs =
-    (c .before .before .before .before .before .before .before .pre .0, c .before .before .before .before .before .before .before .pre .1 .0 .1 _ (c .before .loop .inv .1 .member (c .loop-test .taken)))
+    let at-loop = c .before in
+    let start = at-loop .before .before .before .before .before .before in
+    (start .pre .0, start .pre .1 .0 .1 _ (at-loop .loop .inv .1 .member (c .loop-test .taken)))
 
 gather-requires : tie.Need-gather-requires Inv-loop μ-loop
 gather-requires c κs =
-    (asked-links (c .before .before .before .before .before .before .before .before .before .pre .0) (c .before .run .ensures (c .before .before .before .before .before .before .before .before .before .pre .0) .within), (c .before .before .before .loop .inv .0, c .before .before .before .before .before .before .before .before .before .pre .0 .most, c .before .before .before .loop .inv .1 .among))
+    let at-run = c .before in
+    let at-loop = at-run .before .before in
+    let start = at-loop .before .before .before .before .before .before in
+    (asked-links (start .pre .0) (at-run .run .ensures (start .pre .0) .within), (at-loop .loop .inv .0, start .pre .0 .most, at-loop .loop .inv .1 .among))
 
 add-next-in : tie.Need-add-next-in Inv-loop μ-loop
 add-next-in c = search needs
@@ -46,7 +51,14 @@ loop-less c =
 
 loop-again : tie.Need-loop-again Inv-loop μ-loop
 loop-again c =
-    (c .before .before .before .gather .kept .1 .1 .1 .1 .0 ∙ c .before .before .before .before .before .before .before .loop .inv .0, spreading-step _ _ _ _ _ _ _ _ _ _ _ (c .before .before .before .before .before .before .before .loop .inv .1) (c .before .before .before .before .before .run .ensures) (λ j. c .before .before .before .gather .ensures (j .register) (j .read)) (c .before .before .before .gather .ensures (c .before .before .before .before .before .before .before .before .before .before .before .before .before .pre .0 .register) (c .before .before .before .before .before .before .before .before .before .before .before .before .before .pre .0 .read) .among) (c .next-in2 .ensures))
+    let at-gather = c .before .before .before in
+    let at-run = at-gather .before .before in
+    let at-loop = at-run .before .before in
+    let start = at-loop .before .before .before .before .before .before in (
+      at-gather .gather .kept .1 .1 .1 .1 .0 ∙ at-loop .loop .inv .0,
+      spreading-step _ _ _ _ _ _ _ _ _ _ _ (at-loop .loop .inv .1) (at-run .run .ensures)
+          (λ j. at-gather .gather .ensures (j .register) (j .read)) (at-gather .gather .ensures (start .pre .0 .register) (start .pre .0 .read) .among) (c .next-in2 .ensures),
+    )
 
 same-length : tie.Need-same-length Inv-loop μ-loop
 same-length c =
@@ -54,7 +66,9 @@ same-length c =
 
 returns : tie.Need-returns Inv-loop μ-loop
 returns c =
-    spreading-end _ _ _ _ _ _ _ (c .before .loop .inv .1) (c .loop-test .left) (member-few (c .before .before .before .before .before .before .before .args .set .now) (c .before .before .before .before .before .before .before .pre .1 .0 .0))
+    let at-loop = c .before in
+    let start = at-loop .before .before .before .before .before .before in
+    spreading-end _ _ _ _ _ _ _ (at-loop .loop .inv .1) (c .loop-test .left) (member-few (start .args .set .now) (start .pre .1 .0 .0))
 
 pub spread-spec : {M : Type 1} → statement M
 spread-spec =

@@ -73,14 +73,22 @@ loop-less c = search needs
 
 loop-again : tie.Need-loop-again Inv-loop μ-loop
 loop-again c =
-    let a = c .before .before .before .before .before .before .before .before .before .before .before .before .before .before .before .before .before .before .before .before .before .before .before .before .args in
-    let l = c .before .before .before .before .before .before .before .before .before .before .before .before .before .before .before .before .before .before .before .before .loop in
-    let n1 = c .before .before .before .before .before .before .before .before .before .before .before .before .before .before .before .before .wide .ensures in
-    let n2 = c .before .before .before .before .before .before .before .before .before .before .before .before .before .before .wide2 .ensures in
-    let n3 = c .before .before .before .before .before .before .before .before .before .before .before .before .wide3 .ensures in
-    let next = c .before .before .before .before .print-answer .ensures in
-    let few = c .before .before .before .before .before .before .before .before .before .before .before .before .before .before .before .before .before .before .before .loop-test .taken in
-    let done = c .before .before .before .before .before .before .before .before .before .call in (
+    let c4 = c .before .before .before .before in
+    let c9 = c4 .before .before .before .before .before in
+    let c12 = c9 .before .before .before in
+    let c14 = c12 .before .before in
+    let c16 = c14 .before .before in
+    let c19 = c16 .before .before .before in
+    let c20 = c19 .before in
+    let c24 = c20 .before .before .before .before in
+    let a = c24 .args in
+    let l = c20 .loop in
+    let n1 = c16 .wide .ensures in
+    let n2 = c14 .wide2 .ensures in
+    let n3 = c12 .wide3 .ensures in
+    let next = c4 .print-answer .ensures in
+    let few = c19 .loop-test .taken in
+    let done = c9 .call in (
       few,
       done .kept .0 ∙ l .inv .1,
       done .kept .1 .0 ∙ l .inv .2,

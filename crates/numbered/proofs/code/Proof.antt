@@ -34,15 +34,19 @@ number-of-requires c κs =
 
 code-of-requires-2 : tie.Need-code-of-requires-2
 code-of-requires-2 c κs =
-    let q = subst (λ (z : Fact). Ranged mostItems z) ((c .before .before .fact2 .given .1)) (c .before .before .before .before .pre) in (omega (arith, q .0, q .1, q .2, (c .number-of .ensures)), omega arith)
+    let c4 = c .before .before .before .before in
+    let q = subst (λ (z : Fact). Ranged mostItems z) ((c .before .before .fact2 .given .1)) (c4 .pre) in (omega (arith, q .0, q .1, q .2, (c .number-of .ensures)), omega arith)
 
 returns : tie.Need-returns
 returns c =
-    code-name _ _ ((c .before .before .before .before .args .fact)) ((c .before .before .before .before .args .was)) ((c .code-of .result)) ((c .before .before .fact .given .1)) ((c .code-of .ensures))
+    let c4 = c .before .before .before .before in
+    code-name _ _ ((c4 .args .fact)) ((c4 .args .was)) ((c .code-of .result)) ((c .before .before .fact .given .1)) ((c .code-of .ensures))
 
 returns-2 : tie.Need-returns-2
 returns-2 c =
-    code-link _ _ _ ((c .before .before .before .before .before .args .fact)) ((c .before .before .before .before .before .args .was)) ((c .before .number-of .result)) ((c .code-of2 .result)) ((c .before .before .before .fact2 .given .1)) ((c .before .number-of .ensures)) ((c .code-of2 .ensures))
+    let c5 = c .before .before .before .before .before in
+    code-link _ _ _ ((c5 .args .fact)) ((c5 .args .was)) ((c .before .number-of .result)) ((c .code-of2 .result)) ((c .before .before .before .fact2 .given .1))
+    ((c .before .number-of .ensures)) ((c .code-of2 .ensures))
 
 pub code-spec : {M : Type 1} → statement M
 code-spec =

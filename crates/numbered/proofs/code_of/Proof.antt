@@ -36,7 +36,8 @@ mul-result-4 c = search needs
 
 returns-2 : tie.Need-returns-2
 returns-2 c =
-    (let z : ((c .before .args .rest) * 2 + (c .before .args .kind)) * 2 ≡ ((c .before .args .rest) * 2 + (c .before .args .kind)) * 2 + 0 = omega arith in z) ∙ ap (λ (b : Bool). ((c .before .args .rest) * 2 + (c .before .args .kind)) * 2 + bit b) (sym ((c .if1 .left)))
+    (let z : ((c .before .args .rest) * 2 + (c .before .args .kind)) * 2 ≡ ((c .before .args .rest) * 2 + (c .before .args .kind)) * 2 + 0 = omega arith in z)
+    ∙ ap (λ (b : Bool). ((c .before .args .rest) * 2 + (c .before .args .kind)) * 2 + bit b) (sym ((c .if1 .left)))
 
 pub code-of-spec : {M : Type 1} → statement M
 code-of-spec =

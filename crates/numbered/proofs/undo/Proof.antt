@@ -19,9 +19,14 @@ same-length c = search needs
 
 returns : tie.Need-returns
 returns c =
-    let a = c .before .before .before .before .before .before .before .before .args in
-    let d = undo-face (a .s .now) (a .log .now) (a .count) _ _ (c .before .before .undo-in .result) _ (c .before .before .before .before .decode .ensures) (c .before .before .before .before .before .last-number .ensures) (c .before .before .undo-in .ensures) in
-    record { bytes = bytes-known (a .s .now) (c .before .before .before .before .before .before .before .slice-known .given); promised = (d .0, d .1, refl); handed = refl }
+    let c2 = c .before .before in
+    let c4 = c2 .before .before in
+    let c5 = c4 .before in
+    let c7 = c5 .before .before in
+    let c8 = c7 .before in
+    let a = c8 .args in
+    let d = undo-face (a .s .now) (a .log .now) (a .count) _ _ (c2 .undo-in .result) _ (c4 .decode .ensures) (c5 .last-number .ensures) (c2 .undo-in .ensures) in
+    record { bytes = bytes-known (a .s .now) (c7 .slice-known .given); promised = (d .0, d .1, refl); handed = refl }
 
 pub undo-spec : {M : Type 1} → statement M
 undo-spec =

@@ -22,7 +22,38 @@ use contract.Monad.{Fun, fact}
 use contract.Running.{givenOf, tables, tablesOf}
 use types.Kit as Kit
 use types.Kit.{Given, ‵, raw, some, later, _⊛_, ⋆, anyQ, atRet, _$_, _∵_, !, qed, by, move, keep, drop, use1, use2, split, join, pick, rewrite, fsplit, fjoin, feqL, suffices, frame, await, done}
-use types.Run.{look, init, store-raw, forget, stop, hop, fld, from, load, lit, addr, of-opd, bin, and-then, no-more, assigns, assigns-last, first, switches-on, exec, land, returns, enter, alloc1, alloc0, params1, pass1, pass0, free1, free0}
+use types.Run.{
+  look,
+  init,
+  store-raw,
+  forget,
+  stop,
+  hop,
+  fld,
+  from,
+  load,
+  lit,
+  addr,
+  of-opd,
+  bin,
+  and-then,
+  no-more,
+  assigns,
+  assigns-last,
+  first,
+  switches-on,
+  exec,
+  land,
+  returns,
+  enter,
+  alloc1,
+  alloc0,
+  params1,
+  pass1,
+  pass0,
+  free1,
+  free0,
+}
 use types.Part.{agg, whole, sub, look-in}
 use types.Match.{vrt, in-variant, look-tag}
 use sound.WpLaws.{FmC, fmOf, WpFn-mono}

@@ -19,7 +19,38 @@ use ghost.Atoms.{Atoms}
 use contract.Monad.{Fun}
 use contract.Running.{givenOf, tables, tablesOf}
 use types.Kit.{Given, ‵, atRet, _⊛_, ⋆, _$_, _∵_, !, qed, by, move, keep, split, join, rewrite, fsplit, fjoin, suffices, frame, done}
-use types.Run.{look, init, look-raw, forget, stop, hop, fld, from, load, lit, false-lit, of-opd, bin, and-then, no-more, assigns, first, branches, skips, exec, returns, returns-within, enter, alloc1, alloc0, params1, pass1, pass0, free1, free0}
+use types.Run.{
+  look,
+  init,
+  look-raw,
+  forget,
+  stop,
+  hop,
+  fld,
+  from,
+  load,
+  lit,
+  false-lit,
+  of-opd,
+  bin,
+  and-then,
+  no-more,
+  assigns,
+  first,
+  branches,
+  skips,
+  exec,
+  returns,
+  returns-within,
+  enter,
+  alloc1,
+  alloc0,
+  params1,
+  pass1,
+  pass0,
+  free1,
+  free0,
+}
 use types.Part.{agg, whole, sub, look-in}
 use sound.WpLaws.{WpFn-mono}
 use denote.RattleType.{owns}

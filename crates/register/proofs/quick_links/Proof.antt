@@ -37,7 +37,16 @@ one-requires c κs = search needs
 
 loop-holds : tie.Need-loop-holds Inv-loop μ-loop
 loop-holds c =
-    (omega arith, omega arith, omega arith, c .before .four .ensures .1, c .one .ensures .1, key-parts (c .before .before .before .before .args .s .now) _ _ _ (c .before .four .ensures .0) (c .one .ensures .0), going-none _ _ _ _ _)
+    let c4 = c .before .before .before .before in (
+      omega arith,
+      omega arith,
+      omega arith,
+      c .before .four .ensures .1,
+      c .one .ensures .1,
+      key-parts (c4 .args .s .now) _ _ _ (c .before .four .ensures .0)
+          (c .one .ensures .0),
+      going-none _ _ _ _ _,
+    )
 
 mul-number : tie.Need-mul-number Inv-loop μ-loop
 mul-number c = search needs
@@ -66,13 +75,16 @@ sub-if3 c = search needs
 
 returns-3 : tie.Need-returns-3 Inv-loop μ-loop
 returns-3 c =
-    let a = c .before .before .before .before .before .before .before .before .before .args in
-    let l = c .before .before .before .before .loop .inv in
+    let c4 = c .before .before .before .before in
+    let c8 = c4 .before .before .before .before in
+    let c9 = c8 .before in
+    let a = c9 .args in
+    let l = c4 .loop .inv in
     let w = l .6 in
-    let by = bytes-known (a .s .now) (c .before .before .before .before .before .before .before .before .shared-slice-known .given) in
+    let by = bytes-known (a .s .now) (c8 .shared-slice-known .given) in
     let right = c .before .before .wrong .ensures (c .before .if2 .left) in
-    let read = link-passed (a .s .now) by (a .end) (a .items) (c .before .before .before .before .loop .at) (c .before .before .before .before .loop .floor) _ (w .before) (l .2) (c .before .before .before .before .before .before .before .before .before .pre .2) (l .5) right (w .floor) in
-    λ h. all-read _ _ _ _ _ _ _ _ (going-more _ _ _ _ _ _ _ _ w _ (c .before .before .before .loop-test .taken) (c .before .before .before .before .before .before .before .before .before .pre .2) read) (eqb-true _ _ h)
+    let read = link-passed (a .s .now) by (a .end) (a .items) (c4 .loop .at) (c4 .loop .floor) _ (w .before) (l .2) (c9 .pre .2) (l .5) right (w .floor) in
+    λ h. all-read _ _ _ _ _ _ _ _ (going-more _ _ _ _ _ _ _ _ w _ (c .before .before .before .loop-test .taken) (c9 .pre .2) read) (eqb-true _ _ h)
 
 four-requires-2 : tie.Need-four-requires-2 Inv-loop μ-loop
 four-requires-2 c κs = search needs
@@ -88,19 +100,24 @@ loop-less c = search needs
 
 loop-again : tie.Need-loop-again Inv-loop μ-loop
 loop-again c =
-    let a = c .before .before .before .before .before .before .before .before .before .before .before .args in
-    let l = c .before .before .before .before .before .before .loop .inv in
+    let c4 = c .before .before .before .before in
+    let c5 = c4 .before in
+    let c6 = c5 .before in
+    let c10 = c6 .before .before .before .before in
+    let c11 = c10 .before in
+    let a = c11 .args in
+    let l = c6 .loop .inv in
     let w = l .6 in
-    let by = bytes-known (a .s .now) (c .before .before .before .before .before .before .before .before .before .before .shared-slice-known .given) in
-    let right = c .before .before .before .before .wrong .ensures (c .before .before .before .if2 .left) in
-    let read = link-passed (a .s .now) by (a .end) (a .items) (c .before .before .before .before .before .before .loop .at) (c .before .before .before .before .before .before .loop .floor) _ (w .before) (l .2) (c .before .before .before .before .before .before .before .before .before .before .before .pre .2) (l .5) right (w .floor) in (
+    let by = bytes-known (a .s .now) (c10 .shared-slice-known .given) in
+    let right = c4 .wrong .ensures (c .before .before .before .if2 .left) in
+    let read = link-passed (a .s .now) by (a .end) (a .items) (c6 .loop .at) (c6 .loop .floor) _ (w .before) (l .2) (c11 .pre .2) (l .5) right (w .floor) in (
       omega arith,
       omega arith,
       omega arith,
       c .before .four2 .ensures .1,
       c .one2 .ensures .1,
       key-parts (a .s .now) _ _ _ (c .before .four2 .ensures .0) (c .one2 .ensures .0),
-      going-more _ _ _ _ _ _ _ _ w _ (c .before .before .before .before .before .loop-test .taken) (c .before .before .before .before .before .before .before .before .before .before .before .pre .2) read,
+      going-more _ _ _ _ _ _ _ _ w _ (c5 .loop-test .taken) (c11 .pre .2) read,
     )
 
 returns-4 : tie.Need-returns-4 Inv-loop μ-loop

@@ -26,13 +26,17 @@ refused-requires c κs = search needs
 
 returns : tie.Need-returns
 returns c =
+    let c4 = c .before .before .before .before in
+    let c6 = c4 .before .before in
     c .read-body .ensures
-    ∙ sym (whole-good (wrongIn (c .before .before .before .before .before .before .args .session)) (c .before .before .before .before .before .before .args .s .now) _ (sym (c .before .before .before .before .read-head .ensures .0 register) ∙ ap (paperHead register) (c .before .before .h .given .1)))
+    ∙ sym (whole-good (wrongIn (c6 .args .session)) (c6 .args .s .now) _ (sym (c4 .read-head .ensures .0 register) ∙ ap (paperHead register) (c .before .before .h .given .1)))
 
 returns-2 : tie.Need-returns-2
 returns-2 c =
+    let c4 = c .before .before .before .before in
+    let c6 = c4 .before .before in
     ap paperReading (c .refused .ensures)
-    ∙ sym (whole-refused (wrongIn (c .before .before .before .before .before .before .args .session)) (c .before .before .before .before .before .before .args .s .now) _ (sym (c .before .before .before .before .read-head .ensures .0 register) ∙ ap (paperHead register) (c .before .before .h2 .given .1)))
+    ∙ sym (whole-refused (wrongIn (c6 .args .session)) (c6 .args .s .now) _ (sym (c4 .read-head .ensures .0 register) ∙ ap (paperHead register) (c .before .before .h2 .given .1)))
 
 pub read-spec : {M : Type 1} → statement M
 read-spec =

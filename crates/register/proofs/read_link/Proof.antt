@@ -21,9 +21,10 @@ cut-requires c κs = search needs
 
 returns : tie.Need-returns
 returns c =
-    let h : c .before .before .before .args .at ≤ c .before .before .before .args .end = omega arith in
-    let l : c .before .before .before .args .end - c .before .before .before .args .at < 5 = omega arith in (
-      λ before f. ap paperLink (c .cut .ensures) ∙ sym (link-cut (c .before .before .before .args .s .now) (c .before .before .before .args .end) (c .before .before .before .args .items) before (c .before .before .before .args .at) h l),
+    let c3 = c .before .before .before in
+    let h : c3 .args .at ≤ c3 .args .end = omega arith in
+    let l : c3 .args .end - c3 .args .at < 5 = omega arith in (
+      λ before f. ap paperLink (c .cut .ensures) ∙ sym (link-cut (c3 .args .s .now) (c3 .args .end) (c3 .args .items) before (c3 .args .at) h l),
       rw (c .cut .ensures) tt,
     )
 
@@ -32,9 +33,10 @@ two-requires c κs = search needs
 
 returns-2 : tie.Need-returns-2
 returns-2 c =
-    let h : c .before .before .before .before .args .at + 5 ≤ c .before .before .before .before .args .end = omega arith in
-    let l : c .before .before .before .before .args .items ≤ number (c .before .before .before .before .args .s .now) (c .before .before .before .before .args .at) 2 = omega (arith, c .before .two .ensures .0) in
-    (λ before f. sym (link-from (c .before .before .before .before .args .s .now) (c .before .before .before .before .args .end) (c .before .before .before .before .args .items) before (c .before .before .before .before .args .at) h l), tt)
+    let c4 = c .before .before .before .before in
+    let h : c4 .args .at + 5 ≤ c4 .args .end = omega arith in
+    let l : c4 .args .items ≤ number (c4 .args .s .now) (c4 .args .at) 2 = omega (arith, c .before .two .ensures .0) in
+    (λ before f. sym (link-from (c4 .args .s .now) (c4 .args .end) (c4 .args .items) before (c4 .args .at) h l), tt)
 
 add-one : tie.Need-add-one
 add-one c = search needs
@@ -47,10 +49,11 @@ add-t13 c = search needs
 
 returns-3 : tie.Need-returns-3
 returns-3 c =
-    let h : c .before .before .before .before .before .before .args .at + 5 ≤ c .before .before .before .before .before .before .args .end = omega arith in
-    let a : number (c .before .before .before .before .before .before .args .s .now) (c .before .before .before .before .before .before .args .at) 2 < c .before .before .before .before .before .before .args .items = omega (arith, c .before .before .before .two .ensures .0) in
-    let l : 31 < number (c .before .before .before .before .before .before .args .s .now) (c .before .before .before .before .before .before .args .at + 2) 1 = omega (arith, c .before .one .ensures .0) in
-    (λ before f. sym (link-role (c .before .before .before .before .before .before .args .s .now) (c .before .before .before .before .before .before .args .end) (c .before .before .before .before .before .before .args .items) before (c .before .before .before .before .before .before .args .at) h a l), tt)
+    let c6 = c .before .before .before .before .before .before in
+    let h : c6 .args .at + 5 ≤ c6 .args .end = omega arith in
+    let a : number (c6 .args .s .now) (c6 .args .at) 2 < c6 .args .items = omega (arith, c .before .before .before .two .ensures .0) in
+    let l : 31 < number (c6 .args .s .now) (c6 .args .at + 2) 1 = omega (arith, c .before .one .ensures .0) in
+    (λ before f. sym (link-role (c6 .args .s .now) (c6 .args .end) (c6 .args .items) before (c6 .args .at) h a l), tt)
 
 add-two : tie.Need-add-two
 add-two c = search needs
@@ -63,11 +66,13 @@ add-t14 c = search needs
 
 returns-4 : tie.Need-returns-4
 returns-4 c =
-    let h : c .before .before .before .before .before .before .before .before .args .at + 5 ≤ c .before .before .before .before .before .before .before .before .args .end = omega arith in
-    let a : number (c .before .before .before .before .before .before .before .before .args .s .now) (c .before .before .before .before .before .before .before .before .args .at) 2 < c .before .before .before .before .before .before .before .before .args .items = omega (arith, c .before .before .before .before .before .two .ensures .0) in
-    let b : number (c .before .before .before .before .before .before .before .before .args .s .now) (c .before .before .before .before .before .before .before .before .args .at + 2) 1 ≤ 31 = omega (arith, c .before .before .before .one .ensures .0) in
-    let l : c .before .before .before .before .before .before .before .before .args .items ≤ number (c .before .before .before .before .before .before .before .before .args .s .now) (c .before .before .before .before .before .before .before .before .args .at + 3) 2 = omega (arith, c .before .two2 .ensures .0) in
-    (λ before f. sym (link-to (c .before .before .before .before .before .before .before .before .args .s .now) (c .before .before .before .before .before .before .before .before .args .end) (c .before .before .before .before .before .before .before .before .args .items) before (c .before .before .before .before .before .before .before .before .args .at) h a b l), tt)
+    let c5 = c .before .before .before .before .before in
+    let c8 = c5 .before .before .before in
+    let h : c8 .args .at + 5 ≤ c8 .args .end = omega arith in
+    let a : number (c8 .args .s .now) (c8 .args .at) 2 < c8 .args .items = omega (arith, c5 .two .ensures .0) in
+    let b : number (c8 .args .s .now) (c8 .args .at + 2) 1 ≤ 31 = omega (arith, c .before .before .before .one .ensures .0) in
+    let l : c8 .args .items ≤ number (c8 .args .s .now) (c8 .args .at + 3) 2 = omega (arith, c .before .two2 .ensures .0) in
+    (λ before f. sym (link-to (c8 .args .s .now) (c8 .args .end) (c8 .args .items) before (c8 .args .at) h a b l), tt)
 
 mul-number : tie.Need-mul-number
 mul-number c = search needs
@@ -83,28 +88,36 @@ add-number-2 c = search needs
 
 returns-5 : tie.Need-returns-5
 returns-5 c =
-    let h : c .before .before .before .before .before .before .before .before .before .args .at + 5 ≤ c .before .before .before .before .before .before .before .before .before .args .end = omega arith in
-    let a : number (c .before .before .before .before .before .before .before .before .before .args .s .now) (c .before .before .before .before .before .before .before .before .before .args .at) 2 < c .before .before .before .before .before .before .before .before .before .args .items = omega (arith, c .before .before .before .before .before .before .two .ensures .0) in
-    let b : number (c .before .before .before .before .before .before .before .before .before .args .s .now) (c .before .before .before .before .before .before .before .before .before .args .at + 2) 1 ≤ 31 = omega (arith, c .before .before .before .before .one .ensures .0) in
-    let d : number (c .before .before .before .before .before .before .before .before .before .args .s .now) (c .before .before .before .before .before .before .before .before .before .args .at + 3) 2 < c .before .before .before .before .before .before .before .before .before .args .items = omega (arith, c .before .before .two2 .ensures .0) in
-    let m : c .before .before .before .before .before .before .before .before .before .args .items ≤ 512 = omega arith in
-    let l : key (linkAt (c .before .before .before .before .before .before .before .before .before .args .s .now) (c .before .before .before .before .before .before .before .before .before .args .at)) < c .before .before .before .before .before .before .before .before .before .args .floor = omega (arith, c .before .before .before .before .before .before .two .ensures .0, c .before .before .before .before .one .ensures .0, c .before .before .two2 .ensures .0) in
-    (λ before f. sym (link-order (c .before .before .before .before .before .before .before .before .before .args .s .now) (c .before .before .before .before .before .before .before .before .before .args .end) (c .before .before .before .before .before .before .before .before .before .args .items) before (c .before .before .before .before .before .before .before .before .before .args .at) h a b d m (c .before .before .before .before .before .before .before .before .before .args .floor) f l), tt)
+    let c2 = c .before .before in
+    let c4 = c2 .before .before in
+    let c6 = c4 .before .before in
+    let c9 = c6 .before .before .before in
+    let h : c9 .args .at + 5 ≤ c9 .args .end = omega arith in
+    let a : number (c9 .args .s .now) (c9 .args .at) 2 < c9 .args .items = omega (arith, c6 .two .ensures .0) in
+    let b : number (c9 .args .s .now) (c9 .args .at + 2) 1 ≤ 31 = omega (arith, c4 .one .ensures .0) in
+    let d : number (c9 .args .s .now) (c9 .args .at + 3) 2 < c9 .args .items = omega (arith, c2 .two2 .ensures .0) in
+    let m : c9 .args .items ≤ 512 = omega arith in
+    let l : key (linkAt (c9 .args .s .now) (c9 .args .at)) < c9 .args .floor = omega (arith, c6 .two .ensures .0, c4 .one .ensures .0, c2 .two2 .ensures .0) in
+    (λ before f. sym (link-order (c9 .args .s .now) (c9 .args .end) (c9 .args .items) before (c9 .args .at) h a b d m (c9 .args .floor) f l), tt)
 
 add-t16 : tie.Need-add-t16
 add-t16 c = search needs
 
 returns-6 : tie.Need-returns-6
 returns-6 c =
-    let h : c .before .before .before .before .before .before .before .before .before .args .at + 5 ≤ c .before .before .before .before .before .before .before .before .before .args .end = omega arith in
-    let a : number (c .before .before .before .before .before .before .before .before .before .args .s .now) (c .before .before .before .before .before .before .before .before .before .args .at) 2 < c .before .before .before .before .before .before .before .before .before .args .items = omega (arith, c .before .before .before .before .before .before .two .ensures .0) in
-    let b : number (c .before .before .before .before .before .before .before .before .before .args .s .now) (c .before .before .before .before .before .before .before .before .before .args .at + 2) 1 ≤ 31 = omega (arith, c .before .before .before .before .one .ensures .0) in
-    let d : number (c .before .before .before .before .before .before .before .before .before .args .s .now) (c .before .before .before .before .before .before .before .before .before .args .at + 3) 2 < c .before .before .before .before .before .before .before .before .before .args .items = omega (arith, c .before .before .two2 .ensures .0) in
-    let m : c .before .before .before .before .before .before .before .before .before .args .items ≤ 512 = omega arith in
-    let l : c .before .before .before .before .before .before .before .before .before .args .floor ≤ key (linkAt (c .before .before .before .before .before .before .before .before .before .args .s .now) (c .before .before .before .before .before .before .before .before .before .args .at)) = omega (arith, c .before .before .before .before .before .before .two .ensures .0, c .before .before .before .before .one .ensures .0, c .before .before .two2 .ensures .0) in (
+    let c2 = c .before .before in
+    let c4 = c2 .before .before in
+    let c6 = c4 .before .before in
+    let c9 = c6 .before .before .before in
+    let h : c9 .args .at + 5 ≤ c9 .args .end = omega arith in
+    let a : number (c9 .args .s .now) (c9 .args .at) 2 < c9 .args .items = omega (arith, c6 .two .ensures .0) in
+    let b : number (c9 .args .s .now) (c9 .args .at + 2) 1 ≤ 31 = omega (arith, c4 .one .ensures .0) in
+    let d : number (c9 .args .s .now) (c9 .args .at + 3) 2 < c9 .args .items = omega (arith, c2 .two2 .ensures .0) in
+    let m : c9 .args .items ≤ 512 = omega arith in
+    let l : c9 .args .floor ≤ key (linkAt (c9 .args .s .now) (c9 .args .at)) = omega (arith, c6 .two .ensures .0, c4 .one .ensures .0, c2 .two2 .ensures .0) in (
       λ before f.
-          ap (λ (z : ℕ). good z) (omega (arith, c .before .before .before .before .before .before .two .ensures .0, c .before .before .before .before .one .ensures .0, c .before .before .two2 .ensures .0))
-          ∙ sym (link-good (c .before .before .before .before .before .before .before .before .before .args .s .now) (c .before .before .before .before .before .before .before .before .before .args .end) (c .before .before .before .before .before .before .before .before .before .args .items) before (c .before .before .before .before .before .before .before .before .before .args .at) h a b d m (c .before .before .before .before .before .before .before .before .before .args .floor) f l),
+          ap (λ (z : ℕ). good z) (omega (arith, c6 .two .ensures .0, c4 .one .ensures .0, c2 .two2 .ensures .0))
+          ∙ sym (link-good (c9 .args .s .now) (c9 .args .end) (c9 .args .items) before (c9 .args .at) h a b d m (c9 .args .floor) f l),
       h,
     )
 

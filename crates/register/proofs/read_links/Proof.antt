@@ -26,8 +26,10 @@ refused-requires c κs = search needs
 
 returns : tie.Need-returns
 returns c =
-    let a = c .before .before .before .before .before .args in
-    ap paperReading (c .refused .ensures) ∙ sym (links-left (a .s .now) (a .end) (a .items) (a .links) (a .start) (c .before .before .before .quick-links .ensures (c .before .before .if1 .taken)) (omega arith))
+    let c5 = c .before .before .before .before .before in
+    let a = c5 .args in
+    ap paperReading (c .refused .ensures)
+    ∙ sym (links-left (a .s .now) (a .end) (a .items) (a .links) (a .start) (c .before .before .before .quick-links .ensures (c .before .before .if1 .taken)) (omega arith))
 
 returns-2 : tie.Need-returns-2
 returns-2 c =

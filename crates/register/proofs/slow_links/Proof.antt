@@ -42,7 +42,9 @@ add-i c = search needs
 
 add-at : tie.Need-add-at Inv-loop μ-loop
 add-at c =
-    let fit = subst (λ z. Passed (c .before .before .before .before .before .loop .at) (c .before .before .before .before .before .before .before .args .end) z) (c .before .l .given .1) (c .before .before .before .read-link .ensures .1) in
+    let c5 = c .before .before .before .before .before in
+    let c7 = c5 .before .before in
+    let fit = subst (λ z. Passed (c5 .loop .at) (c7 .args .end) z) (c .before .l .given .1) (c .before .before .before .read-link .ensures .1) in
     omega arith
 
 loop-less : tie.Need-loop-less Inv-loop μ-loop
@@ -50,12 +52,15 @@ loop-less c = search needs
 
 loop-again : tie.Need-loop-again Inv-loop μ-loop
 loop-again c =
-    let fit = subst (λ z. Passed (c .before .before .before .before .before .loop .at) (c .before .before .before .before .before .before .before .args .end) z) (c .before .l .given .1) (c .before .before .before .read-link .ensures .1) in
-    let w = c .before .before .before .before .before .loop .inv .3 in (
+    let c3 = c .before .before .before in
+    let c5 = c3 .before .before in
+    let c7 = c5 .before .before in
+    let fit = subst (λ z. Passed (c5 .loop .at) (c7 .args .end) z) (c .before .l .given .1) (c3 .read-link .ensures .1) in
+    let w = c5 .loop .inv .3 in (
       omega arith,
       omega arith,
       fit,
-      going-more _ _ _ _ _ _ _ _ w _ (omega arith) (omega arith) (ap paperLink (sym (c .before .l .given .1)) ∙ c .before .before .before .read-link .ensures .0 (w .before) (w .floor)),
+      going-more _ _ _ _ _ _ _ _ w _ (omega arith) (omega arith) (ap paperLink (sym (c .before .l .given .1)) ∙ c3 .read-link .ensures .0 (w .before) (w .floor)),
     )
 
 refused-requires-2 : tie.Need-refused-requires-2 Inv-loop μ-loop

@@ -35,7 +35,14 @@ loop-less c = search needs
 
 loop-again : tie.Need-loop-again Inv-loop μ-loop
 loop-again c =
-    (omega arith, omega arith, length-set (c .before .loop .s) _ _ ∙ c .before .loop .inv .2, ap (λ (z : List ℕ). set z (c .before .loop .i) 0) (c .before .loop .inv .3) ∙ clear-more (c .before .before .args .s .now) (c .before .before .args .from) (c .before .loop .i) (c .before .loop .inv .0) (omega (arith, c .loop-test .taken)))
+    let c2 = c .before .before in (
+      omega arith,
+      omega arith,
+      length-set (c .before .loop .s) _ _
+          ∙ c .before .loop .inv .2,
+      ap (λ (z : List ℕ). set z (c .before .loop .i) 0) (c .before .loop .inv .3)
+          ∙ clear-more (c2 .args .s .now) (c2 .args .from) (c .before .loop .i) (c .before .loop .inv .0) (omega (arith, c .loop-test .taken)),
+    )
 
 same-length : tie.Need-same-length Inv-loop μ-loop
 same-length c =
@@ -43,7 +50,8 @@ same-length c =
 
 returns : tie.Need-returns Inv-loop μ-loop
 returns c =
-    clear-all (c .before .before .args .s .now) (c .before .loop .s) (c .before .before .args .from) (c .before .loop .i) (omega (arith, c .loop-test .left, c .before .loop .inv .1)) (c .before .loop .inv .3)
+    let c2 = c .before .before in
+    clear-all (c2 .args .s .now) (c .before .loop .s) (c2 .args .from) (c .before .loop .i) (omega (arith, c .loop-test .left, c .before .loop .inv .1)) (c .before .loop .inv .3)
 
 pub clear-spec : {M : Type 1} → statement M
 clear-spec =

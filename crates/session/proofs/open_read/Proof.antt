@@ -15,8 +15,11 @@ same-length c = search needs
 
 returns : tie.Need-returns
 returns c =
-    let a = c .before .before .before .before .before .before .args in
-    open-done (a .s .now) (bytes-known (a .s .now) (c .before .before .before .before .before .slice-known .given)) (a .items) (a .links) _ _ (c .before .before .before .image-len .ensures) (c .before .before .before .before .before .before .pre .0) (c .before .before .clear .ensures)
+    let c5 = c .before .before .before .before .before in
+    let c6 = c5 .before in
+    let a = c6 .args in
+    open-done (a .s .now) (bytes-known (a .s .now) (c5 .slice-known .given)) (a .items) (a .links) _ _ (c .before .before .before .image-len .ensures)
+    (c6 .pre .0) (c .before .before .clear .ensures)
 
 pub open-read-spec : {M : Type 1} → statement M
 open-read-spec = tie.close (tie.spec image-len-requires clear-requires same-length returns)

@@ -43,7 +43,15 @@ loop-less c = search needs
 
 loop-again : tie.Need-loop-again Inv-loop μ-loop
 loop-again c =
-    (omega arith, omega arith, length-set (c .before .before .loop .s) _ _ ∙ c .before .before .loop .inv .2, down-more (c .before .before .before .args .s .now) (c .before .before .before .args .from) (c .before .before .loop .s) (c .before .before .loop .i) (c .before .before .loop .inv .0) (omega (arith, c .before .loop-test .taken, c .before .before .before .pre .1)) (c .before .before .loop .inv .3))
+    let c2 = c .before .before in
+    let c3 = c2 .before in (
+      omega arith,
+      omega arith,
+      length-set (c2 .loop .s) _ _
+          ∙ c2 .loop .inv .2,
+      down-more (c3 .args .s .now) (c3 .args .from) (c2 .loop .s) (c2 .loop .i) (c2 .loop .inv .0)
+          (omega (arith, c .before .loop-test .taken, c3 .pre .1)) (c2 .loop .inv .3),
+    )
 
 same-length : tie.Need-same-length Inv-loop μ-loop
 same-length c =
@@ -51,7 +59,8 @@ same-length c =
 
 returns : tie.Need-returns Inv-loop μ-loop
 returns c =
-    down-all (c .before .before .args .s .now) (c .before .before .args .from) (c .before .loop .s) (c .before .loop .i) (c .before .before .args .end) (omega (arith, c .before .loop .inv .1, c .loop-test .left)) (c .before .loop .inv .3)
+    let c2 = c .before .before in
+    down-all (c2 .args .s .now) (c2 .args .from) (c .before .loop .s) (c .before .loop .i) (c2 .args .end) (omega (arith, c .before .loop .inv .1, c .loop-test .left)) (c .before .loop .inv .3)
 
 pub move-down-spec : {M : Type 1} → statement M
 move-down-spec =

@@ -41,7 +41,14 @@ loop-less c = search needs
 
 loop-again : tie.Need-loop-again Inv-loop μ-loop
 loop-again c =
-    (omega arith, omega arith, length-set (c .before .before .loop .s) _ _ ∙ c .before .before .loop .inv .2, up-more (c .before .before .before .args .s .now) (c .before .before .before .args .end) (c .before .before .loop .s) (c .before .before .loop .i) (omega (arith, c .before .loop-test .taken)) (c .before .before .loop .inv .1) (c .before .before .before .pre .1) (c .before .before .loop .inv .3))
+    let c2 = c .before .before in
+    let c3 = c2 .before in (
+      omega arith,
+      omega arith,
+      length-set (c2 .loop .s) _ _
+          ∙ c2 .loop .inv .2,
+      up-more (c3 .args .s .now) (c3 .args .end) (c2 .loop .s) (c2 .loop .i) (omega (arith, c .before .loop-test .taken)) (c2 .loop .inv .1) (c3 .pre .1) (c2 .loop .inv .3),
+    )
 
 same-length : tie.Need-same-length Inv-loop μ-loop
 same-length c =
@@ -49,7 +56,8 @@ same-length c =
 
 returns : tie.Need-returns Inv-loop μ-loop
 returns c =
-    let e : c .before .loop .i ≡ c .before .before .args .from = omega (arith, c .before .loop .inv .0, c .loop-test .left) in c .before .loop .inv .3 ∙ ap (up (c .before .before .args .s .now) (c .before .before .args .end)) e
+    let c2 = c .before .before in
+    let e : c .before .loop .i ≡ c2 .args .from = omega (arith, c .before .loop .inv .0, c .loop-test .left) in c .before .loop .inv .3 ∙ ap (up (c2 .args .s .now) (c2 .args .end)) e
 
 pub move-up-spec : {M : Type 1} → statement M
 move-up-spec =

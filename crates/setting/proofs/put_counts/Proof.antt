@@ -24,9 +24,13 @@ same-length c = search needs
 
 returns : tie.Need-returns
 returns c =
-    let a = c .before .before .before .before .before .before .before .before .before .before .before .args in
+    let c7 = c .before .before .before .before .before .before .before in
+    let c8 = c7 .before in
+    let c11 = c8 .before .before .before in
+    let a = c11 .args in
     c .before .before .put2 .ensures
-    ∙ ap₂ (λ (z : List ℕ) (n : ℕ). sets z 1 (bytes 2 n)) (c .before .before .before .before .before .before .before .put .ensures ∙ ap (λ (p : ℕ). sets (a .s .now) p (bytes 2 (a .links))) (c .before .before .before .before .before .before .before .before .count-at .ensures)) (c .before .before .before .body-len .ensures)
+    ∙ ap₂ (λ (z : List ℕ) (n : ℕ). sets z 1 (bytes 2 n)) (c7 .put .ensures ∙ ap (λ (p : ℕ). sets (a .s .now) p (bytes 2 (a .links))) (c8 .count-at .ensures))
+    (c .before .before .before .body-len .ensures)
 
 pub put-counts-spec : {M : Type 1} → statement M
 put-counts-spec =

@@ -32,8 +32,11 @@ same-length c = search needs
 
 returns : tie.Need-returns
 returns c =
-    let a = c .before .before .before .before .before .before .before .before .args in
-    name-set (a .s .now) _ (a .fact) _ _ (a .adds) (c .before .before .set-name .result) (c .before .before .before .before .before .fact .given .1) (c .before .before .set-name .ensures .0) (c .before .before .set-name .ensures .1)
+    let c2 = c .before .before in
+    let c5 = c2 .before .before .before in
+    let c8 = c5 .before .before .before in
+    let a = c8 .args in
+    name-set (a .s .now) _ (a .fact) _ _ (a .adds) (c2 .set-name .result) (c5 .fact .given .1) (c2 .set-name .ensures .0) (c2 .set-name .ensures .1)
 
 same-length-2 : tie.Need-same-length-2
 same-length-2 c = search needs

@@ -28,12 +28,17 @@ same-length c = search needs
 
 returns : tie.Need-returns
 returns c =
-    let a = c .before .before .before .before .before .before .before .before .before .before .args in
-    let set = c .before .before .before .before .before .with-bit .result in (
-      λ g e. name-was (a .item) (a .name) (c .before .before .before .before .before .before .before .names-of .result) (c .before .before .before .before .before .before .on .result) g (c .before .before .before .before .before .before .before .names-of .ensures g e) (c .before .before .before .before .before .before .on .ensures),
+    let c5 = c .before .before .before .before .before in
+    let c6 = c5 .before in
+    let c7 = c6 .before in
+    let c9 = c7 .before .before in
+    let c10 = c9 .before in
+    let a = c10 .args in
+    let set = c5 .with-bit .result in (
+      λ g e. name-was (a .item) (a .name) (c7 .names-of .result) (c6 .on .result) g (c7 .names-of .ensures g e) (c6 .on .ensures),
       λ g e.
-          renames (a .s .now) (bytes-known (a .s .now) (c .before .before .before .before .before .before .before .before .before .slice-known .given)) (a .item) (a .name) (c .before .before .before .before .before .before .before .names-of .result) set (a .adds) _ g e (asked-is (c .before .before .before .before .before .before .before .before .before .before .pre .0) g e)
-          (c .before .before .before .before .before .before .before .names-of .ensures g e) (c .before .before .before .before .before .with-bit .ensures) (c .before .before .put .ensures ∙ ap (λ (z : ℕ). sets (a .s .now) z (bytes 8 set)) (c .before .before .before .names-at .ensures)),
+          renames (a .s .now) (bytes-known (a .s .now) (c9 .slice-known .given)) (a .item) (a .name) (c7 .names-of .result) set (a .adds) _ g e (asked-is (c10 .pre .0) g e)
+          (c7 .names-of .ensures g e) (c5 .with-bit .ensures) (c .before .before .put .ensures ∙ ap (λ (z : ℕ). sets (a .s .now) z (bytes 8 set)) (c .before .before .before .names-at .ensures)),
     )
 
 pub set-name-spec : {M : Type 1} → statement M

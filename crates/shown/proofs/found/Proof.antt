@@ -1,10 +1,5 @@
 use Rattle.shown.proofs.found.Statement.{statement}
 use Rattle.shown.proofs.found.Tie as tie
-use Rattle.shown.proofs.found.Reads as reads
-use Rattle.shown.proofs.found.Lts as lts
-use Rattle.fields.proofs.bits.on.Reads as on-reads
-use Rattle.fields.proofs.pair.Reads as pair-reads
-use Rattle.graph.proofs.end_of.Reads as end-of-reads
 use Prim.Native.Nat.{_≤_, _<_, _-_, _+_, ℕ}
 use native.Mathlib.Omega.{arith}
 use mathlib.Core.Path.{_≡_, sym, subst, _∙_}
@@ -23,107 +18,74 @@ abbrev μ-loop : tie.MeasureT-loop
 μ-loop s items index item node notes end k₀ k =
     end - k
 
--- src/lib.rt:28:34
-add-pair : tie.Need-add-pair Inv-loop μ-loop
-add-pair c =
-    omega (arith, c .before .before .before .pre .0 .0 .most)
-
--- src/lib.rt:28:28
-mul-pair : tie.Need-mul-pair Inv-loop μ-loop
-mul-pair c =
-    omega (arith, c .before .before .before .pre .0 .0 .most)
-
--- src/lib.rt:28:28
-shared-slice-read-pair : tie.Need-shared-slice-read-pair Inv-loop μ-loop
-shared-slice-read-pair c =
-    omega (arith, c .before .before .before .before .pre .0 .0 .room)
-
--- src/lib.rt:28:9
-pair-requires : tie.Need-pair-requires Inv-loop μ-loop
-pair-requires c κs = search needs
-
--- src/lib.rt:29:30
-mul-pair-2 : tie.Need-mul-pair-2 Inv-loop μ-loop
-mul-pair-2 c =
-    omega (arith, c .before .before .before .before .before .pre .0 .0 .most)
-
--- src/lib.rt:29:30
-shared-slice-read-pair-2 : tie.Need-shared-slice-read-pair-2 Inv-loop μ-loop
-shared-slice-read-pair-2 c =
-    omega (arith, c .before .before .before .before .before .before .pre .0 .0 .room)
-
--- src/lib.rt:29:9
-pair-requires-2 : tie.Need-pair-requires-2 Inv-loop μ-loop
-pair-requires-2 c κs = search needs
-
--- src/lib.rt:30:5
-loop-holds : tie.Need-loop-holds Inv-loop μ-loop
-loop-holds c =
-    (omega (arith, c .pair2 .ensures .0), λ j l. subst (λ (z : ℕ). Unmet j (c .before .before .before .before .before .before .before .args .notes .now) (c .before .before .before .before .before .before .before .args .node) (c .before .before .before .before .before .before .before .args .item) l z) (sym (c .pair2 .ensures .0)) (unmet-start j (c .before .before .before .before .before .before .before .args .notes .now) (c .before .before .before .before .before .before .before .args .node) _ l))
-
--- src/lib.rt:31:21
-mul-on : tie.Need-mul-on Inv-loop μ-loop
-mul-on c =
-    omega (arith, c .loop-test .taken, c .before .before .before .before .pair .ensures .1)
-
--- src/lib.rt:31:21
-shared-slice-read-on : tie.Need-shared-slice-read-on Inv-loop μ-loop
-shared-slice-read-on c =
-    omega (arith, c .before .loop-test .taken, c .before .before .before .before .before .pair .ensures .0, own-within (c .before .before .before .before .before .before .before .before .before .before .pre .0 .0) (c .before .before .before .before .before .before .before .before .before .before .args .notes .now) (c .before .before .before .before .before .before .before .before .before .before .args .node) _ (c .before .before .before .before .before .before .before .before .before .before .pre .1 .0), c .before .before .before .before .before .before .before .before .before .before .pre .0 .1)
-
--- src/lib.rt:31:12
-on-requires : tie.Need-on-requires Inv-loop μ-loop
-on-requires c κs =
-    c .before .before .before .before .before .before .before .before .before .before .pre .1 .1
-
--- src/lib.rt:32:13
-end-of-requires : tie.Need-end-of-requires Inv-loop μ-loop
-end-of-requires c κs =
-    asked-end (c .before .before .before .before .before .before .before .before .before .before .before .before .pre .0 .0) (omega (arith, c .before .before .before .loop-test .taken, c .before .before .before .before .before .before .before .pair .ensures .0, own-within (c .before .before .before .before .before .before .before .before .before .before .before .before .pre .0 .0) (c .before .before .before .before .before .before .before .before .before .before .before .before .args .notes .now) (c .before .before .before .before .before .before .before .before .before .before .before .before .args .node) _ (c .before .before .before .before .before .before .before .before .before .before .before .before .pre .1 .0)))
-
--- src/lib.rt:32:13
-returns : tie.Need-returns Inv-loop μ-loop
-returns c =
-    λ j o n. met j (c .before .before .before .before .before .before .before .before .before .before .before .before .before .args .notes .now) (c .before .before .before .before .before .before .before .before .before .before .before .before .before .args .node) _ (c .before .before .before .before .before .before .before .before .before .before .before .before .before .pre .1 .0) (c .before .before .before .before .before .loop .k) _ (c .before .before .before .before .before .loop .inv .0) (omega (arith, c .before .before .before .before .loop-test .taken, c .before .before .before .before .before .before .before .before .pair .ensures .0)) (sym (c .before .before .on .ensures) ∙ c .before .if1 .taken) (c .end-of .ensures .0 (j .register) (j .read)) o n
-
--- src/lib.rt:34:9
-add-k : tie.Need-add-k Inv-loop μ-loop
-add-k c = search needs
-
--- src/lib.rt:30:5
-loop-less : tie.Need-loop-less Inv-loop μ-loop
-loop-less c = search needs
-
--- src/lib.rt:30:5
-loop-again : tie.Need-loop-again Inv-loop μ-loop
-loop-again c =
-    (omega (arith, c .before .before .before .before .loop .inv .0), λ j l. unmet-next j (c .before .before .before .before .before .before .before .before .before .before .before .before .args .notes .now) (c .before .before .before .before .before .before .before .before .before .before .before .before .args .node) _ l _ (c .before .before .before .before .loop .inv .1 j l) (sym (c .before .on .ensures) ∙ c .if1 .left))
-
--- src/lib.rt:23:1
-returns-2 : tie.Need-returns-2 Inv-loop μ-loop
-returns-2 c =
-    λ j o n. unmet-end j (c .before .before .before .before .before .before .before .before .before .args .notes .now) (c .before .before .before .before .before .before .before .before .before .args .node) _ (c .before .before .before .before .before .before .before .before .before .pre .1 .0) _ (c .before .loop .inv .1 j (c .before .before .before .before .before .before .before .before .before .pre .1 .0)) (omega (arith, c .loop-test .left, c .before .before .before .before .pair .ensures .0)) (subst (λ (g : Register). length (g .links) ≤ length (c .before .before .before .before .before .before .before .before .before .args .notes .now)) (sym (one-register j _ (c .before .before .before .before .before .before .before .before .before .pre .0 .0 .read))) (c .before .before .before .before .before .before .before .before .before .pre .0 .1)) o n
-
 pub found-spec : {M : Type 1} → statement M
 found-spec =
     tie.close
     (tie.spec
     Inv-loop
     μ-loop
-    add-pair
-    mul-pair
-    shared-slice-read-pair
-    pair-requires
-    mul-pair-2
-    shared-slice-read-pair-2
-    pair-requires-2
-    loop-holds
-    mul-on
-    shared-slice-read-on
-    on-requires
-    end-of-requires
-    returns
-    add-k
-    loop-less
-    loop-again
-    returns-2)
+    (λ c. omega (arith, c .before .before .before .pre .0 .0 .most))
+    (λ c. omega (arith, c .before .before .before .pre .0 .0 .most))
+    (λ c. omega (arith, c .before .before .before .before .pre .0 .0 .room))
+    (λ c κs. search needs)
+    (λ c. omega (arith, c .before .before .before .before .before .pre .0 .0 .most))
+    (λ c. omega (arith, c .before .before .before .before .before .before .pre .0 .0 .room))
+    (λ c κs. search needs)
+    (λ c.
+    let start = c .before .before .before .before .before .before .before in (
+      omega (arith, c .pair2 .ensures .0),
+      λ j l. subst (λ (z : ℕ). Unmet j (start .args .notes .now) (start .args .node) (start .args .item) l z) (sym (c .pair2 .ensures .0))
+          (unmet-start j (start .args .notes .now) (start .args .node) _ l),
+    ))
+    (λ c. omega (arith, c .loop-test .taken, c .before .before .before .before .pair .ensures .1))
+    (λ c.
+    let at-pair = c .before .before .before .before .before in
+    let start = at-pair .before .before .before .before .before in
+    omega (
+      arith,
+      c .before .loop-test .taken,
+      at-pair .pair .ensures .0,
+      own-within (start .pre .0 .0) (start .args .notes .now) (start .args .node) _ (start .pre .1 .0),
+      start .pre .0 .1,
+    ))
+    (λ c κs. c .before .before .before .before .before .before .before .before .before .before .pre .1 .1)
+    (λ c κs.
+    let at-loop-test = c .before .before .before in
+    let at-pair = at-loop-test .before .before .before .before in
+    let start = at-pair .before .before .before .before .before in
+    asked-end (start .pre .0 .0) (omega (
+      arith,
+      at-loop-test .loop-test .taken,
+      at-pair .pair .ensures .0,
+      own-within (start .pre .0 .0) (start .args .notes .now)
+          (start .args .node) _ (start .pre .1 .0),
+    )))
+    (λ c.
+    let at-on = c .before .before in
+    let at-loop-test = at-on .before .before in
+    let turn = at-loop-test .before in
+    let at-pair = turn .before .before .before in
+    let start = at-pair .before .before .before .before .before in
+    λ j o n. met j (start .args .notes .now) (start .args .node) _ (start .pre .1 .0) (turn .loop .k) _ (turn .loop .inv .0) (omega (
+      arith,
+      at-loop-test .loop-test .taken,
+      at-pair .pair .ensures .0,
+    )) (sym (at-on .on .ensures) ∙ c .before .if1 .taken) (c .end-of .ensures .0 (j .register) (j .read)) o n)
+    (λ c. search needs)
+    (λ c. search needs)
+    (λ c.
+    let turn = c .before .before .before .before in
+    let start = turn .before .before .before .before .before .before .before .before in (
+      omega (arith, turn .loop .inv .0),
+      λ j l. unmet-next j (start .args .notes .now) (start .args .node) _ l _ (turn .loop .inv .1 j l) (sym (c .before .on .ensures)
+          ∙ c .if1 .left),
+    ))
+    (λ c.
+    let at-pair = c .before .before .before .before in
+    let start = at-pair .before .before .before .before .before in
+    λ j o n. unmet-end j (start .args .notes .now) (start .args .node) _ (start .pre .1 .0) _ (c .before .loop .inv .1 j (start .pre .1 .0)) (omega (
+      arith,
+      c .loop-test .left,
+      at-pair .pair .ensures .0,
+    )) (subst (λ (g : Register). length (g .links) ≤ length (start .args .notes .now)) (sym (one-register j _ (start .pre .0 .0 .read)))
+    (start .pre .0 .1)) o n))

@@ -29,7 +29,9 @@ same-length c = search needs
 
 returns : tie.Need-returns
 returns c =
-    with-item (c .before .args .set .now) (c .before .args .x) _ (omega arith) (ap (λ (z : ℕ). bitOr (getD (c .before .args .set .now) (c .before .args .x / 64) 0) z) (bit-at (c .before .args .x % 64) (omega arith)))
+    let start = c .before in
+    with-item (start .args .set .now) (start .args .x) _ (omega arith)
+    (ap (λ (z : ℕ). bitOr (getD (start .args .set .now) (start .args .x / 64) 0) z) (bit-at (start .args .x % 64) (omega arith)))
 
 pub include-spec : {M : Type 1} → statement M
 include-spec =

@@ -22,11 +22,13 @@ shr-rest c = search needs
 
 cast-result : tie.Need-cast-result
 cast-result c =
-    omega (arith, next-bound (getD (c .before .before .before .before .args .set .now) (c .before .before .before .before .args .from / 64) 0 / 2 ^ (c .before .before .before .before .args .from % 64)))
+    let start = c .before .before .before .before in
+    omega (arith, next-bound (getD (start .args .set .now) (start .args .from / 64) 0 / 2 ^ (start .args .from % 64)))
 
 add-result : tie.Need-add-result
 add-result c =
-    omega (arith, next-bound (getD (c .before .before .before .before .args .set .now) (c .before .before .before .before .args .from / 64) 0 / 2 ^ (c .before .before .before .before .args .from % 64)))
+    let start = c .before .before .before .before in
+    omega (arith, next-bound (getD (start .args .set .now) (start .args .from / 64) 0 / 2 ^ (start .args .from % 64)))
 
 returns-2 : tie.Need-returns-2
 returns-2 c =

@@ -40,7 +40,9 @@ add-result c =
 
 returns : tie.Need-returns Inv-loop μ-loop
 returns c =
-    next-from _ _ _ _ (omega arith) (c .before .before .before .loop .inv .2) (next-word _ _ _ refl (c .before .shared-slice-known .given (c .before .before .before .loop .i) .fits) (omega arith) (c .if1 .taken))
+    let at-shared-slice-known = c .before in
+    let at-loop = at-shared-slice-known .before .before in
+    next-from _ _ _ _ (omega arith) (at-loop .loop .inv .2) (next-word _ _ _ refl (at-shared-slice-known .shared-slice-known .given (at-loop .loop .i) .fits) (omega arith) (c .if1 .taken))
 
 add-i : tie.Need-add-i Inv-loop μ-loop
 add-i c = search needs

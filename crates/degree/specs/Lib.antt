@@ -1,4 +1,0 @@
-pub mod Case
-pub mod Notes
-pub mod Heavy
-pub mod Given
