@@ -274,7 +274,7 @@ pub fn degrees(
         ends,
         marks,
         0,
-        17,
+        meaning::MOST_LEVELS,
         set,
         0,
         &mut notes[..0],

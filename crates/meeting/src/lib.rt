@@ -217,13 +217,25 @@ pub fn settle(
         firsts,
         parts,
         0,
-        17,
+        meaning::MOST_LEVELS,
         &mut set,
         &mut met,
     );
     if !sets::contains(&set, item) {
         return false;
     }
-    walk(s, items, index, names, roles, ends, &met, 0, 17, item, map);
+    walk(
+        s,
+        items,
+        index,
+        names,
+        roles,
+        ends,
+        &met,
+        0,
+        meaning::MOST_LEVELS,
+        item,
+        map,
+    );
     true
 }

@@ -215,7 +215,7 @@ pub fn reduce(names: &[u64; 64], roles: &[u8; 64], ends: &[u8; 64], marks: &mut 
     ensures { λ _. ⌜ MarkedWhole (now (names .entry)) (now (roles .entry)) (now (ends .entry)) (now (marks .exit)) ⌝ }
 {
     put(marks, 0, 1);
-    mark(names, roles, ends, marks, 0, 17);
+    mark(names, roles, ends, marks, 0, meaning::MOST_LEVELS);
 }
 
 // The size of the tree at the node: names plus child edges, over all kept nodes.
@@ -252,5 +252,5 @@ pub fn reduced_size(names: &[u64; 64], roles: &[u8; 64], ends: &[u8; 64]) -> usi
 {
     let mut marks = [0u8; 64];
     reduce(names, roles, ends, &mut marks);
-    size(names, ends, &marks, 0, 17)
+    size(names, ends, &marks, 0, meaning::MOST_LEVELS)
 }

@@ -46,7 +46,7 @@ pub fn names(rows: &[u64]) -> [u64; 64]
 {
     let mut out = [0u64; 64];
     let mut i = 0;
-    while i < 64 {
+    while i < meaning::MOST_NODES {
         out[i] = rows[i];
         i += 1;
     }
@@ -60,7 +60,7 @@ pub fn roles(rows: &[u64]) -> [u8; 64]
 {
     let mut out = [0u8; 64];
     let mut i = 0;
-    while i < 64 {
+    while i < meaning::MOST_NODES {
         out[i] = low(rows[EDGES + i]);
         i += 1;
     }
@@ -74,7 +74,7 @@ pub fn ends(rows: &[u64]) -> [u8; 64]
 {
     let mut out = [0u8; 64];
     let mut i = 0;
-    while i < 64 {
+    while i < meaning::MOST_NODES {
         out[i] = high(rows[EDGES + i]);
         i += 1;
     }
@@ -88,7 +88,7 @@ pub fn owners(rows: &[u64]) -> [u8; 16]
 {
     let mut out = [0u8; 16];
     let mut i = 0;
-    while i < 16 {
+    while i < meaning::MOST_THRESHOLDS {
         out[i] = low(rows[PARTS + i]);
         i += 1;
     }
@@ -102,7 +102,7 @@ pub fn firsts(rows: &[u64]) -> [u16; 16]
 {
     let mut out = [0u16; 16];
     let mut i = 0;
-    while i < 16 {
+    while i < meaning::MOST_THRESHOLDS {
         out[i] = high_pair(rows[PARTS + i]);
         i += 1;
     }
