@@ -19,7 +19,7 @@ use Rattle.meaning.proofs.Reading.{number-one}
 use Rattle.meaning.proofs.Rows.{opened}
 use Rattle.meaning.proofs.MessageLabel.{PartAt, decoded, lawful-open, inner-read, sound-inner}
 use Rattle.meaning.proofs.Message.{Accepted, read-back, accepted-length, parts-stand, partsIn}
-use Rattle.register.specs.Image.{Asked}
+use Rattle.register.specs.Image.{OfSize}
 use Rattle.requirement.specs.Reading.{noPart}
 use Rattle.graph.specs.Judged.{Judged}
 use Rattle.screening.specs.Standing.{noThreshold, StandsAt, AllStand, Ruled}
@@ -55,7 +55,7 @@ pair-at a b (Forall₂·cons r f) (suc k) l = pair-at a b f k (omega arith)
 
 module _ {image : List ℕ} {items links : ℕ} {message names roles ends owners firsts : List ℕ} {parts item room : ℕ}
     (k : BothRead image items links message names roles ends owners firsts parts item room) where
-  abbrev pub read-asked : Asked image (λ g. (items ≡ length (g .names)) × (links ≡ length (g .links)))
+  abbrev pub read-asked : OfSize image items links
   read-asked = record { register = k .register; read = k .read; holds = (k .items-are, k .links-are) }
 
   read-accepted : Bytes message → Accepted message (k .requirement, k .places)

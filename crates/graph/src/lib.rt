@@ -6,7 +6,7 @@ ghost use Prim.Native.Nat.{ℕ, _+_, _≤_, _<_, max};
 ghost use lib.ListN.{length, getD};
 ghost use Rattle.meaning.specs.Bounds.{mostItems};
 ghost use Rattle.meaning.specs.Register.{judged};
-ghost use Rattle.register.specs.Image.{Asked, Image};
+ghost use Rattle.register.specs.Image.{Asked, OfSize, Image};
 ghost use Rattle.graph.specs.Judged.{Judged, endNo, Runs, Lower, Higher, Ends, Risen};
 ghost use Rattle.graph.specs.Sets.{Among, Spread, Gathered};
 
@@ -35,7 +35,7 @@ pub fn end_of(s: &[u8], items: usize, k: usize) -> usize
 
 // Fills an index that is all zeros: at place k stands where the links of item k begin.
 pub fn fill_index(s: &[u8], items: usize, links: usize, index: &mut [u16])
-    requires { ⌜ Asked (now s) (λ g. (items ≡ length (g .names)) × (links ≡ length (g .links))) ⌝ }
+    requires { ⌜ OfSize (now s) items links ⌝ }
     requires { ⌜ (items < length (now index)) × ((k : ℕ) → getD (now index) k 0 ≡ 0) ⌝ }
     ensures { λ _. ⌜ Judged (now (s .entry)) items (now (index .exit)) ⌝ }
 {
@@ -45,7 +45,7 @@ pub fn fill_index(s: &[u8], items: usize, links: usize, index: &mut [u16])
 
 // Behind the place of each item that links lead from: where its last one ends.
 fn note_ends(s: &[u8], items: usize, links: usize, index: &mut [u16])
-    requires { ⌜ Asked (now s) (λ g. (items ≡ length (g .names)) × (links ≡ length (g .links))) ⌝ }
+    requires { ⌜ OfSize (now s) items links ⌝ }
     requires { ⌜ (items < length (now index)) × ((k : ℕ) → getD (now index) k 0 ≡ 0) ⌝ }
     ensures { λ _. ⌜ Image (now (s .entry)) (λ g. (x : ℕ) → x < items → Ends g links x (getD (now (index .exit)) (x + 1) 0)) ⌝ }
     ensures { λ _. ⌜ getD (now (index .exit)) 0 0 ≡ 0 ⌝ }

@@ -13,6 +13,10 @@ pub record Asked (s : List ℕ) (P : Register → Type 0) : Type 0 where
   pub read : readBuffer s ≡ good register
   pub holds : P register
 
+-- it has so many items and links
+abbrev pub OfSize : List ℕ → ℕ → ℕ → Type 0
+OfSize s items links = Asked s (λ g. (items ≡ length (g .names)) × (links ≡ length (g .links)))
+
 -- what is said of it
 abbrev pub Image : List ℕ → (Register → Type 0) → Type 0
 Image s P = (g : Register) → readBuffer s ≡ good g → P g

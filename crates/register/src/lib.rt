@@ -12,7 +12,7 @@ ghost use lib.ListN.{length, getD};
 ghost use Rattle.meaning.specs.Bytes.{number};
 ghost use Rattle.meaning.specs.Register.{Link, linkAt, readLink, readBody};
 ghost use Rattle.meaning.specs.Bounds.{mostItems, mostLinks, mostRole};
-ghost use Rattle.register.specs.Image.{Asked, Image, linkNo, Begins};
+ghost use Rattle.register.specs.Image.{Asked, OfSize, Image, linkNo, Begins};
 ghost use Rattle.register.specs.Reading.{ReadPromise, paperReading, counted, linksAnswer, refusedAt, key, Floor, paperLink, keyed, Passed, Right, AllRead, cutAt};
 
 // An image: how many items and links it has, or its refusal.
@@ -290,7 +290,7 @@ pub fn key_of(s: &[u8], items: usize, k: usize) -> usize
 
 // Where the links of an item begin: at the first link that leads from it or from an item behind it.
 pub fn first_link(s: &[u8], items: usize, links: usize, item: usize) -> usize
-    requires { ⌜ Asked (now s) (λ g. (items ≡ length (g .names)) × (links ≡ length (g .links))) ⌝ }
+    requires { ⌜ OfSize (now s) items links ⌝ }
     ensures { λ r. ⌜ Image (now (s .entry)) (λ g. Begins (g .links) item r) ⌝ }
 {
     let mut low = 0;

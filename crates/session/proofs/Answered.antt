@@ -26,7 +26,7 @@ use Rattle.fields.specs.Head.{wrongIn}
 use Rattle.register.specs.declared.Reading.{Reading}
 use Rattle.register.specs.declared.Reading.the-variants.{Good as GoodReading, Refused as RefusedReading}
 use Rattle.register.specs.Layout.{imageLength}
-use Rattle.register.specs.Image.{Asked}
+use Rattle.register.specs.Image.{OfSize}
 use Rattle.register.specs.Reading.{Counts}
 use Rattle.register.specs.Reading.{paperReading, counted as sized}
 use Rattle.setting.specs.declared.Setting.{Setting}
@@ -69,7 +69,7 @@ ranged n f x y e d i j = go f (sounds n f (sym e ∙ d) (sym i ∙ j))
 -- ---- the register
 
 pub read-sizes : (s : List ℕ) (items links : ℕ) (r : Reading) → r ≡ GoodReading items links → paperReading r ≡ sized (readRegisterBy (wrongIn true) s)
-    → Asked s (λ g. (items ≡ length (g .names)) × (links ≡ length (g .links)))
+    → OfSize s items links
 unfolding sized
 read-sizes s items links r e d =
     let q = taken (readBuffer s) _ (sym (sym (ap paperReading e) ∙ d)) in
@@ -105,7 +105,7 @@ module _ (s : List ℕ) (log count : ℕ) (f : Fact) (v : Bool) where
   unfolding editCall
   edit-unread x e = edit-no x x refl (stopped (readBuffer s) _ x e)
 
-  module _ (items links n : ℕ) (range role : Bool) (a : Asked s (λ g. (items ≡ length (g .names)) × (links ≡ length (g .links)))) (en : n ≡ min log mostSteps)
+  module _ (items links n : ℕ) (range role : Bool) (a : OfSize s items links) (en : n ≡ min log mostSteps)
       (er : range ≡ outOfRange items f) (el : role ≡ roleAbove f) where
     abbrev g : Register
     g = a .register
@@ -178,7 +178,7 @@ module _ (s : List ℕ) (log count : ℕ) (last : Step) where
   unfolding undoCall
   undo-unread x e = undo-no x x refl (stopped (readBuffer s) _ x e)
 
-  module _ (items links n : ℕ) (range role : Bool) (a : Asked s (λ g. (items ≡ length (g .names)) × (links ≡ length (g .links)))) (en : n ≡ min log mostSteps)
+  module _ (items links n : ℕ) (range role : Bool) (a : OfSize s items links) (en : n ≡ min log mostSteps)
       (er : range ≡ outOfRange items (last .fact)) (el : role ≡ roleAbove (last .fact)) where
     abbrev k : Register
     k = a .register
@@ -243,7 +243,7 @@ module _ (s : List ℕ) where
   unfolding openCall bufferOpened noSteps
   open-unread x e = let d = stopped (readBuffer s) _ x e in (sym (ap noSteps d), sym (ap (bufferOpened s) d))
 
-  pub open-done : (by : Bytes s) (items links at : ℕ) (t : List ℕ) → at ≡ imageLength items links → Asked s (λ g. (items ≡ length (g .names)) × (links ≡ length (g .links)))
+  pub open-done : (by : Bytes s) (items links at : ℕ) (t : List ℕ) → at ≡ imageLength items links → OfSize s items links
       → t ≡ take at s ++ zeros (length s - at) → Opens t (Good 0)
   unfolding openCall bufferOpened noSteps cleared
   open-done by items links at t ea a e =
@@ -272,7 +272,7 @@ module _ (s : List ℕ) (log count : ℕ) where
 
 -- ---- the sizes of an image that was read
 
-pub sizes-fit : (s : List ℕ) → Bytes s → (items links : ℕ) → Asked s (λ g. (items ≡ length (g .names)) × (links ≡ length (g .links)))
+pub sizes-fit : (s : List ℕ) → Bytes s → (items links : ℕ) → OfSize s items links
     → (items ≤ mostItems) × (links ≤ mostLinks) × (imageLength items links ≤ length s)
 sizes-fit s by items links a =
     let q = image-fits s (a .register) by (a .read) in

@@ -16,7 +16,7 @@ ghost use Rattle.meaning.specs.Bounds.{mostItems, mostLinks, mostSteps};
 ghost use Rattle.meaning.specs.Refusal.{onCall};
 ghost use Rattle.meaning.specs.Session.{zeros, outOfRange, roleAbove};
 ghost use Rattle.register.specs.Layout.{imageLength};
-ghost use Rattle.register.specs.Image.{Asked};
+ghost use Rattle.register.specs.Image.{OfSize};
 ghost use Rattle.session.specs.Calls.{anEdit, OpenPromise, EditPromise, UndoPromise, KeepPromise};
 
 // What a call hands back: the count of steps in use, or its refusal.
@@ -109,7 +109,7 @@ fn edit_read(
     fact: Fact,
     adds: bool,
 ) -> Edited
-    requires { ⌜ Asked (now s) (λ g. (items ≡ length (g .names)) × (links ≡ length (g .links))) ⌝ }
+    requires { ⌜ OfSize (now s) items links ⌝ }
     ensures { λ r. ⌜ EditPromise (now (s .entry)) log count (anEdit fact adds) r (now (s .exit)) ⌝ }
 {
     if room(log) < count {
@@ -163,7 +163,7 @@ fn undo_read(
     count: usize,
     last: Step,
 ) -> Counted
-    requires { ⌜ Asked (now s) (λ g. (items ≡ length (g .names)) × (links ≡ length (g .links))) ⌝ }
+    requires { ⌜ OfSize (now s) items links ⌝ }
     ensures { λ r. ⌜ UndoPromise (now (s .entry)) log count last r (now (s .exit)) ⌝ }
 {
     if room(log) < count {
@@ -221,7 +221,7 @@ fn clear(s: &mut [u8], from: usize)
 }
 
 fn open_read(s: &mut [u8], items: usize, links: usize) -> Counted
-    requires { ⌜ Asked (now s) (λ g. (items ≡ length (g .names)) × (links ≡ length (g .links))) ⌝ }
+    requires { ⌜ OfSize (now s) items links ⌝ }
     requires { ⌜ (items ≤ mostItems) × (links ≤ mostLinks) × (imageLength items links ≤ length (now s)) ⌝ }
     ensures { λ r. ⌜ OpenPromise (now (s .entry)) r (now (s .exit)) ⌝ }
 {

@@ -22,7 +22,7 @@ use Rattle.meaning.proofs.Reading.{good-inj, at-most, not-le, below, not-below}
 use Rattle.meaning.proofs.Image.{image-length, read-buffer, image-fits}
 use Rattle.meaning.proofs.SessionFacts.{set-same}
 use Rattle.meaning.proofs.SessionLinks.{Sound}
-use Rattle.register.specs.Image.{Asked, Image, linkNo}
+use Rattle.register.specs.Image.{Asked, OfSize, Image, linkNo}
 use Rattle.register.specs.Layout.{namesAt, imageLength}
 use Rattle.register.specs.Reading.{key, Small}
 use Rattle.setting.specs.declared.Setting.{Setting}
@@ -162,7 +162,7 @@ name-placed s g v i k = refl
 -- its number, the place that the search found, and whether it stands there
 pub record Looked (s : List ℕ) (a r c items links number k : ℕ) (there : Bool) : Type 0 where
   pub by : Bytes s
-  pub asked : Asked s (λ g. (items ≡ length (g .names)) × (links ≡ length (g .links)))
+  pub asked : OfSize s items links
   pub from : a < items
   pub role : r ≤ mostRole
   pub to : c < items

@@ -16,7 +16,7 @@ ghost use Rattle.meaning.specs.declared.Fact.{Fact};
 ghost use Rattle.meaning.specs.Register.{Link, isFact};
 ghost use Rattle.meaning.specs.Session.{link, setFact, rewritten};
 ghost use Rattle.register.specs.Layout.{namesAt, countAt, imageLength, bodyLength};
-ghost use Rattle.register.specs.Image.{Asked, Image, linkNo};
+ghost use Rattle.register.specs.Image.{Asked, OfSize, Image, linkNo};
 ghost use Rattle.register.specs.Reading.{key, Small};
 ghost use Rattle.setting.specs.Moved.{movedUp, movedDown};
 ghost use Rattle.setting.specs.Setting.{PlaceOf, bufferInserted, bufferRemoved, Ranged, SettingOf};
@@ -81,7 +81,7 @@ pub fn number_of(from: usize, role: usize, to: usize) -> usize
 
 // How many links stand below a number.
 fn place_of(s: &[u8], items: usize, links: usize, number: usize) -> usize
-    requires { ⌜ Asked (now s) (λ g. (items ≡ length (g .names)) × (links ≡ length (g .links))) ⌝ }
+    requires { ⌜ OfSize (now s) items links ⌝ }
     ensures { λ r. ⌜ Image (now (s .entry)) (λ g. PlaceOf (g .links) number r) ⌝ }
 {
     let mut low = 0;
@@ -99,7 +99,7 @@ fn place_of(s: &[u8], items: usize, links: usize, number: usize) -> usize
 
 // Whether the link at that place has the number.
 fn stands_at(s: &[u8], items: usize, links: usize, k: usize, number: usize) -> bool
-    requires { ⌜ Asked (now s) (λ g. (items ≡ length (g .names)) × (links ≡ length (g .links))) ⌝ }
+    requires { ⌜ OfSize (now s) items links ⌝ }
     ensures { λ r. ⌜ Image (now (s .entry)) (λ g. r ≡ (ltb k (length (g .links)) && eqb (key (linkNo g k)) number)) ⌝ }
 {
     if k < links {
@@ -119,7 +119,7 @@ fn put_counts(s: &mut [u8], items: usize, links: usize)
 
 // Puts the link with that number before the k-th.
 fn insert(s: &mut [u8], items: usize, links: usize, k: usize, number: usize)
-    requires { ⌜ Asked (now s) (λ g. (items ≡ length (g .names)) × (links ≡ length (g .links))) ⌝ }
+    requires { ⌜ OfSize (now s) items links ⌝ }
     requires { ⌜ (k ≤ links) × (items ≤ mostItems) × (links < mostLinks) × (imageLength items (links + 1) ≤ length (now s)) ⌝ }
     ensures { λ _. ⌜ Image (now (s .entry)) (λ g. (l : Link) → number ≡ key l → Small l → now (s .exit) ≡ bufferInserted (now (s .entry)) k l g) ⌝ }
 {
@@ -132,7 +132,7 @@ fn insert(s: &mut [u8], items: usize, links: usize, k: usize, number: usize)
 
 // Takes the k-th link away.
 fn remove(s: &mut [u8], items: usize, links: usize, k: usize)
-    requires { ⌜ Asked (now s) (λ g. (items ≡ length (g .names)) × (links ≡ length (g .links))) ⌝ }
+    requires { ⌜ OfSize (now s) items links ⌝ }
     requires { ⌜ (k < links) × (items ≤ mostItems) × (links ≤ mostLinks) × (imageLength items links ≤ length (now s)) ⌝ }
     ensures { λ _. ⌜ Image (now (s .entry)) (λ g. now (s .exit) ≡ bufferRemoved (now (s .entry)) k g) ⌝ }
 {
@@ -153,7 +153,7 @@ fn set_link(
     to: usize,
     adds: bool,
 ) -> Setting
-    requires { ⌜ Asked (now s) (λ g. (items ≡ length (g .names)) × (links ≡ length (g .links))) ⌝ }
+    requires { ⌜ OfSize (now s) items links ⌝ }
     requires { ⌜ (from < items) × (role ≤ mostRole) × (to < items) × (items ≤ mostItems) × (links ≤ mostLinks) × (imageLength items links ≤ length (now s)) ⌝ }
     ensures { λ r. ⌜ SettingOf (now (s .entry)) (Fact.Link from role to) adds (now (s .exit)) r ⌝ }
 {
@@ -183,7 +183,7 @@ fn set_link(
 
 // Sets a fact that is in range to there or not.
 pub fn set_fact(s: &mut [u8], items: usize, links: usize, fact: Fact, adds: bool) -> Setting
-    requires { ⌜ Asked (now s) (λ g. (items ≡ length (g .names)) × (links ≡ length (g .links))) ⌝ }
+    requires { ⌜ OfSize (now s) items links ⌝ }
     requires { ⌜ Ranged items fact ⌝ }
     requires { ⌜ (items ≤ mostItems) × (links ≤ mostLinks) × (imageLength items links ≤ length (now s)) ⌝ }
     ensures { λ r. ⌜ SettingOf (now (s .entry)) fact adds (now (s .exit)) r ⌝ }
