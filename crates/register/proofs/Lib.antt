@@ -7,5 +7,4 @@ pub mod Facts
 pub mod Halves
 pub mod Begins
 pub mod Targets
-pub mod Once
 pub mod Promise
