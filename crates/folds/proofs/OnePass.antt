@@ -6,6 +6,7 @@ use mathlib.Core.List.{List, [], _∷_}
 use mathlib.Core.Option.{some}
 use Prim.Native.Nat.{ℕ, _+_, _-_, _≤_, _<_}
 use native.Mathlib.Decide.{ℕ-discrete}
+use native.Mathlib.Nat.{le-refl}
 use native.Mathlib.Omega.{arith}
 use lib.Dec.{ltb}
 use borrow.Author.Tests.{lt-ltb, le-ltb}
@@ -19,37 +20,34 @@ use Rattle.graph.proofs.Same.{Agree, best-same, pick-same}
 use Rattle.folds.specs.declared.Best.{Best}
 use Rattle.folds.specs.Folded.{Top}
 
-module _ (v e : ℕ → ℕ) (first end : ℕ) where
-  -- the links before the k-th are looked at
+module _ (v e : ℕ → ℕ) (first : ℕ) where
+  -- the links before the k-th are looked at; wherever they end, the best of the others is compared with the best so far
   pub record Scan (value link k : ℕ) : Type 0 where
     pub low : first ≤ k
-    pub high : k ≤ end
     pub start : k ≡ first → (value ≡ 0) × (link ≡ first)
     pub behind : first < k → (first ≤ link) × (link < k) × (value ≡ v (e link))
-    pub rest : first < k → firstBest v (e link) (spanned e k end) ≡ firstBest v (e first) (spanned e (first + 1) end)
+    pub rest : first < k → (end : ℕ) → k ≤ end → firstBest v (e link) (spanned e k end) ≡ firstBest v (e first) (spanned e (first + 1) end)
 
-  pub scan-start : first ≤ end → Scan 0 first first
-  scan-start l = record {
+  pub scan-start : Scan 0 first first
+  scan-start = record {
     low = omega arith;
-    high = l;
     start = λ _. (refl, refl);
     behind = λ z. absurd (omega arith);
     rest = λ z. absurd (omega arith);
   }
 
-  module _ (value link k w : ℕ) (s : Scan value link k) (l : k < end) (ew : w ≡ v (e k)) where
+  module _ (value link k w : ℕ) (s : Scan value link k) (ew : w ≡ v (e k)) where
     -- the end of the next link is compared with the best so far
-    next : (b : Bool) → ltb (v (e link)) (v (e k)) ≡ b → first < k
+    next : (b : Bool) → ltb (v (e link)) (v (e k)) ≡ b → first < k → (end : ℕ) → k + 1 ≤ end
         → firstBest v (cond b (e k) (e link)) (spanned e (k + 1) end) ≡ firstBest v (e first) (spanned e (first + 1) end)
     unfolding firstBest
-    next b eb m =
+    next b eb m end l =
         ap (λ (c : Bool). firstBest v (cond c (e k) (e link)) (spanned e (k + 1) end)) (sym eb)
-        ∙ sym (ap (firstBest v (e link)) (spanned-step e k end l)) ∙ s .rest m
+        ∙ sym (ap (firstBest v (e link)) (spanned-step e k end (omega arith))) ∙ s .rest m end (omega arith)
 
     pub scan-pass : w ≤ value → Scan value link (k + 1)
     scan-pass h = record {
       low = let q = s .low in omega arith;
-      high = omega arith;
       start = λ z. absurd (let q = s .low in omega (arith, z));
       behind = λ _. at (ℕ-discrete k first);
       rest = λ _. go (ℕ-discrete k first);
@@ -65,8 +63,8 @@ module _ (v e : ℕ → ℕ) (first end : ℕ) where
         at (yes z) = let q = zero-here z in (omega (arith, q .1), omega (arith, q .1, z), q .0)
         at (no z) = let q = s .behind (let y = s .low in omega (arith, z)) in (q .0, omega (arith, q .1), q .2)
 
-        go : Dec (k ≡ first) → firstBest v (e link) (spanned e (k + 1) end) ≡ firstBest v (e first) (spanned e (first + 1) end)
-        go (yes z) = rw (z, zero-here z .1)
+        go : Dec (k ≡ first) → (end : ℕ) → k + 1 ≤ end → firstBest v (e link) (spanned e (k + 1) end) ≡ firstBest v (e first) (spanned e (first + 1) end)
+        go (yes z) = λ end l. rw (z, zero-here z .1)
         go (no z) =
             let m : first < k = let y = s .low in omega (arith, z) in
             next false (le-ltb (v (e link)) (v (e k)) (omega (arith, ew, s .behind m .2))) m
@@ -74,42 +72,40 @@ module _ (v e : ℕ → ℕ) (first end : ℕ) where
     pub scan-take : value < w → Scan w k (k + 1)
     scan-take h = record {
       low = let q = s .low in omega arith;
-      high = omega arith;
       start = λ z. absurd (let q = s .low in omega (arith, z));
       behind = λ _. (s .low, omega arith, ew);
       rest = λ _. go (ℕ-discrete k first);
     }
       where
-        go : Dec (k ≡ first) → firstBest v (e k) (spanned e (k + 1) end) ≡ firstBest v (e first) (spanned e (first + 1) end)
-        go (yes z) = rw z
+        go : Dec (k ≡ first) → (end : ℕ) → k + 1 ≤ end → firstBest v (e k) (spanned e (k + 1) end) ≡ firstBest v (e first) (spanned e (first + 1) end)
+        go (yes z) = λ end l. rw z
         go (no z) =
             let m : first < k = let y = s .low in omega (arith, z) in
             next true (lt-ltb (v (e link)) (v (e k)) (omega (arith, ew, s .behind m .2))) m
 
-  picked : first < end → (x : ℕ) → firstBest v x [] ≡ firstBest v (e first) (spanned e (first + 1) end) → pick v (spanned e first end) ≡ some x
+  picked : (end : ℕ) → first < end → (x : ℕ) → firstBest v x [] ≡ firstBest v (e first) (spanned e (first + 1) end) → pick v (spanned e first end) ≡ some x
   unfolding pick firstBest
-  picked l x q = rw (spanned-step e first end l) (ap some (sym q))
+  picked end l x q = rw (spanned-step e first end l) (ap some (sym q))
 
-pub scan-end : (v : ℕ → ℕ) (g : Register) (first end k : ℕ) (b : Best) → Scan v (endNo g) first end (b .value) (b .link) k → end ≤ k
+pub scan-end : (v : ℕ → ℕ) (g : Register) (first end : ℕ) (b : Best) → Scan v (endNo g) first (b .value) (b .link) end
     → Top g v (spanned (endNo g) first end) first end b
 unfolding best
-scan-end v g first end k b s l = record {
-  value = go (ℕ-discrete first end);
-  link = λ m. let q = s .behind (omega (arith, l)) in (q .0, omega (arith, q .1, s .high), chosen m);
-  none = λ m. let z = s .low in let y = s .high in omega (arith, s .start (omega arith) .1);
+scan-end v g first end b s = record {
+  value = go (ℕ-discrete end first);
+  link = λ m. let q = s .behind m in (q .0, q .1, chosen m);
+  none = λ m. let z = s .low in omega (arith, s .start (omega arith) .1);
 }
   where
     chosen : first < end → pick v (spanned (endNo g) first end) ≡ some (endNo g (b .link))
     chosen m =
         picked v (endNo g) first end m (endNo g (b .link))
-        (ap (firstBest v (endNo g (b .link))) (sym (spanned-end (endNo g) k end l)) ∙ s .rest (omega (arith, l)))
+        (ap (firstBest v (endNo g (b .link))) (sym (spanned-end (endNo g) end end (le-refl end))) ∙ s .rest m end (le-refl end))
 
-    go : Dec (first ≡ end) → b .value ≡ best v (spanned (endNo g) first end)
-    go (yes z) =
-        s .start (omega (arith, z, l, s .low, s .high)) .0 ∙ sym (ap (best v) (spanned-end (endNo g) first end (omega (arith, z))))
+    go : Dec (end ≡ first) → b .value ≡ best v (spanned (endNo g) first end)
+    go (yes z) = s .start z .0 ∙ sym (ap (best v) (spanned-end (endNo g) first end (omega (arith, z))))
     go (no z) =
-        let m : first < end = omega (arith, z, s .low, s .high) in
-        s .behind (omega (arith, l, m)) .2 ∙ pick-some v (spanned (endNo g) first end) (endNo g (b .link)) (chosen m) .1
+        let m : first < end = let y = s .low in omega (arith, z) in
+        s .behind m .2 ∙ pick-some v (spanned (endNo g) first end) (endNo g (b .link)) (chosen m) .1
 
 -- for values that are the same at the ends
 pub top-same : (g : Register) (v v′ : ℕ → ℕ) (ys : List ℕ) (first end : ℕ) (b : Best) → Agree v v′ ys → Top g v ys first end b → Top g v′ ys first end b

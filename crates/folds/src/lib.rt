@@ -10,30 +10,47 @@ ghost use Rattle.meaning.specs.Register.{judged};
 ghost use Rattle.meaning.specs.Session.{withName};
 ghost use Rattle.meaning.specs.Degree.{orOne};
 ghost use Rattle.register.specs.Image.{Asked, Image};
-ghost use Rattle.graph.specs.Judged.{Judged, spanned, endNo};
+ghost use Rattle.graph.specs.Judged.{Judged, spanned, endNo, Parted};
 ghost use Rattle.folds.specs.Members.{Member, Items};
 ghost use Rattle.folds.specs.Folded.{rowAt, Kept, Top, Folding, Folded};
 
 // A row of numbers has a place for each item that there may be.
 pub const ROW: usize = 512;
 
-// Of some links: the greatest value of an end (0 where there is no link), and the first link whose end has it.
+// Of some links: the greatest value of an end (0 where there is no link), and the first link whose end has it; and where they end.
 pub struct Best {
     pub value: u32,
     pub link: usize,
+    pub end: usize,
 }
 
-// One pass over the links from `first` up to `end`; the values of their ends stand from `at` on.
-fn best_of(s: &[u8], items: usize, first: usize, end: usize, numbers: &[u32], at: usize) -> Best
-    requires { ⌜ Asked (now s) (λ g. (items ≡ length (g .names)) × (end ≤ length (g .links))) ⌝ }
-    requires { ⌜ (first ≤ end) × (items ≤ 512) × (at + 512 ≤ length (now numbers)) ⌝ }
-    ensures { λ r. ⌜ Image (now (s .entry)) (λ g. Top g (rowAt (now (numbers .entry)) at) (spanned (endNo g) first end) first end r) ⌝ }
+// One pass over the links from `first` on, up to the first of a higher role or to `stop`; the values of their ends stand from `at` on.
+fn best_of(
+    s: &[u8],
+    items: usize,
+    role: usize,
+    first: usize,
+    stop: usize,
+    numbers: &[u32],
+    at: usize,
+) -> Best
+    requires { ⌜ Asked (now s) (λ g. (items ≡ length (g .names)) × (stop ≤ length (g .links))) ⌝ }
+    requires { ⌜ (first ≤ stop) × (items ≤ 512) × (at + 512 ≤ length (now numbers)) ⌝ }
+    ensures { λ r. ⌜ Image (now (s .entry)) (λ g. Parted g (role + 1) first stop (r .end)
+        × Top g (rowAt (now (numbers .entry)) at) (spanned (endNo g) first (r .end)) first (r .end) r) ⌝ }
 {
     let mut value: u32 = 0;
     let mut link = first;
     let mut k = first;
-    while k < end {
+    while k < stop {
         let this = k;
+        if role < register::role_of(s, items, this) {
+            return Best {
+                value,
+                link,
+                end: this,
+            };
+        }
         let v = numbers[at + graph::end_of(s, items, this)];
         k += 1;
         if v <= value {
@@ -42,7 +59,11 @@ fn best_of(s: &[u8], items: usize, first: usize, end: usize, numbers: &[u32], at
         value = v;
         link = this;
     }
-    Best { value, link }
+    Best {
+        value,
+        link,
+        end: k,
+    }
 }
 
 // A number so far over the scale of the children so far, and a child's number over its own scale: their sum over the product.
@@ -91,10 +112,10 @@ pub fn fold(
 {
     let mut x = graph::sets::next_in(set, 0);
     while x < ROW {
-        let r = graph::run(s, items, index, x, role);
-        let b = best_of(s, items, r.first, r.end, numbers, from);
+        let r = graph::from_role(s, items, index, x, role);
+        let b = best_of(s, items, role, r.first, r.end, numbers, from);
         numbers[to + x] = folded(numbers[to + x], scale, b.value, product);
-        note(notes, b.link, r.end, node);
+        note(notes, b.link, b.end, node);
         x = graph::sets::next_in(set, x + 1);
     }
 }

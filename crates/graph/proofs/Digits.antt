@@ -91,3 +91,20 @@ trailing-some (suc k) n h l = go (n % 2) refl (trailing-some k (n / 2) (let p = 
     go : (d : ℕ) → n % 2 ≡ d → (0 < n / 2 → trailingZeros k (n / 2) < k) → under d (trailingZeros k (n / 2)) < suc k
     go zero e ih = let z = ih (omega arith) in omega arith
     go (suc d) e ih = omega arith
+
+-- below the lowest digit that is not set, all are
+pub ones-below : (k n j : ℕ) → n < 2 ^ k → j < trailingZeros k (2 ^ k - 1 - n) → has n j ≡ true
+unfolding trailingZeros
+ones-below zero n j l h = absurd (omega arith)
+ones-below (suc k) n j l h =
+    let p = pow-suc 2 k in
+    let half : (2 ^ suc k - 1 - n) / 2 ≡ 2 ^ k - 1 - n / 2 = omega arith in
+    go ((2 ^ suc k - 1 - n) % 2) refl j (rw (← half) h) (λ i m. ones-below k (n / 2) i (omega arith) m)
+  where
+    t : ℕ
+    t = trailingZeros k (2 ^ k - 1 - n / 2)
+
+    go : (d : ℕ) → (2 ^ suc k - 1 - n) % 2 ≡ d → (j : ℕ) → j < under d t → ((i : ℕ) → i < t → has (n / 2) i ≡ true) → has n j ≡ true
+    go zero e zero m ih = has-zero n ∙ (let p = pow-suc 2 k in let o : n % 2 ≡ 1 = omega arith in rw o)
+    go zero e (suc i) m ih = has-suc n i ∙ ih i (omega arith)
+    go (suc d) e i m ih = absurd (omega arith)

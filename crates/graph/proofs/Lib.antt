@@ -4,7 +4,6 @@ pub mod Empty
 pub mod Spans
 pub mod Rising
 pub mod Runs
-pub mod Ranges
 pub mod Index
 pub mod Spreading
 pub mod Same

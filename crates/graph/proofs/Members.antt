@@ -14,11 +14,14 @@ use lib.ListN.{length, getD, set, List·getD-eq-default}
 use lib.Seq.{getD-set-same, getD-set-other}
 use borrow.Author.Tests.{eq-eqb, ne-eqb, eqb-true, eqb-false}
 use Rattle.meaning.specs.Names.{has}
+use Rattle.meaning.specs.Register.{Register, judged}
 use Rattle.meaning.specs.Session.{withName}
 use Rattle.meaning.proofs.SessionNames.{with-has, has-none}
 use Rattle.meaning.proofs.Tests.{true-false}
 use Rattle.graph.specs.Sets.{inSet, Among, Next, With, Without, Gathered}
-use Rattle.graph.proofs.Digits.{has-shift, has-high, has-or, has-bit, trailing-below, trailing-at, trailing-some}
+use Rattle.graph.proofs.Digits.{has-shift, has-high, has-or, has-bit, trailing-below, trailing-at, trailing-some, ones-below}
+use Rattle.graph.specs.Judged.{spanned, endNo, Opens, Parted}
+use Rattle.graph.proofs.Spans.{spanned-found, spanned-member}
 
 -- an item is known by its number and its bit
 same-item : (x y : ℕ) → x / 64 ≡ y / 64 → eqb (x % 64) (y % 64) ≡ eqb x y
@@ -27,14 +30,6 @@ same-item x y e = go (eqb (x % 64) (y % 64)) refl
     go : (b : Bool) → eqb (x % 64) (y % 64) ≡ b → b ≡ eqb x y
     go true q = let z = eqb-true (x % 64) (y % 64) q in sym (eq-eqb x y (omega arith))
     go false q = sym (ne-eqb x y (λ z. eqb-false (x % 64) (y % 64) q (ap (λ (n : ℕ). n % 64) z)))
-
--- a set that has an item is the set with it
-pub with-there : (old : List ℕ) (x : ℕ) → inSet old x ≡ true → With old x old
-with-there old x h y = go (eqb x y) refl
-  where
-    go : (b : Bool) → eqb x y ≡ b → inSet old y ≡ (b || inSet old y)
-    go true q = ap (λ (z : ℕ). inSet old z) (sym (eqb-true x y q)) ∙ h
-    go false q = refl
 
 module _ (old : List ℕ) (x v : ℕ) (h : x / 64 < length old) where
   here : (y : ℕ) → y / 64 ≡ x / 64 → inSet (set old (x / 64) v) y ≡ has v (y % 64)
@@ -162,14 +157,18 @@ next-bound n = trailing-le 64 n
 
 -- ---- growing
 
-pub gathered-none : (f : ℕ → ℕ) (first items : ℕ) (old : List ℕ) → Among items old → Gathered f first first items old old
-gathered-none f first items old a = record { kept = λ y h. h; got = λ k l m. absurd (omega arith); among = a }
+pub gathered-none : (f : ℕ → ℕ) (first items : ℕ) (old : List ℕ) → Among items old → Gathered (spanned f first first) items old old
+gathered-none f first items old a = record {
+  kept = λ y h. h;
+  got = λ y m. let k = spanned-found f y first first m in absurd (omega (arith, k .1, k .2));
+  among = a;
+}
 
-pub gathered-more : (f : ℕ → ℕ) (first k items x : ℕ) (old new later : List ℕ) → Gathered f first k items old new → With new x later → x ≡ f k → x < items
-    → Gathered f first (k + 1) items old later
+pub gathered-more : (f : ℕ → ℕ) (first k items x : ℕ) (old new later : List ℕ) → Gathered (spanned f first k) items old new → With new x later → x ≡ f k → x < items
+    → Gathered (spanned f first (k + 1)) items old later
 gathered-more f first k items x old new later w v e l = record {
   kept = λ y h. stays y (w .kept y h);
-  got = λ j a b. go j a b (decLt j k);
+  got = λ y m. let q = spanned-found f y first (k + 1) m in ap (inSet later) (q .3) ∙ go (q .0) (q .1) (q .2) (decLt (q .0) k);
   among = λ y h. mine y h (eqb x y) refl;
 }
   where
@@ -181,7 +180,7 @@ gathered-more f first k items x old new later w v e l = record {
     stays y h = v y ∙ ap (λ (b : Bool). eqb x y || b) h ∙ or-true (eqb x y)
 
     go : (j : ℕ) → first ≤ j → j < k + 1 → Dec (j < k) → inSet later (f j) ≡ true
-    go j a b (yes d) = stays (f j) (w .got j a d)
+    go j a b (yes d) = stays (f j) (w .got (f j) (spanned-member f first k j a d))
     go j a b (no d) =
         let same : j ≡ k = omega (arith, d) in
         v (f j) ∙ ap (λ (b : Bool). b || inSet new (f j)) (eq-eqb x (f j) (e ∙ ap f (sym same)))
@@ -190,8 +189,10 @@ gathered-more f first k items x old new later w v e l = record {
     mine y h true q = let z = eqb-true x y q in omega arith
     mine y h false q = w .among y (sym (v y ∙ ap (λ (b : Bool). b || inSet new y) q) ∙ h)
 
-pub gathered-all : (f : ℕ → ℕ) (first k end items : ℕ) (old new : List ℕ) → Gathered f first k items old new → end ≤ k → Gathered f first end items old new
-gathered-all f first k end items old new w l = record { kept = w .kept; got = λ j a b. w .got j a (omega arith); among = w .among }
+-- the run's ends are the successors
+pub gathered-run : (g : Register) (item role first stop k items : ℕ) (old new : List ℕ) → Opens g item role first stop → Parted g (role + 1) first stop k
+    → Gathered (spanned (endNo g) first k) items old new → Gathered (judged g .next item role) items old new
+gathered-run g item role first stop k items old new o p w = subst (λ (ys : List ℕ). Gathered ys items old new) (sym (o .run k p .next)) w
 
 -- ---- the same from an item on, and from a whole number on
 
@@ -207,6 +208,24 @@ next-at set from rest e f l d =
 pub none-at : (set : List ℕ) (from rest : ℕ) → rest ≡ getD set (from / 64) 0 / 2 ^ (from % 64) → rest ≡ 0
     → (x : ℕ) → from ≤ x → x < (from / 64 + 1) * 64 → inSet set x ≡ false
 none-at set from rest e d x l = none-left set (from / 64) (from % 64) rest (omega arith) e d x (omega arith)
+
+-- all are there as far as the number's digits are set
+pub full-at : (set : List ℕ) (from rest : ℕ) → rest ≡ getD set (from / 64) 0 / 2 ^ (from % 64) → getD set (from / 64) 0 < word
+    → (x : ℕ) → from ≤ x → x < from + trailingZeros 64 (18446744073709551615 - rest) → inSet set x ≡ true
+full-at set from rest e f x l h = go (decLt (from % 64 + j) 64)
+  where
+    j : ℕ
+    j = x - from
+
+    on : has rest j ≡ true
+    on = let z : rest ≤ getD set (from / 64) 0 = rw e (shr-le (getD set (from / 64) 0) (from % 64)) in ones-below 64 rest j (omega arith) (omega arith)
+
+    go : Dec (from % 64 + j < 64) → inSet set x ≡ true
+    go (yes d) =
+        ap (inSet set) (let z : x ≡ from / 64 * 64 + from % 64 + j = omega arith in z)
+        ∙ left-at set (from / 64) (from % 64) rest (omega arith) e j d ∙ on
+    go (no d) =
+        absurd (true-false on (ap (λ (z : ℕ). has z j) e ∙ has-shift (getD set (from / 64) 0) (from % 64) j ∙ has-high 64 (getD set (from / 64) 0) (from % 64 + j) f (omega (arith, d))))
 
 pub next-word : (set : List ℕ) (w n : ℕ) → n ≡ getD set w 0 → n < word → w < 8 → (n ≡ 0 → ⊥) → Next set (w * 64) (w * 64 + trailingZeros 64 n)
 next-word set w n e f l d =

@@ -4,7 +4,7 @@ use mathlib.Core.Path.{_≡_, refl}
 use mathlib.Core.List.{List, [], _∷_, List·Memᴰ, List·Memᴰ·head, List·Memᴰ·tail}
 use mathlib.Core.Option.{Option, some}
 use mathlib.Core.Option.{none as nowhere}
-use Prim.Native.Nat.{ℕ, zero, suc, _-_, _≤_, _<_}
+use Prim.Native.Nat.{ℕ, zero, suc, _+_, _-_, _≤_, _<_}
 use native.Mathlib.Nat.{le-of-eq}
 use native.Mathlib.Omega.{arith}
 use lib.Dec.{T}
@@ -36,3 +36,7 @@ roles-rise s b g h j k l m e = go (k - j) refl
     go : (d : ℕ) → k - j ≡ d → roleNo g j ≤ roleNo g k
     go zero q = let z : j ≡ k = omega arith in rw z (le-of-eq refl)
     go (suc d) q = below-at (length (g .names)) nowhere (g .links) j k (image-fits s g b h .0 .rising) (omega arith) m .role-le e
+
+-- the link before the next one
+pub one-on : (g : Register) (k role : ℕ) → roleNo g k < role → roleNo g (k + 1 - 1) < role
+one-on g k role h = let z : k + 1 - 1 ≡ k = omega arith in rw z h

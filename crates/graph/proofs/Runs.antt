@@ -14,7 +14,7 @@ use Rattle.meaning.specs.Refusal.{good}
 use Rattle.meaning.specs.Register.{Link, Register, targets, readBuffer}
 use Rattle.register.specs.Image.{noLink, Begins}
 use Rattle.register.proofs.Targets.{targets-before, targets-behind, targets-step}
-use Rattle.graph.specs.Judged.{Judged, startNo, endNo, roleNo, valuesFrom, spanned, Runs, Lower, Higher}
+use Rattle.graph.specs.Judged.{Judged, startNo, endNo, roleNo, valuesFrom, spanned, Runs, Opens, Parted}
 use Rattle.graph.proofs.Rising.{roles-rise}
 
 module _ (ls : List Link) (i r : ℕ) where
@@ -85,33 +85,37 @@ index-rises ls item b e v w = go (b - e) refl
         let l = v .within in
         absurd (let y = v .before e (omega arith) in let z = w .behind e (omega arith) (omega arith) in omega arith)
 
-pub run-found : (s : List ℕ) → Bytes s → (items : ℕ) (index : List ℕ) (j : Judged s items index) (item role b e first end : ℕ) → item < items
-    → b ≡ getD index item 0 → e ≡ getD index (item + 1) 0 → Lower (j .register) role b e first → Higher (j .register) role first e end
-    → Runs (j .register) item role first end
-run-found s bs items index j item role b e first end l eb ee lo hi =
+pub opens-found : (s : List ℕ) → Bytes s → (items : ℕ) (index : List ℕ) (j : Judged s items index) (item role b e first : ℕ) → item < items
+    → b ≡ getD index item 0 → e ≡ getD index (item + 1) 0 → Parted (j .register) role b e first → Opens (j .register) item role first e
+opens-found s bs items index j item role b e first l eb ee lo =
     let g = j .register in
     let ls = g .links in
     let v : Begins ls item b = subst (λ (z : ℕ). Begins ls item z) (sym eb) (j .indexed item (omega arith)) in
     let w : Begins ls (item + 1) e = subst (λ (z : ℕ). Begins ls (item + 1) z) (sym ee) (j .indexed (item + 1) (omega arith)) in
-    let own : (k : ℕ) → b ≤ k → k < e → startNo g k ≡ item =
-    λ k p q. let y = w .before k q in let z = v .behind k p (let t = w .within in omega arith) in omega arith in
-    let rise : (x y : ℕ) → b ≤ x → x ≤ y → y < e → roleNo g x ≤ roleNo g y =
-    λ x y p q o. roles-rise s bs g (j .read) x y q (let t = w .within in omega arith) (own x p (omega arith) ∙ sym (own y (omega arith) o)) in
-    let p = lo .behind in
-    let q = lo .within in
-    let o = hi .behind in
-    let u = hi .within in
     let t = w .within in
-    let same : (k : ℕ) → first ≤ k → k < end → roleNo g k ≡ role =
-    λ k x y. let c = lo .here (omega arith) in let d = hi .here (omega arith) in
-    let m = rise first k (omega arith) x (omega arith) in let n = rise k (end - 1) (omega arith) (omega arith) (omega arith) in omega arith in
+    let own : (k : ℕ) → b ≤ k → k < e → startNo g k ≡ item =
+    λ k p q. let y = w .before k q in let z = v .behind k p (omega arith) in omega arith in
+    let rise : (x y : ℕ) → b ≤ x → x ≤ y → y < e → roleNo g x ≤ roleNo g y =
+    λ x y p q o. roles-rise s bs g (j .read) x y q (omega arith) (own x p (omega arith) ∙ sym (own y (omega arith) o)) in
+    let p = lo .behind in
     record {
-      next = cut ls item role b first end e v w p o u
-          (λ k x y z. let m = lo .lower k x y in omega (arith, z)) (λ k x y z. let m = hi .higher k x y in omega (arith, z))
-          (λ k x y. rw (own k (omega arith) (omega arith), same k x y, eq-eqb item item refl, eq-eqb role role refl));
-      own = λ k x y. own k (omega arith) (omega arith);
-      order = o;
-      within = omega arith;
+      order = lo .within;
+      within = t;
+      run = λ end hi.
+          let o = hi .behind in
+          let u = hi .within in
+          let same : (k : ℕ) → first ≤ k → k < end → roleNo g k ≡ role =
+          λ k x y. let c = lo .here (omega arith) in let d = hi .before (omega arith) in
+          let m = rise first k p x (omega arith) in let n = rise k (end - 1) (omega arith) (omega arith) (omega arith) in omega arith in
+          record {
+            next = cut ls item role b first end e v w p o u
+                (λ k x y z. let c = lo .before (omega arith) in let m = rise k (first - 1) x (omega arith) (omega arith) in omega (arith, z))
+                (λ k x y z. let c = hi .here (omega arith) in let m = rise end k (omega arith) x y in omega (arith, z))
+                (λ k x y. rw (own k (omega arith) (omega arith), same k x y, eq-eqb item item refl, eq-eqb role role refl));
+            own = λ k x y. own k (omega arith) (omega arith);
+            order = o;
+            within = omega arith;
+          };
     }
 
 -- the links of an item lie within all links

@@ -47,19 +47,18 @@ pub record Runs (g : Register) (item role first end : ℕ) : Type 0 where
 abbrev pub roleNo : Register → ℕ → ℕ
 roleNo g k = linkNo g k .role
 
--- of the links from `first` up to `end`, those before r are of lower roles, and the one at r is not
-pub record Lower (g : Register) (role first end r : ℕ) : Type 0 where
+-- of the links from `first` up to `end`, the one before r is of a lower role, and the one at r is not
+pub record Parted (g : Register) (role first end r : ℕ) : Type 0 where
   pub behind : first ≤ r
   pub within : r ≤ end
-  pub lower : (k : ℕ) → first ≤ k → k < r → roleNo g k < role
+  pub before : first < r → roleNo g (r - 1) < role
   pub here : r < end → role ≤ roleNo g r
 
--- those from r on are of higher roles, and the one before r is not
-pub record Higher (g : Register) (role first end r : ℕ) : Type 0 where
-  pub behind : first ≤ r
-  pub within : r ≤ end
-  pub higher : (k : ℕ) → r ≤ k → k < end → role < roleNo g k
-  pub here : first < r → roleNo g (r - 1) ≤ role
+-- the links of an item from `first` on, where its successors under a role begin, up to its last; they end where those of no higher role do
+pub record Opens (g : Register) (item role first stop : ℕ) : Type 0 where
+  pub order : first ≤ stop
+  pub within : stop ≤ length (g .links)
+  pub run : (end : ℕ) → Parted g (role + 1) first stop end → Runs g item role first end
 
 -- ---- how the index is filled
 

@@ -41,8 +41,8 @@ pub record Spread (G : Graph ℕ) (items : ℕ) (set : List ℕ) (role : ℕ) (b
   pub closed : Closed G set role below
   pub among : Among items below
 
--- a set that has grown: by the values of f from `first` up to `end`, and by items alone
-pub record Gathered (f : ℕ → ℕ) (first end items : ℕ) (old new : List ℕ) : Type 0 where
+-- a set that has grown: by all of a list, and by items alone
+pub record Gathered (ys : List ℕ) (items : ℕ) (old new : List ℕ) : Type 0 where
   pub kept : (y : ℕ) → inSet old y ≡ true → inSet new y ≡ true
-  pub got : (k : ℕ) → first ≤ k → k < end → inSet new (f k) ≡ true
+  pub got : (y : ℕ) → List·Memᴰ y ys → inSet new y ≡ true
   pub among : Among items new

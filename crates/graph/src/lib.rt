@@ -4,10 +4,9 @@ pub mod sets; // sets.rt: sets of up to 512 items
 ghost use mathlib.Core.Path.{_≡_};
 ghost use Prim.Native.Nat.{ℕ, _+_, _≤_, _<_, max};
 ghost use lib.ListN.{length, getD};
-ghost use Rattle.meaning.specs.Bounds.{mostItems};
 ghost use Rattle.meaning.specs.Register.{judged};
 ghost use Rattle.register.specs.Image.{Asked, OfSize, Image};
-ghost use Rattle.graph.specs.Judged.{Judged, endNo, Runs, Lower, Higher, Ends, Risen};
+ghost use Rattle.graph.specs.Judged.{Judged, endNo, Runs, Opens, Parted, Ends, Risen};
 ghost use Rattle.graph.specs.Sets.{Among, Spread, Gathered};
 
 // A run of links: from `first` up to `end`.
@@ -80,16 +79,28 @@ fn greater(a: u16, b: u16) -> u16
     a
 }
 
-// The successors of an item under a role, as a run of links: an item's links stand in the order of their roles.
+// The links of an item from the first on whose role is not lower: an item's links stand in the order of their roles, so those of the role
+// itself come first.
+pub fn from_role(s: &[u8], items: usize, index: &[u16], item: usize, role: usize) -> Span
+    requires { ⌜ Judged (now s) items (now index) ⌝ }
+    requires { ⌜ item < items ⌝ }
+    ensures { λ r. ⌜ ((j : Judged (now (s .entry)) items (now (index .entry))) → Opens (j .register) item role (r .first) (r .end)) ⌝ }
+{
+    let begin = fields::pair(index[item]);
+    let end = fields::pair(index[item + 1]);
+    let first = skip_lower(s, items, role, begin, end);
+    Span { first, end }
+}
+
+// The successors of an item under a role, as a run of links.
 pub fn run(s: &[u8], items: usize, index: &[u16], item: usize, role: usize) -> Span
     requires { ⌜ Judged (now s) items (now index) ⌝ }
     requires { ⌜ item < items ⌝ }
     ensures { λ r. ⌜ ((j : Judged (now (s .entry)) items (now (index .entry))) → Runs (j .register) item role (r .first) (r .end)) ⌝ }
 {
-    let begin = fields::pair(index[item]);
-    let stop = fields::pair(index[item + 1]);
-    let first = skip_lower(s, items, role, begin, stop);
-    let end = skip_higher(s, items, role, first, stop);
+    let r = from_role(s, items, index, item, role);
+    let first = r.first;
+    let end = skip_higher(s, items, role, first, r.end);
     Span { first, end }
 }
 
@@ -97,7 +108,7 @@ pub fn run(s: &[u8], items: usize, index: &[u16], item: usize, role: usize) -> S
 fn skip_lower(s: &[u8], items: usize, role: usize, first: usize, end: usize) -> usize
     requires { ⌜ Asked (now s) (λ g. (items ≡ length (g .names)) × (end ≤ length (g .links))) ⌝ }
     requires { ⌜ first ≤ end ⌝ }
-    ensures { λ r. ⌜ Image (now (s .entry)) (λ g. Lower g role first end r) ⌝ }
+    ensures { λ r. ⌜ Image (now (s .entry)) (λ g. Parted g role first end r) ⌝ }
 {
     let mut k = first;
     while k < end {
@@ -113,7 +124,7 @@ fn skip_lower(s: &[u8], items: usize, role: usize, first: usize, end: usize) -> 
 fn skip_higher(s: &[u8], items: usize, role: usize, first: usize, end: usize) -> usize
     requires { ⌜ Asked (now s) (λ g. (items ≡ length (g .names)) × (end ≤ length (g .links))) ⌝ }
     requires { ⌜ first ≤ end ⌝ }
-    ensures { λ r. ⌜ Image (now (s .entry)) (λ g. Higher g role first end r) ⌝ }
+    ensures { λ r. ⌜ Image (now (s .entry)) (λ g. Parted g (role + 1) first end r) ⌝ }
 {
     let mut e = end;
     while first < e {
@@ -125,7 +136,8 @@ fn skip_higher(s: &[u8], items: usize, role: usize, first: usize, end: usize) ->
     e
 }
 
-// Puts every successor under a role of the items of a set into another.
+// Puts every successor under a role of the items of a set into another. Once all items are in that one, there is nothing left to put in: up to
+// `full` they are.
 pub fn spread(s: &[u8], items: usize, index: &[u16], set: &[u64], role: usize, below: &mut [u64])
     requires { ⌜ Judged (now s) items (now index) ⌝ }
     requires { ⌜ (length (now set) ≡ 8) × Among items (now set) ⌝ }
@@ -133,23 +145,33 @@ pub fn spread(s: &[u8], items: usize, index: &[u16], set: &[u64], role: usize, b
     ensures { λ _. ⌜ ((j : Judged (now (s .entry)) items (now (index .entry)))
         → Spread (judged (j .register)) items (now (set .entry)) role (now (below .exit))) ⌝ }
 {
+    let mut full = 0;
     let mut x = sets::next_in(set, 0);
     while x < meaning::MOST_ITEMS {
-        let r = run(s, items, index, x, role);
-        gather(s, items, r.first, r.end, below);
+        if items <= full {
+            return;
+        }
+        gather(s, items, index, x, role, below);
+        full = sets::full_from(below, full);
         x = sets::next_in(set, x + 1);
     }
 }
 
-// Puts the ends of some links into a set.
-fn gather(s: &[u8], items: usize, first: usize, end: usize, set: &mut [u64])
-    requires { ⌜ Asked (now s) (λ g. (items ≡ length (g .names)) × (end ≤ length (g .links))) ⌝ }
-    requires { ⌜ (length (now set) ≡ 8) × (items ≤ mostItems) × Among items (now set) ⌝ }
-    ensures { λ _. ⌜ Image (now (s .entry)) (λ g. Gathered (endNo g) first end items (now (set .entry)) (now (set .exit))) ⌝ }
+// Puts the successors of an item under a role into a set.
+fn gather(s: &[u8], items: usize, index: &[u16], item: usize, role: usize, set: &mut [u64])
+    requires { ⌜ Judged (now s) items (now index) ⌝ }
+    requires { ⌜ (item < items) × (length (now set) ≡ 8) × Among items (now set) ⌝ }
+    ensures { λ _. ⌜ ((j : Judged (now (s .entry)) items (now (index .entry)))
+        → Gathered (judged (j .register) .next item role) items (now (set .entry)) (now (set .exit))) ⌝ }
 {
-    let mut k = first;
+    let r = from_role(s, items, index, item, role);
+    let end = r.end;
+    let mut k = r.first;
     while k < end {
-        sets::add(set, end_of(s, items, k));
+        if role < register::role_of(s, items, k) {
+            return;
+        }
+        sets::include(set, end_of(s, items, k));
         k += 1;
     }
 }

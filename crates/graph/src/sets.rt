@@ -2,7 +2,7 @@
 use fields::bits;
 ghost use mathlib.Core.Path.{_≡_};
 ghost use mathlib.Core.Bool.{true};
-ghost use Prim.Native.Nat.{_*_, _≤_, _<_};
+ghost use Prim.Native.Nat.{ℕ, _*_, _≤_, _<_};
 ghost use lib.ListN.{length};
 ghost use Rattle.meaning.specs.Bounds.{mostItems};
 ghost use Rattle.graph.specs.Sets.{inSet, Next, With, Without};
@@ -22,17 +22,6 @@ pub fn include(set: &mut [u64], x: usize)
 {
     let w = x / 64;
     set[w] = set[w] | (1u64 << (x % 64));
-}
-
-// The same, where the item is often there already: a number that is not written can be read again at once.
-pub fn add(set: &mut [u64], x: usize)
-    requires { ⌜ (length (now set) ≡ 8) × (x < mostItems) ⌝ }
-    ensures { λ _. ⌜ With (now (set .entry)) x (now (set .exit)) ⌝ }
-{
-    if contains(set, x) {
-        return;
-    }
-    include(set, x);
 }
 
 // Takes an item out of a set that has it.
@@ -74,4 +63,13 @@ fn next_word(set: &[u64], w: usize) -> usize
         i += 1;
     }
     meaning::MOST_ITEMS
+}
+
+// How far a set has all items from `from` on, as far as one of its numbers tells.
+pub fn full_from(set: &[u64], from: usize) -> usize
+    requires { ⌜ (length (now set) ≡ 8) × (from < mostItems) ⌝ }
+    ensures { λ r. ⌜ ((x : ℕ) → from ≤ x → x < r → inSet (now (set .entry)) x ≡ true) ⌝ }
+{
+    let rest = set[from / 64] >> (from % 64);
+    from + u64::trailing_zeros(18446744073709551615 - rest) as usize
 }

@@ -45,9 +45,9 @@ fold-spec =
     (λ c κs.
     let turn = c .before .before .before in
     let start = turn .before .before .before .before .before .before .before in (
-      asked-links (start .pre .0 .graph) (c .before .run .ensures (start .pre .0 .graph) .within),
+      asked-links (start .pre .0 .graph) (c .before .from-role .ensures (start .pre .0 .graph) .within),
       (
-        c .before .run .ensures (start .pre .0 .graph) .order,
+        c .before .from-role .ensures (start .pre .0 .graph) .order,
         start .pre .0 .graph .most,
         omega (arith, turn .loop .inv .3, start .pre .0 .from-fits),
       ),
@@ -66,14 +66,15 @@ fold-spec =
     let start = turn .before .before .before .before .before .before .before in
     omega (arith, start .pre .0 .to-fits, start .pre .0 .short, at-loop-test .loop-test .taken, turn .loop .inv .3))
     (λ c κs.
-    let at-run = c .before .before .before in
-    let at-loop-test = at-run .before in
+    let at-from-role = c .before .before .before in
+    let at-loop-test = at-from-role .before in
     let turn = at-loop-test .before in
     let at-shared-slice-known = turn .before .before .before .before .before .before in
     let start = at-shared-slice-known .before in
+    let top = c .before .best-of .ensures (start .pre .0 .graph .register) (start .pre .0 .graph .read) in
     sum-fits _ _ _ _ _ _ _ (turn .loop .inv .4 (start .pre .0 .graph) .filled .ahead _ (le-refl _)) (step-value (start .pre .0 .graph) _ _ _ _ _ _ _ _ _ (bytes-known
     (start .args .s .now) (at-shared-slice-known .shared-slice-known .given)) _ _ _ (turn .loop .inv .4 (start .pre .0 .graph)) (start .pre .0 .apart) _ _ _
-    (at-run .run .ensures (start .pre .0 .graph)) (c .before .best-of .ensures (start .pre .0 .graph .register) (start .pre .0 .graph .read))) (start .pre .0 .fits
+    (at-from-role .from-role .ensures (start .pre .0 .graph) .run _ (top .0)) (top .1)) (start .pre .0 .fits
     _ (turn .loop .inv .1 (at-loop-test .loop-test .taken))))
     (λ c.
     let at-loop-test = c .before .before .before .before .before in
@@ -101,8 +102,8 @@ fold-spec =
     let at-note = c .before .before .before in
     let at-folded = at-note .before .before in
     let at-best-of = at-folded .before .before in
-    let at-run = at-best-of .before .before in
-    let at-loop-test = at-run .before in
+    let at-from-role = at-best-of .before .before in
+    let at-loop-test = at-from-role .before in
     let turn = at-loop-test .before in
     let at-shared-slice-known = turn .before .before .before .before .before .before in
     let start = at-shared-slice-known .before in (
@@ -110,9 +111,9 @@ fold-spec =
       c .next-in2 .ensures .member,
       at-note .note .kept .0 ∙ turn .loop .inv .2,
       simp length-set (turn .loop .inv .3),
-      λ j. step-more j _
-          _ _ _ _ _ _ _ _ (bytes-known (start .args .s .now) (at-shared-slice-known .shared-slice-known .given)) _ _ _ (turn .loop .inv .4 j) (start .pre .0 .apart) _ _
-          _ (at-run .run .ensures j) (at-best-of .best-of .ensures (j .register) (j .read)) _ _ _ (at-loop-test .loop-test .taken) (start .pre .0 .to-fits) (at-folded .folded .ensures)
+      λ j. let top = at-best-of .best-of .ensures (j .register) (j .read) in
+          step-more j _ _ _ _ _ _ _ _ _ (bytes-known (start .args .s .now) (at-shared-slice-known .shared-slice-known .given)) _ _ _ (turn .loop .inv .4 j) (start .pre .0 .apart) _ _ _
+          (at-from-role .from-role .ensures j .run _ (top .0)) (top .1) _ _ _ (at-loop-test .loop-test .taken) (start .pre .0 .to-fits) (at-folded .folded .ensures)
           (c .next-in2 .ensures .behind) (λ x a b m. true-false m (c .next-in2 .ensures .passed x a b)) (at-note .note .ensures .0) (at-note .note .ensures .1),
     ))
     (λ c. c .before .loop .inv .2)

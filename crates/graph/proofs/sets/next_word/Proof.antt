@@ -17,61 +17,23 @@ abbrev μ-loop : tie.MeasureT-loop
 μ-loop set w i₀ i =
     8 - i
 
-loop-holds : tie.Need-loop-holds Inv-loop μ-loop
-loop-holds c =
-    (omega arith, omega arith, λ x a b. absurd (omega arith))
-
-mul-n : tie.Need-mul-n Inv-loop μ-loop
-mul-n c = search needs
-
-shared-slice-read-n : tie.Need-shared-slice-read-n Inv-loop μ-loop
-shared-slice-read-n c = search needs
-
-mul-result : tie.Need-mul-result Inv-loop μ-loop
-mul-result c = search needs
-
-cast-result : tie.Need-cast-result Inv-loop μ-loop
-cast-result c =
-    omega (arith, next-bound (getD (c .before .before .before .before .args .set .now) (c .before .before .before .loop .i) 0))
-
-add-result : tie.Need-add-result Inv-loop μ-loop
-add-result c =
-    omega (arith, next-bound (getD (c .before .before .before .before .args .set .now) (c .before .before .before .loop .i) 0))
-
-returns : tie.Need-returns Inv-loop μ-loop
-returns c =
-    let at-shared-slice-known = c .before in
-    let at-loop = at-shared-slice-known .before .before in
-    next-from _ _ _ _ (omega arith) (at-loop .loop .inv .2) (next-word _ _ _ refl (at-shared-slice-known .shared-slice-known .given (at-loop .loop .i) .fits) (omega arith) (c .if1 .taken))
-
-add-i : tie.Need-add-i Inv-loop μ-loop
-add-i c = search needs
-
-loop-less : tie.Need-loop-less Inv-loop μ-loop
-loop-less c = search needs
-
-loop-again : tie.Need-loop-again Inv-loop μ-loop
-loop-again c =
-    (omega arith, omega arith, none-word (c .before .before .before .before .args .set .now) _ _ (c .before .before .before .loop .inv .2) (c .if1 .left))
-
-returns-2 : tie.Need-returns-2 Inv-loop μ-loop
-returns-2 c =
-    next-from _ _ _ _ (omega arith) (λ x a b. c .before .loop .inv .2 x a (omega arith)) (next-end _ _ refl)
-
 pub next-word-spec : {M : Type 1} → statement M
 next-word-spec =
     tie.close
     (tie.spec
     Inv-loop
     μ-loop
-    loop-holds
-    mul-n
-    shared-slice-read-n
-    mul-result
-    cast-result
-    add-result
-    returns
-    add-i
-    loop-less
-    loop-again
-    returns-2)
+    (λ c. (omega arith, omega arith, λ x a b. absurd (omega arith)))
+    (λ c. search needs)
+    (λ c. search needs)
+    (λ c. search needs)
+    (λ c. omega (arith, next-bound (getD (c .before .before .before .before .args .set .now) (c .before .before .before .loop .i) 0)))
+    (λ c. omega (arith, next-bound (getD (c .before .before .before .before .args .set .now) (c .before .before .before .loop .i) 0)))
+    (λ c.
+    let at-shared-slice-known = c .before in
+    let at-loop = at-shared-slice-known .before .before in
+    next-from _ _ _ _ (omega arith) (at-loop .loop .inv .2) (next-word _ _ _ refl (at-shared-slice-known .shared-slice-known .given (at-loop .loop .i) .fits) (omega arith) (c .if1 .taken)))
+    (λ c. search needs)
+    (λ c. search needs)
+    (λ c. (omega arith, omega arith, none-word (c .before .before .before .before .args .set .now) _ _ (c .before .before .before .loop .inv .2) (c .if1 .left)))
+    (λ c. next-from _ _ _ _ (omega arith) (λ x a b. c .before .loop .inv .2 x a (omega arith)) (next-end _ _ refl)))
