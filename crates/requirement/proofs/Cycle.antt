@@ -19,19 +19,19 @@ use Rattle.meaning.specs.Rows.{Holds}
 use Rattle.meaning.specs.Reduce.{reduce, size}
 use Rattle.requirement.specs.declared.Reached.{Reached}
 use Rattle.requirement.specs.declared.Reached.the-variants.{Good, Refused}
-use Rattle.requirement.specs.declared.fixed.NodeFields.the-variants.{Refused as RefusedNode}
-use Rattle.requirement.specs.declared.fixed.EdgeFields.the-variants.{Refused as RefusedEdge}
-use Rattle.requirement.specs.declared.fixed.ThresholdFields.the-variants.{Refused as RefusedThreshold}
+use Rattle.fixed.specs.declared.NodeFields.the-variants.{Refused as RefusedNode}
+use Rattle.fixed.specs.declared.EdgeFields.the-variants.{Refused as RefusedEdge}
+use Rattle.fixed.specs.declared.ThresholdFields.the-variants.{Refused as RefusedThreshold}
 use Rattle.rows.specs.Packed.{namesIn, rolesIn, endsIn}
 use Rattle.requirement.specs.Reading.{spot, Start, PartsHeld, RowsKept, refusalOf, nodeIn, childrenIn, ReadGood, Outcome}
 use Rattle.requirement.specs.Reading.{NodeHeld, NodeDone, ForestHeld, ChildrenDone, PartsGood, PartsOutcome, ThresholdsDone, ThresholdDone, InnerOutcome, InnerDone}
-use Rattle.requirement.specs.Fixed.{NodeOpen, NodeFixed, EdgeOpen, EdgeFixed, ThresholdOpen, ThresholdFixed}
+use Rattle.fixed.specs.Fixed.{NodeOpen, NodeFixed, EdgeOpen, EdgeFixed, ThresholdOpen, ThresholdFixed}
 use Rattle.reduction.specs.Held.{Held, ForTree}
 use Rattle.requirement.proofs.Outcomes.{outcome-refused, outcome-good, is-refused, is-good, parts-refused, parts-good, parts-is-refused, parts-is-good}
 use Rattle.requirement.proofs.Places.{set-above, kept-trans, no-parts, parts-below, parts-more, some-parts}
 use Rattle.requirement.proofs.Holding.{tree-ends, forest-held, node-held, node-kept}
-use Rattle.requirement.proofs.Nodes.{node-thresholds, node-children, node-good, children-none, child-refused, rest-refused, rest-good}
-use Rattle.requirement.proofs.Thresholds.{thresholds-none, first-refused, others-refused, others-good, threshold-good, threshold-inner, inner-refused, inner-left, inner-large, inner-good}
+use Rattle.fixed.proofs.Nodes.{node-thresholds, node-children, node-good, children-none, child-refused, rest-refused, rest-good}
+use Rattle.fixed.proofs.Thresholds.{thresholds-none, first-refused, others-refused, others-good, threshold-good, threshold-inner, inner-refused, inner-left, inner-large, inner-good}
 
 -- a spot is its three parts
 same-spot : (v : Spot) (i j : ℕ) → v .next ≡ i → v .nodes ≡ j → v ≡ spot i j (v .parts)

@@ -1,7 +1,5 @@
 pub mod Same
 pub mod Outcomes
-pub mod Nodes
-pub mod Thresholds
 pub mod Places
 pub mod Holding
 pub mod Cycle

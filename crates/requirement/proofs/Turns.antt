@@ -11,7 +11,7 @@ use lib.ListN.{length}
 use Rattle.requirement.specs.declared.Reached.{Reached}
 use Rattle.requirement.specs.declared.Reached.the-variants.{Good}
 use Rattle.requirement.specs.Reading.{Start, NodeDone, ChildrenDone, ThresholdDone, ThresholdsDone}
-use Rattle.requirement.specs.Fixed.{EdgeOpen}
+use Rattle.fixed.specs.Fixed.{EdgeOpen}
 use Rattle.requirement.proofs.Cycle.{child-here, children-then, others-here, thresholds-then}
 
 -- ---- children

@@ -2,37 +2,27 @@
 -- the thresholds of the message so far. After a good read the rows hold the tree; after a refusal they may hold anything.
 -- Assumes nothing.
 use mathlib.Core.Path.{_≡_}
-use mathlib.Core.Bool.{Bool, true, false}
+use mathlib.Core.Bool.{Bool}
 use mathlib.Core.List.{List}
 use mathlib.Core.Option.{Option, some}
 use mathlib.Core.Option.{none as nowhere}
 use Prim.Native.Nat.{ℕ, _+_, _≤_, _<_}
-use lib.Dec.{ltb}
 use lib.ListN.{length, getD}
 use Rattle.meaning.specs.declared.Side.the-variants.{Requirement as requirement}
 use Rattle.meaning.specs.declared.Refusal.{Refusal}
-use Rattle.meaning.specs.Refusal.{Answer, good, refused, at, refuseIf, _>>=_, _>>_}
+use Rattle.meaning.specs.Refusal.{Answer, good, refused, at}
 use Rattle.meaning.specs.Tree.{Forest, Concept}
-use Rattle.meaning.specs.Reduce.{reduce, size}
-use Rattle.meaning.specs.Bounds.{mostNodes, mostThresholds, mostSize}
-use Rattle.meaning.specs.Message.{Part, Spot, readChildren, readNode, noThresholds, readInner, readThreshold, readThresholds, withThresholds}
+use Rattle.meaning.specs.Bounds.{mostNodes, mostThresholds}
+use Rattle.meaning.specs.Message.{Part, Spot, readThreshold, readThresholds}
 use Rattle.meaning.specs.Rows.{Holds, HoldsF}
 use Rattle.requirement.specs.declared.Reached.{Reached}
 use Rattle.requirement.specs.declared.Reached.the-variants.{Good, Refused}
+pub use Rattle.fixed.specs.Readers.{spot, Here, nodeIn, childrenIn, wholeInner}
 use Rattle.rows.specs.Packed.{namesIn, rolesIn, endsIn, ownersIn, firstsIn}
 
 -- ---- where a reader starts, and the rows
 
-abbrev pub spot : ℕ → ℕ → List Part → Spot
-spot p n parts = record { next = p; nodes = n; parts = parts }
-
--- the bytes from p up to end are of a message
-pub record Here (s : List ℕ) (end p : ℕ) : Type 0 where
-  pub before : p ≤ end
-  pub inside : end ≤ length s
-  pub short : end ≤ 65538
-
--- and there is room for all rows
+-- a reader starts where bytes of a message stand, and there is room for all rows
 pub record Start (s : List ℕ) (end p n parts : ℕ) (A : List ℕ) : Type 0 where
   pub here : Here s end p
   pub few : n ≤ mostNodes
@@ -71,17 +61,7 @@ pub record Further (end p n : ℕ) (v : Spot) : Type 0 where
   pub few : v .nodes ≤ mostNodes
   pub room : length (v .parts) ≤ mostThresholds
 
--- ---- nodes and children: the names of a node are read alike in a requirement and in an inner concept
-
-abbrev pub labelIn : Bool → List ℕ → ℕ → Spot → Answer (ℕ × Spot)
-labelIn true s end = noThresholds s
-labelIn false s end = λ w. (withThresholds s end w >>= λ x. good (x .0 .names, x .1))
-
-abbrev pub nodeIn : Bool → List ℕ → ℕ → ℕ → Spot → Answer (Concept × Spot)
-nodeIn inner s end left w = readNode (labelIn inner s end) s end left w
-
-abbrev pub childrenIn : Bool → List ℕ → ℕ → ℕ → ℕ → Spot → Answer (Forest ℕ × Spot)
-childrenIn inner s end left k w = readChildren (labelIn inner s end) s end (λ z. nodeIn inner s end left z) k w
+-- ---- nodes and children
 
 -- what was read, of which `Held` says how the rows hold it
 pub record ReadGood {X : Type 0} (Held : X → ℕ → Type 0) (end p n : ℕ) (A B : List ℕ) (x : X) (v : Spot) (r : Reached) : Type 0 where
@@ -136,13 +116,7 @@ abbrev pub ThresholdDone : List ℕ → ℕ → ℕ → ℕ → ℕ → List ℕ
 ThresholdDone s end owner p parts A B r =
     (n : ℕ) (ps : List Part) → length ps ≡ parts → PartsHeld A ps → PartsOutcome end (p + 7) n A B (readThreshold s end owner (spot p n ps)) r
 
--- an inner concept with what is tested after it: 8, 14
-unfoldable pub wholeInner : List ℕ → ℕ → ℕ → Answer (Concept × Spot)
-wholeInner s stop p = do
-  (t, v) ← readInner s stop p
-  refuseIf (ltb (v .next) stop) (at requirement 8 (v .next))
-  refuseIf (ltb mostSize (size (reduce t))) (at requirement 14 p)
-  good (t, v)
+-- ---- an inner concept
 
 abbrev pub InnerOutcome : Answer (Concept × Spot) → Reached → Type 0
 InnerOutcome (good x) r = r ≡ Good (x .1 .next) (x .1 .nodes) (length (x .1 .parts))

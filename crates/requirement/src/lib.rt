@@ -1,8 +1,6 @@
 // Reading a requirement message: its nodes in reading order, and its thresholds, into lent numbers (the crate `rows` says what stands where).
 // The readers of node, thresholds and children call each other in a cycle, and the bytes left fall at each turn. What stands side by side, children
 // and thresholds, is read in a loop, so that the stack grows with the depth alone.
-pub mod fixed; // fixed.rt: the fixed fields of a node, an edge and a threshold, with their tests
-
 use fields::Head;
 use fixed::EdgeFields;
 use fixed::NodeFields;

@@ -18,9 +18,9 @@ use Rattle.requirement.proofs.+read_children+read_inner+read_node+read_
 use Rattle.requirement.proofs.read_thresholds.Reads as read-thresholds
 use Rattle.requirement.proofs.read_thresholds.Kinds as read-thresholds-kinds
 use Rattle.requirement.proofs.+read_children+read_inner+read_node+read_threshold+read_thresholds.Lts-read_thresholds as read-thresholds-lts
-use Rattle.requirement.proofs.fixed.edge.Reads as edge-reads
-use Rattle.requirement.proofs.fixed.node.Reads as node-reads
-use Rattle.requirement.proofs.fixed.threshold.Reads as threshold-reads
+use Rattle.fixed.proofs.edge.Reads as edge-reads
+use Rattle.fixed.proofs.node.Reads as node-reads
+use Rattle.fixed.proofs.threshold.Reads as threshold-reads
 use Rattle.rows.proofs.packed.Reads as packed-reads
 use Rattle.requirement.proofs.size_in.Reads as size-in-reads
 use Rattle.requirement.proofs.+read_children+read_inner+read_node+read_threshold+read_thresholds.{statement}
@@ -29,7 +29,7 @@ use mathlib.Core.Path.{subst}
 use Prim.Native.Nat.{_+_, _*_, _-_, _≤_}
 use native.Mathlib.Omega.{arith}
 use lib.ListN.{length-set}
-use Rattle.requirement.specs.Fixed.{NodeFixed, EdgeFixed, ThresholdFixed}
+use Rattle.fixed.specs.Fixed.{NodeFixed, EdgeFixed, ThresholdFixed}
 use Rattle.requirement.proofs.Turns.{Children, child-read, children-begun, Thresholds, threshold-read, thresholds-begun}
 use Rattle.requirement.proofs.Cycle.{children-empty, edge-stops, child-stops, fixed-stops, node-stops, children-here, children-stop}
 use Rattle.requirement.proofs.Cycle.{children-end, node-then, thresholds-empty, first-stops, fields-stop, inner-stops, threshold-then}

@@ -1,8 +1,8 @@
--- `requirement::fixed::node` meets its contract: 1, 9, 10, 11 as the reader of a node gives them, and what stands there where none is given.
+-- `fixed::node` meets its contract: 1, 9, 10, 11 as the reader of a node gives them, and what stands there where none is given.
 -- Assumes nothing.
 use borrow.Author.Needs.{needs}
-use Rattle.requirement.proofs.fixed.node.Statement.{statement}
-use Rattle.requirement.proofs.fixed.node.Tie as tie
+use Rattle.fixed.proofs.node.Statement.{statement}
+use Rattle.fixed.proofs.node.Tie as tie
 use mathlib.Core.Path.{_≡_, sym, ap, _∙_}
 use mathlib.Core.Bool.{_&&_}
 use Prim.Native.Nat.{ℕ, _+_, _-_, _≤_, _<_}
@@ -10,7 +10,7 @@ use native.Mathlib.Omega.{arith}
 use lib.Dec.{ltb}
 use Rattle.meaning.specs.declared.Side.the-variants.{Requirement as requirement}
 use Rattle.meaning.specs.Refusal.{refused, at}
-use Rattle.requirement.proofs.Nodes.{node-cut-end, node-deep, node-many, node-forbidden}
+use Rattle.fixed.proofs.Nodes.{node-cut-end, node-deep, node-many, node-forbidden}
 
 sub-if1 : tie.Need-sub-if1
 sub-if1 c = search needs

@@ -1,8 +1,8 @@
--- `requirement::fixed::threshold` meets its contract: 12, 1, 13, 1 as the reader of a threshold gives them, and where its inner concept ends.
+-- `fixed::threshold` meets its contract: 12, 1, 13, 1 as the reader of a threshold gives them, and where its inner concept ends.
 -- Assumes nothing.
 use borrow.Author.Needs.{needs}
-use Rattle.requirement.proofs.fixed.threshold.Statement.{statement}
-use Rattle.requirement.proofs.fixed.threshold.Tie as tie
+use Rattle.fixed.proofs.threshold.Statement.{statement}
+use Rattle.fixed.proofs.threshold.Tie as tie
 use mathlib.Core.Path.{_≡_, sym, ap, _∙_}
 use mathlib.Core.Bool.{true, false}
 use Prim.Native.Nat.{ℕ, _+_, _-_, _≤_, _<_}
@@ -10,8 +10,8 @@ use native.Mathlib.Omega.{arith}
 use Rattle.meaning.specs.declared.Side.the-variants.{Requirement as requirement}
 use Rattle.meaning.specs.Refusal.{refused, at}
 use Rattle.meaning.specs.Bytes.{number}
-use Rattle.requirement.specs.Fixed.{lawfulAt}
-use Rattle.requirement.proofs.Thresholds.{threshold-many, threshold-cut-end, threshold-rule, threshold-length-cut, threshold-past, rule-kept, rule-broken, rule-above}
+use Rattle.fixed.specs.Fixed.{lawfulAt}
+use Rattle.fixed.proofs.Thresholds.{threshold-many, threshold-cut-end, threshold-rule, threshold-length-cut, threshold-past, rule-kept, rule-broken, rule-above}
 
 returns : tie.Need-returns
 returns c =

@@ -11,13 +11,13 @@ use Rattle.meaning.specs.Refusal.{refused, at}
 use Rattle.meaning.specs.Bytes.{number}
 use Rattle.meaning.specs.Bounds.{mostRole, mostNodes, mostThresholds}
 use Rattle.meaning.specs.Message.{Part, lawful, readThreshold}
-use Rattle.requirement.specs.declared.fixed.NodeFields.{NodeFields}
-use Rattle.requirement.specs.declared.fixed.NodeFields.the-variants.{Good as GoodNode, Refused as RefusedNode}
-use Rattle.requirement.specs.declared.fixed.EdgeFields.{EdgeFields}
-use Rattle.requirement.specs.declared.fixed.EdgeFields.the-variants.{Good as GoodEdge, Refused as RefusedEdge}
-use Rattle.requirement.specs.declared.fixed.ThresholdFields.{ThresholdFields}
-use Rattle.requirement.specs.declared.fixed.ThresholdFields.the-variants.{Good as GoodThreshold, Refused as RefusedThreshold}
-use Rattle.requirement.specs.Reading.{spot, nodeIn, childrenIn}
+use Rattle.fixed.specs.declared.NodeFields.{NodeFields}
+use Rattle.fixed.specs.declared.NodeFields.the-variants.{Good as GoodNode, Refused as RefusedNode}
+use Rattle.fixed.specs.declared.EdgeFields.{EdgeFields}
+use Rattle.fixed.specs.declared.EdgeFields.the-variants.{Good as GoodEdge, Refused as RefusedEdge}
+use Rattle.fixed.specs.declared.ThresholdFields.{ThresholdFields}
+use Rattle.fixed.specs.declared.ThresholdFields.the-variants.{Good as GoodThreshold, Refused as RefusedThreshold}
+use Rattle.fixed.specs.Readers.{spot, nodeIn, childrenIn}
 
 -- the first field that does not fit whole, where only so many bytes stand before the end
 abbrev pub nodeCut : ℕ → ℕ → ℕ

@@ -1,6 +1,6 @@
 use borrow.Author.Needs.{needs}
-use Rattle.requirement.proofs.fixed.node_cut.Statement.{statement}
-use Rattle.requirement.proofs.fixed.node_cut.Tie as tie
+use Rattle.fixed.proofs.node_cut.Statement.{statement}
+use Rattle.fixed.proofs.node_cut.Tie as tie
 use mathlib.Core.Path.{refl}
 use Prim.Native.Nat.{_≤_, _<_}
 use native.Mathlib.Omega.{arith}

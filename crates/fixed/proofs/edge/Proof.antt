@@ -1,12 +1,12 @@
--- `requirement::fixed::edge` meets its contract: 1 and 7 as the readers of children give them.
+-- `fixed::edge` meets its contract: 1 and 7 as the readers of children give them.
 -- Assumes nothing.
 use borrow.Author.Needs.{needs}
-use Rattle.requirement.proofs.fixed.edge.Statement.{statement}
-use Rattle.requirement.proofs.fixed.edge.Tie as tie
+use Rattle.fixed.proofs.edge.Statement.{statement}
+use Rattle.fixed.proofs.edge.Tie as tie
 use Prim.Native.Nat.{_+_, _≤_, _<_}
 use native.Mathlib.Omega.{arith}
 use Rattle.meaning.specs.Bytes.{number}
-use Rattle.requirement.proofs.Nodes.{children-cut, children-role}
+use Rattle.fixed.proofs.Nodes.{children-cut, children-role}
 
 sub-if1 : tie.Need-sub-if1
 sub-if1 c = search needs
