@@ -1,10 +1,10 @@
 use borrow.Author.Needs.{needs}
 use Rattle.register.proofs.read_links.Statement.{statement}
 use Rattle.register.proofs.read_links.Tie as tie
-use mathlib.Core.Path.{sym, _∙_, ap}
+use mathlib.Core.Path.{refl, sym, _∙_, ap}
 use native.Mathlib.Omega.{arith}
 use Rattle.register.specs.Reading.{paperReading}
-use Rattle.register.proofs.Links.{links-left, links-done}
+use Rattle.register.proofs.Behind.{links-left, links-done}
 
 quick-links-requires : tie.Need-quick-links-requires
 quick-links-requires c κs = search needs
@@ -29,12 +29,12 @@ returns c =
     let c5 = c .before .before .before .before .before in
     let a = c5 .args in
     ap paperReading (c .refused .ensures)
-    ∙ sym (links-left (a .s .now) (a .end) (a .items) (a .links) (a .start) (c .before .before .before .quick-links .ensures (c .before .before .if1 .taken)) (omega arith))
+    ∙ sym (links-left (a .s .now) (a .end) (a .items) (a .links) (a .start) (c .before .before .before .quick-links .ensures (c .before .before .if1 .taken)) _ refl (omega arith))
 
 returns-2 : tie.Need-returns-2
 returns-2 c =
     let a = c .before .before .before .before .args in
-    sym (links-done (a .s .now) (a .end) (a .items) (a .links) (a .start) (c .before .before .quick-links .ensures (c .before .if1 .taken)) (omega arith))
+    sym (links-done (a .s .now) (a .end) (a .items) (a .links) (a .start) (c .before .before .quick-links .ensures (c .before .if1 .taken)) _ refl (omega arith))
 
 slow-links-requires : tie.Need-slow-links-requires
 slow-links-requires c κs = search needs

@@ -3,8 +3,10 @@ use Rattle.register.proofs.slow_links.Tie as tie
 use mathlib.Core.Path.{_≡_, sym, _∙_, ap, subst}
 use Prim.Native.Nat.{_+_, _*_, _-_, _≤_}
 use native.Mathlib.Omega.{arith}
-use Rattle.register.specs.Reading.{paperReading, paperLink, Passed}
-use Rattle.register.proofs.Links.{Going, going-none, going-more, going-stop, going-left, going-done}
+use Rattle.links.specs.Links.{paperLink, Passed}
+use Rattle.links.proofs.Links.{Going, going-none, going-more, going-stop, all-read}
+use Rattle.register.specs.Reading.{paperReading}
+use Rattle.register.proofs.Behind.{links-stop, links-left, links-done}
 use borrow.Author.Needs.{needs}
 
 abbrev Inv-loop : tie.InvT-loop
@@ -35,7 +37,8 @@ returns : tie.Need-returns Inv-loop μ-loop
 returns c =
     let w = c .before .before .before .before .before .before .loop .inv .3 in
     ap paperReading (c .refused .ensures)
-    ∙ sym (going-stop _ _ _ _ _ _ _ _ w _ _ (omega arith) (ap paperLink (sym (c .before .before .l2 .given .1)) ∙ c .before .before .before .before .read-link .ensures .0 (w .before) (w .floor)))
+    ∙ sym (links-stop _ _ _ _ _ _ (going-stop _ _ _ _ _ _ _ _ w _ _ (omega arith)
+    (ap paperLink (sym (c .before .before .l2 .given .1)) ∙ c .before .before .before .before .read-link .ensures .0 (w .before) (w .floor))))
 
 add-i : tie.Need-add-i Inv-loop μ-loop
 add-i c = search needs
@@ -68,11 +71,13 @@ refused-requires-2 c κs = search needs
 
 returns-2 : tie.Need-returns-2 Inv-loop μ-loop
 returns-2 c =
-    ap paperReading (c .refused2 .ensures) ∙ sym (going-left _ _ _ _ _ _ _ _ (c .before .before .before .loop .inv .3) (omega arith) (c .before .before .before .loop .inv .1) (omega arith))
+    let w = c .before .before .before .loop .inv in
+    ap paperReading (c .refused2 .ensures) ∙ sym (links-left _ _ _ _ _ (all-read _ _ _ _ _ _ _ _ (w .3) (omega arith)) _ (omega arith) (omega arith))
 
 returns-3 : tie.Need-returns-3 Inv-loop μ-loop
 returns-3 c =
-    sym (going-done _ _ _ _ _ _ _ _ (c .before .before .loop .inv .3) (omega arith) (c .before .before .loop .inv .1) (omega arith))
+    let w = c .before .before .loop in
+    sym (links-done _ _ _ _ _ (all-read _ _ _ _ _ _ _ _ (w .inv .3) (omega arith)) (w .at) (omega arith) (omega arith))
 
 pub slow-links-spec : {M : Type 1} → statement M
 slow-links-spec =

@@ -1,14 +1,14 @@
 use borrow.Author.Needs.{needs}
-use Rattle.register.proofs.read_link.Statement.{statement}
-use Rattle.register.proofs.read_link.Tie as tie
+use Rattle.links.proofs.read_link.Statement.{statement}
+use Rattle.links.proofs.read_link.Tie as tie
 use mathlib.Core.Path.{sym, _∙_, ap}
 use Prim.Native.Nat.{ℕ, _+_, _-_, _≤_, _<_}
 use native.Mathlib.Omega.{arith}
 use Rattle.meaning.specs.Bytes.{number}
 use Rattle.meaning.specs.Refusal.{good}
 use Rattle.meaning.specs.Register.{linkAt}
-use Rattle.register.specs.Reading.{key, paperLink}
-use Rattle.register.proofs.OneLink.{link-cut, link-from, link-role, link-to, link-order, link-good}
+use Rattle.links.specs.Links.{key, paperLink}
+use Rattle.links.proofs.OneLink.{link-cut, link-from, link-role, link-to, link-order, link-good}
 
 sub-if1 : tie.Need-sub-if1
 sub-if1 c = search needs

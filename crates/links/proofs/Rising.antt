@@ -12,7 +12,7 @@ use lib.Dec.{T, ltb, leb, eqb, ltb→lt, lt→ltb, leb→le, le→leb, eqb→eq,
 use Rattle.meaning.specs.Register.{Link, rises, above}
 use Rattle.meaning.proofs.Tests.{bool-eq, and-both, both-and, or-cases, or-left, or-right}
 use Rattle.meaning.proofs.Reading.{at-most}
-use Rattle.register.specs.Reading.{key, Small, Floor}
+use Rattle.links.specs.Links.{key, Small, Floor}
 
 module _ (l m : Link) (a : Small l) (b : Small m) where
   abbrev later : Bool

@@ -1,14 +1,14 @@
-use Rattle.register.proofs.quick_links.Statement.{statement}
-use Rattle.register.proofs.quick_links.Tie as tie
+use Rattle.links.proofs.quick_links.Statement.{statement}
+use Rattle.links.proofs.quick_links.Tie as tie
 use mathlib.Core.Path.{_≡_}
 use Prim.Native.Nat.{ℕ, _+_, _*_, _-_, _≤_, _<_}
 use native.Mathlib.Omega.{arith}
 use borrow.Author.Tests.{eqb-true}
 use Rattle.meaning.specs.Register.{linkAt}
 use Rattle.fields.proofs.Known.{bytes-known}
-use Rattle.register.specs.Reading.{key}
-use Rattle.register.proofs.OneLink.{key-parts, link-passed}
-use Rattle.register.proofs.Links.{Going, going-none, going-more, all-read, none-to-read}
+use Rattle.links.specs.Links.{key}
+use Rattle.links.proofs.OneLink.{key-parts, link-passed}
+use Rattle.links.proofs.Links.{Going, going-none, going-more, all-read, none-to-read}
 use borrow.Author.Needs.{needs}
 
 abbrev Inv-loop : tie.InvT-loop

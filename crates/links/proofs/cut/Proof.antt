@@ -1,6 +1,6 @@
 use borrow.Author.Needs.{needs}
-use Rattle.register.proofs.cut.Statement.{statement}
-use Rattle.register.proofs.cut.Tie as tie
+use Rattle.links.proofs.cut.Statement.{statement}
+use Rattle.links.proofs.cut.Tie as tie
 use mathlib.Core.Path.{refl}
 use Prim.Native.Nat.{_≤_, _<_}
 use native.Mathlib.Omega.{arith}

@@ -1,7 +1,7 @@
 use borrow.Author.Needs.{needs}
-use Rattle.register.proofs.key_at.Statement.{statement}
-use Rattle.register.proofs.key_at.Tie as tie
-use Rattle.register.proofs.OneLink.{key-parts}
+use Rattle.links.proofs.key_at.Statement.{statement}
+use Rattle.links.proofs.key_at.Tie as tie
+use Rattle.links.proofs.OneLink.{key-parts}
 
 four-requires : tie.Need-four-requires
 four-requires c κs = search needs

@@ -15,8 +15,8 @@ use Rattle.meaning.specs.Bounds.{mostItems, mostRole}
 use Rattle.meaning.specs.Bytes.{number, fields, Bytes}
 use Rattle.meaning.specs.Register.{Link, linkAt, above, readLink}
 use Rattle.meaning.proofs.Reading.{pass, stop, stopped, halted, took, below, not-below, at-most, not-le, fitted, number-one, number-two}
-use Rattle.register.specs.Reading.{key, Floor, paperLink, keyed, Right, cutAt}
-use Rattle.register.proofs.Rising.{above-floor}
+use Rattle.links.specs.Links.{key, Floor, paperLink, keyed, Right, cutAt}
+use Rattle.links.proofs.Rising.{above-floor}
 
 module _ (s : List ℕ) (end n : ℕ) (before : Option Link) (p : ℕ) where
   abbrev answer : Answer ℕ

@@ -1,19 +1,18 @@
--- Reading link after link: what holds when some are read, and how it ends.
+-- Reading link after link: what holds when some are read, when one is refused, and when all are read.
 -- Assumes nothing.
 use mathlib.Core.Path.{_≡_, refl, sym, ap, _∙_, subst}
 use mathlib.Core.List.{List, [], _∷_}
 use mathlib.Core.Option.{Option, some}
 use mathlib.Core.Option.{none as nowhere}
-use Prim.Native.Nat.{ℕ, suc, _+_, _*_, _-_, _≤_, _<_}
+use Prim.Native.Nat.{ℕ, suc, _+_, _-_, _≤_, _<_}
 use native.Mathlib.Omega.{arith}
-use lib.Dec.{ltb}
 use Rattle.meaning.specs.declared.Side.the-variants.{Register as register}
 use Rattle.meaning.specs.declared.Refusal.{Refusal}
-use Rattle.meaning.specs.Refusal.{Answer, good, refused, at, _>>=_, _>>_}
+use Rattle.meaning.specs.Refusal.{Answer, good, refused, at, _>>=_}
 use Rattle.meaning.specs.Register.{Link, readLink, readLinks}
-use Rattle.meaning.proofs.Reading.{good-inj, pass, stop, stopped, took, taken, below, not-below}
-use Rattle.meaning.proofs.Image.{read-link, read-links-many}
-use Rattle.register.specs.Reading.{Floor, keyed, AllRead, linksAnswer}
+use Rattle.meaning.proofs.Reading.{good-inj, stopped, took, taken}
+use Rattle.meaning.proofs.Image.{read-link}
+use Rattle.links.specs.Links.{Floor, keyed, AllRead}
 
 -- whether reading goes well, and if not, its refusal
 unfoldable pub tested : {A : Type 0} → Answer A → Answer (Unit {0})
@@ -46,20 +45,6 @@ module _ (s : List ℕ) (end n : ℕ) where
   tested-stop k before p r e = ap tested (stopped (readLink s end n before p) _ r e)
 
   module _ (m start : ℕ) where
-    -- all links are read
-    module _ (q : AllRead s end n m start) where
-      pub links-left : start + 5 * m < end → linksAnswer s end n m start ≡ refused (at register 8 (start + 5 * m))
-      unfolding linksAnswer
-      links-left h =
-          took (readLinks s end n m nowhere start) _ (q .0) (q .1) ∙ stop (ltb (start + 5 * m) end) _ _ (below (start + 5 * m) end h)
-
-      pub links-done : end ≤ start + 5 * m → linksAnswer s end n m start ≡ good (record { items = n; links = m })
-      unfolding linksAnswer
-      links-done h =
-          took (readLinks s end n m nowhere start) _ (q .0) (q .1)
-          ∙ pass (ltb (start + 5 * m) end) _ _ (not-below (start + 5 * m) end h)
-          ∙ ap (λ (z : ℕ). good (record { items = n; links = z })) (read-links-many s end n m nowhere start (q .0) (q .1))
-
     -- i links are read, the next stands at p, and must have at least the number f
     pub record Going (i p f : ℕ) : Type 0 where
       pub before : Option Link
@@ -90,23 +75,14 @@ module _ (s : List ℕ) (end n : ℕ) where
       keyed-refused r (refused q) e = let z : _≡_ {A = Answer ℕ} (refused r) (refused q) = e in cc
 
       pub going-stop : (k q : ℕ) → i < m → refused (at register k q) ≡ keyed (readLink s end n (w .before) p)
-          → linksAnswer s end n m start ≡ refused (at register k q)
-      unfolding linksAnswer
-      going-stop k q h e =
-          stopped (readLinks s end n m nowhere start) _ _
-          (tested-refused _ _ (here h ∙ tested-stop (m - (i + 1)) (w .before) p _ (keyed-refused _ _ e)))
+          → readLinks s end n m nowhere start ≡ refused (at register k q)
+      going-stop k q h e = tested-refused _ _ (here h ∙ tested-stop (m - (i + 1)) (w .before) p _ (keyed-refused _ _ e))
 
       pub all-read : i ≡ m → AllRead s end n m start
       unfolding readLinks tested
       all-read e =
           let z : m - i ≡ 0 = omega arith in
           tested-good (readLinks s end n m nowhere start) (w .same ∙ ap (λ (k : ℕ). tested (readLinks s end n k (w .before) p)) z)
-
-      pub going-left : i ≡ m → p ≡ start + 5 * i → p < end → linksAnswer s end n m start ≡ refused (at register 8 p)
-      going-left e d h = let z : start + 5 * m ≡ p = omega arith in links-left (all-read e) (omega arith) ∙ ap (λ (k : ℕ). refused (at register 8 k)) z
-
-      pub going-done : i ≡ m → p ≡ start + 5 * i → end ≤ p → linksAnswer s end n m start ≡ good (record { items = n; links = m })
-      going-done e d h = links-done (all-read e) (omega arith)
 
 pub none-to-read : (s : List ℕ) (end n m p : ℕ) → m ≡ 0 → AllRead s end n m p
 unfolding readLinks

@@ -1,6 +1,6 @@
 use borrow.Author.Needs.{needs}
-use Rattle.register.proofs.wrong.Statement.{statement}
-use Rattle.register.proofs.wrong.Tie as tie
+use Rattle.links.proofs.wrong.Statement.{statement}
+use Rattle.links.proofs.wrong.Tie as tie
 use native.Mathlib.Omega.{arith}
 use mathlib.Core.Path.{_≡_}
 use Prim.Native.Nat.{ℕ}
