@@ -1,4 +1,3 @@
-pub mod One
 pub mod Numbers
 pub mod Margins
 pub mod Messages

@@ -39,6 +39,7 @@ use Rattle.meaning.proofs.Shown.{Shows, degree-shows, degree-lowest}
 use Rattle.meaning.proofs.Picked.{Greatest}
 use Rattle.meaning.proofs.Rising.{LowestOf}
 use Rattle.meaning.proofs.Margin.{sign, margin-sign, margin-zero, margin-fits}
+use Rattle.fields.proofs.Once.{Apart, told-back, once, once-left}
 use Rattle.asking.specs.declared.Answered.{Answered}
 use Rattle.asking.specs.declared.Answered.the-variants.{Good as GoodDegree, Refused as RefusedDegree}
 use Rattle.asking.specs.declared.Margin.{Margin}
@@ -51,24 +52,27 @@ use Rattle.asking.proofs.Calls.{degreeThen, marginThen}
 
 -- ---- the document's words tell all results apart
 
-pub paper-degree-one : (r s : Answered) → paperDegree r ≡ paperDegree s → r ≡ s
-paper-degree-one (GoodDegree n d k) (GoodDegree n′ d′ k′) e =
-    let z : _≡_ {A = Told} (record { degree = n // d; places = k }) (record { degree = n′ // d′; places = k′ }) = good-inj e in
-    let a : n ≡ n′ = ap (λ (x : Told). x .degree .num) z in
-    let b : d ≡ d′ = ap (λ (x : Told). x .degree .den) z in
-    let c : k ≡ k′ = ap (λ (x : Told). x .places) z in cc
-paper-degree-one (GoodDegree n d k) (RefusedDegree f) e = absurd (not-good (sym e))
-paper-degree-one (RefusedDegree f) (GoodDegree n d k) e = absurd (not-good e)
-paper-degree-one (RefusedDegree f) (RefusedDegree f′) e = let z : _≡_ {A = Answer Told} (refused f) (refused f′) = e in let y : f ≡ f′ = cc in ap RefusedDegree y
+abbrev backDegree : Answer Told → Answered
+backDegree (good x) = GoodDegree (x .degree .num) (x .degree .den) (x .places)
+backDegree (refused f) = RefusedDegree f
 
-pub paper-margin-one : (r s : Margin) → paperMargin r ≡ paperMargin s → r ≡ s
-paper-margin-one (GoodMargin m o) (GoodMargin m′ o′) e =
-    let z : _≡_ {A = Against} (record { margin = m; over = o }) (record { margin = m′; over = o′ }) = good-inj e in
-    ap₂ GoodMargin (ap (λ (x : Against). x .margin) z) (ap (λ (x : Against). x .over) z)
-paper-margin-one (GoodMargin m o) (RefusedMargin f) e = absurd (not-good (sym e))
-paper-margin-one (RefusedMargin f) (GoodMargin m o) e = absurd (not-good e)
-paper-margin-one (RefusedMargin f) (RefusedMargin f′) e =
-    let z : _≡_ {A = Answer Against} (refused f) (refused f′) = e in let y : f ≡ f′ = cc in ap RefusedMargin y
+pub degree-told : Apart paperDegree
+degree-told = told-back paperDegree backDegree go
+  where
+    go : (r : Answered) → backDegree (paperDegree r) ≡ r
+    go (GoodDegree n d k) = refl
+    go (RefusedDegree f) = refl
+
+abbrev backMargin : Answer Against → Margin
+backMargin (good x) = GoodMargin (x .margin) (x .over)
+backMargin (refused f) = RefusedMargin f
+
+pub margin-told : Apart paperMargin
+margin-told = told-back paperMargin backMargin go
+  where
+    go : (r : Margin) → backMargin (paperMargin r) ≡ r
+    go (GoodMargin m o) = refl
+    go (RefusedMargin f) = refl
 
 -- a fraction in lowest terms that is 1 is 1/1
 one-over-one : (d low : Frac) → Lowest d low → low .num ≡ low .den → (low .num ≡ 1) × (low .den ≡ 1)
@@ -127,7 +131,7 @@ module _ (image message : List ℕ) (item : ℕ) where
   module _ (old new : List ℕ) (r : Answered) (h : DegreePromise image message item old new r) where
     row-result : (f : Refusal) → DegreeRow image message item (length old) f → r ≡ RefusedDegree f
     unfolding told _>>=_
-    row-result f x = paper-degree-one r (RefusedDegree f) (h .0 ∙ ap told (degree-row (length old) f x))
+    row-result f x = degree-told r (RefusedDegree f) (h .0 ∙ ap told (degree-row (length old) f x))
 
     taken-result : (x : DegreeTakes image message item (length old))
         → r ≡ GoodDegree (found (length old) (x .asked) .degree .num) (found (length old) (x .asked) .degree .den) (nodes (bare (x .asked .tree)))
@@ -136,7 +140,7 @@ module _ (image message : List ℕ) (item : ℕ) where
         let G = judged (x .asked .register) in
         let t = bare (x .asked .tree) in
         let places : length (degreeMap G t item) ≡ nodes t = length-map (shown G t (some item)) markNumber ∙ degree-shows G t item .long in
-        paper-degree-one r _ (h .0 ∙ ap told (degree-taken (length old) x) ∙ ap (λ (k : ℕ). good (record { degree = answered G t item; places = k })) places)
+        degree-told r _ (h .0 ∙ ap told (degree-taken (length old) x) ∙ ap (λ (k : ℕ). good (record { degree = answered G t item; places = k })) places)
 
     -- it is refused exactly when a row of the table holds, and then with that row's number and place; and the map is untouched
     pub refused-exactly : (f : Refusal) → (r ≡ RefusedDegree f) ↔ DegreeRow image message item (length old) f
@@ -200,7 +204,7 @@ module _ (image message : List ℕ) (item : ℕ) where
   -- any two results that the promise allows are equal
   pub one-degree-result : (old new new′ : List ℕ) (r s : Answered) → DegreePromise image message item old new r → DegreePromise image message item old new′ s
       → (r ≡ s) × (new ≡ new′)
-  one-degree-result old new new′ r s h k = (paper-degree-one r s (h .0 ∙ sym (k .0)), h .1 ∙ sym (k .1))
+  one-degree-result old new new′ r s = once-left paperDegree degree-told _ _ r s new new′
 
   -- ---- the margin
 
@@ -244,10 +248,10 @@ module _ (image message : List ℕ) (item : ℕ) where
 
     module _ (r : Margin) (h : MarginPromise image message item p q r) where
       margin-row-result : (f : Refusal) → MarginRow image message item p q f → r ≡ RefusedMargin f
-      margin-row-result f x = paper-margin-one r (RefusedMargin f) (h ∙ margin-row f x)
+      margin-row-result f x = margin-told r (RefusedMargin f) (h ∙ margin-row f x)
 
       margin-result : (x : MarginTakes image message item p q) → r ≡ GoodMargin (against (x .asked) .margin) (against (x .asked) .over)
-      margin-result x = paper-margin-one r _ (h ∙ margin-taken x)
+      margin-result x = margin-told r _ (h ∙ margin-taken x)
 
       pub margin-refused-exactly : (f : Refusal) → (r ≡ RefusedMargin f) ↔ MarginRow image message item p q f
       margin-refused-exactly f = (λ e. go e margin-either, margin-row-result f)
@@ -291,4 +295,4 @@ module _ (image message : List ℕ) (item : ℕ) where
       margin-within m o e = margin-says (margin-good-exactly .0 (m, o, e)) m o e .within .0
 
     pub one-margin-result : (r s : Margin) → MarginPromise image message item p q r → MarginPromise image message item p q s → r ≡ s
-    one-margin-result r s h k = paper-margin-one r s (h ∙ sym k)
+    one-margin-result = once paperMargin margin-told _

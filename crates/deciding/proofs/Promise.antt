@@ -35,9 +35,10 @@ use Rattle.meaning.proofs.Degree.{answered-lowest}
 use Rattle.meaning.proofs.Rising.{LowestOf}
 use Rattle.meaning.proofs.Member.{member-map}
 use Rattle.meaning.proofs.YesShown.{YesShows, yes-shows, yes-lowest}
+use Rattle.fields.proofs.Once.{Apart, told-back, once-left}
 use Rattle.deciding.specs.declared.Verdict.{Verdict}
 use Rattle.deciding.specs.declared.Verdict.the-variants.{Yes, No, Refused}
-use Rattle.deciding.specs.Answers.{yes, no, said, paperVerdict}
+use Rattle.deciding.specs.Answers.{Said, yes, no, said, paperVerdict}
 use Rattle.deciding.specs.Refusing.{DecidePromise, DecideRow, badImage, badMessage, noItem, noRoom}
 use Rattle.deciding.proofs.Decided.{member-answer, yes-one}
 
@@ -49,27 +50,24 @@ differ e = let y : _≡_ {A = ℕ} 0 1 = cc in omega arith
 refused-inj : {A : Type 0} {x y : Refusal} → _≡_ {A = Answer A} (refused x) (refused y) → x ≡ y
 refused-inj e = cc
 
-yes-inj : {m n : ℕ} → yes m ≡ yes n → m ≡ n
-yes-inj e = cc
+abbrev back : Answer Said → Verdict
+back (good (yes n)) = Yes n
+back (good no) = No
+back (refused x) = Refused x
 
-not-no : {n : ℕ} → yes n ≡ no → ⊥
-not-no e = let y : _≡_ {A = ℕ} 0 1 = cc in omega arith
-
-paper-inj : (r r′ : Verdict) → paperVerdict r ≡ paperVerdict r′ → r ≡ r′
-paper-inj (Yes m) (Yes n) e = ap (λ (z : ℕ). Yes z) (yes-inj (good-inj e))
-paper-inj (Yes m) No e = absurd (not-no (good-inj e))
-paper-inj (Yes m) (Refused x) e = absurd (differ (sym e))
-paper-inj No (Yes n) e = absurd (not-no (sym (good-inj e)))
-paper-inj No No e = refl
-paper-inj No (Refused x) e = absurd (differ (sym e))
-paper-inj (Refused x) (Yes n) e = absurd (differ e)
-paper-inj (Refused x) No e = absurd (differ e)
-paper-inj (Refused x) (Refused y) e = ap (λ (z : Refusal). Refused z) (refused-inj e)
+-- the document's words tell all results apart
+verdict-told : Apart paperVerdict
+verdict-told = told-back paperVerdict back go
+  where
+    go : (r : Verdict) → back (paperVerdict r) ≡ r
+    go (Yes n) = refl
+    go No = refl
+    go (Refused x) = refl
 
 -- "any two results allowed by it are equal"
 pub decide-one : (image message : List ℕ) (item : ℕ) (old new new′ : List ℕ) (r r′ : Verdict) → DecidePromise image message item old new r
     → DecidePromise image message item old new′ r′ → (r ≡ r′) × (new ≡ new′)
-decide-one image message item old new new′ r r′ p p′ = (paper-inj r r′ (p .0 ∙ sym (p′ .0)), p .1 ∙ sym (p′ .1))
+decide-one image message item old new new′ r r′ = once-left paperVerdict verdict-told _ _ r r′ new new′
 
 -- ---- refusals
 
@@ -129,7 +127,7 @@ pub decide-refused : (image message : List ℕ) (item : ℕ) (old new : List ℕ
     → (r ≡ Refused x) ↔ DecideRow image message item (length old) x
 decide-refused image message item old new r p x = (
   (λ e. answer-refuses image message item (length old) x (said-refused _ x (sym (p .0) ∙ ap paperVerdict e))),
-  (λ h. paper-inj r (Refused x) (p .0 ∙ ap said (refuses-answer image message item (length old) x h))),
+  (λ h. verdict-told r (Refused x) (p .0 ∙ ap said (refuses-answer image message item (length old) x h))),
 )
 
 -- a refusal and a no write nothing
@@ -138,7 +136,7 @@ pub decide-kept : (image message : List ℕ) (item : ℕ) (old new : List ℕ) (
 decide-kept image message item old new r p other = p .1 ∙ go (memberCall image message item (length old)) (p .0)
   where
     go : (a : Answer Decision) → paperVerdict r ≡ said a → afterMember old a ≡ old
-    go (good (met m)) e = absurd (other (length m) (paper-inj r (Yes (length m)) e))
+    go (good (met m)) e = absurd (other (length m) (verdict-told r (Yes (length m)) e))
     go (good unmet) e = refl
     go (refused x) e = refl
 
@@ -170,13 +168,13 @@ module _ (image message : List ℕ) (item : ℕ) (old new : List ℕ) (r : Verdi
   met-yes : T (member G q item) → r ≡ Yes (nodes q)
   met-yes t =
       let long = yes-shows (fulfils G) G q item t .long in
-      paper-inj r (Yes (nodes q)) (promised .0 ∙ ap said (when-met t) ∙ ap (λ (n : ℕ). good (yes n)) long)
+      verdict-told r (Yes (nodes q)) (promised .0 ∙ ap said (when-met t) ∙ ap (λ (n : ℕ). good (yes n)) long)
 
   unmet-no : (T (member G q item) → ⊥) → r ≡ No
-  unmet-no f = paper-inj r No (promised .0 ∙ ap said (when-unmet f))
+  unmet-no f = verdict-told r No (promised .0 ∙ ap said (when-unmet f))
 
   apart : r ≡ Yes (nodes q) → r ≡ No → ⊥
-  apart e d = let z : _≡_ {A = Verdict} (Yes (nodes q)) No = sym e ∙ d in not-no (good-inj (ap paperVerdict z))
+  apart e d = let z : _≡_ {A = Verdict} (Yes (nodes q)) No = sym e ∙ d in let y : _≡_ {A = ℕ} 0 1 = cc in omega arith
 
   yes-met : r ≡ Yes (nodes q) → T (member G q item)
   yes-met e = go (member G q item) refl

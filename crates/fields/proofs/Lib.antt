@@ -1,3 +1,4 @@
 pub mod Wrong
 pub mod Known
 pub mod Putting
+pub mod Once

@@ -12,6 +12,7 @@ use lib.Dec.{ltb, ltb→lt}
 use Rattle.meaning.specs.Bounds.{mostItems}
 use Rattle.meaning.proofs.Tests.{holds}
 use Rattle.meaning.proofs.Reading.{le-of-not-below}
+use Rattle.fields.proofs.Once.{itself, once}
 use Rattle.lines.specs.Text.{Wrote}
 use Rattle.listing.specs.declared.Outline.{Outline}
 use Rattle.listing.specs.Listing.{rowOf, lines, listingOf, printed, registerEnd, tooLong, mostInput, listing}
@@ -103,4 +104,4 @@ pieces-are s buffer p rows (plan, each) =
     ∙ sym (plan .whole)
 
 pub one-listing : (s b b′ : List ℕ) (p p′ : Outline) (rows rows′ : Pieces) → Allowed s b p rows → Allowed s b′ p′ rows′ → said b p rows ≡ said b′ p′ rows′
-one-listing s b b′ p p′ rows rows′ x y = pieces-are s b p rows x ∙ sym (pieces-are s b′ p′ rows′ y)
+one-listing s b b′ p p′ rows rows′ x y = once (λ (z : List ℕ). z) itself (listing s) _ _ (pieces-are s b p rows x) (pieces-are s b′ p′ rows′ y)

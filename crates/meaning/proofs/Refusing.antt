@@ -23,6 +23,8 @@ use Rattle.meaning.specs.Session.{noSteps, counted, Session, Call, opens
 use Rattle.meaning.specs.Refusing.{Outside, Inside, RoleAbove, RoleFits, NoRoom, HasRoom, OpenTakes, OpenRow, unread, Counts, CountRow, badRegister, countAbove}
 use Rattle.meaning.specs.Refusing.{KeepTakes, KeepRow, EditTakes, EditRow, earlier, outside, badRole, logFull, noRoom}
 use Rattle.meaning.specs.Refusing.{CallTakes, CallRow, UndoTakes, UndoRow, earlierOne, noStepLeft, stepOutside, noRoomBack}
+-- the order of the tests on inputs that break two rules at once, by computation: checked before the laws
+pub use Rattle.meaning.proofs.SessionOrders.{session-orders}
 use Rattle.meaning.proofs.Tests.{holds, is-true, is-false, is-eqb, true-false}
 use Rattle.meaning.proofs.Reading.{not-good, good-inj, pass, stop, stopped, took, below, not-below, at-most, not-le, le-of-not-below, lt-of-not-le}
 

@@ -17,8 +17,8 @@ use Rattle.session.specs.declared.Counted.the-variants.{Good}
 use Rattle.numbered.specs.Coded.{decoded}
 use Rattle.session.specs.Calls.{paperCount}
 use Rattle.numbered.specs.Played.{Lent, lent, steps, Promised, Called, Result, Played, calls, taken}
-use Rattle.register.proofs.Once.{once}
-use Rattle.session.proofs.Promise.{counts-apart}
+use Rattle.fields.proofs.Once.{once}
+use Rattle.session.proofs.Promise.{count-told}
 use Rattle.numbered.proofs.Codes.{last-decoded, log-decoded}
 use Rattle.session.proofs.Followed.{shows, edit-moved, undo-moved}
 
@@ -33,7 +33,7 @@ one-result s c r q t u h k = go c (h .promised) (k .promised)
   where
     same : {a : Answer ℕ} {b l : List ℕ} → paperCount r ≡ a → t .buffer ≡ b → t .log ≡ l → paperCount q ≡ a → u .buffer ≡ b → u .log ≡ l → (r ≡ q) × (t ≡ u)
     same a b l x y z =
-        let e = once paperCount counts-apart _ r q a x in
+        let e = once paperCount count-told _ r q a x in
         let n = h .handed ∙ ap (λ (v : Counted). countAfter (s .count) (paperCount v)) e ∙ sym (k .handed) in
         (e, same-lent (b ∙ sym y) (l ∙ sym z) n)
 

@@ -19,12 +19,12 @@ use Rattle.session.specs.declared.Counted.the-variants.{Good}
 use Rattle.session.specs.Calls.{paperCount}
 use Rattle.recorded.specs.Played.{session, Promised, Played, calls, taken}
 use Rattle.session.proofs.Followed.{shows, edit-moved, undo-moved}
-use Rattle.register.proofs.Once.{once-left}
-use Rattle.session.proofs.Promise.{counts-apart}
+use Rattle.fields.proofs.Once.{once-left}
+use Rattle.session.proofs.Promise.{count-told}
 
 -- any two results that a promise allows are equal: what is handed back, and all that is lent afterwards
 pub one-result : (s : Session) (c : Call) (r q : Counted) (t u : Session) → Promised s c r t → Promised s c q u → (r ≡ q) × (t ≡ u)
-one-result s c = once-left paperCount counts-apart (answer s c) (next s c)
+one-result s c = once-left paperCount count-told (answer s c) (next s c)
 
 -- where the log is held by value, the log that is handed back among it
 pub one-held : (s : Session) (c : Call) (r q : Held) (t u : List ℕ) (m n : ℕ)

@@ -5,5 +5,4 @@ pub mod Facts
 pub mod Halves
 pub mod Begins
 pub mod Targets
-pub mod Once
 pub mod Promise

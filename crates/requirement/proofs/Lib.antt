@@ -6,3 +6,4 @@ pub mod Cycle
 pub mod Bare
 pub mod Whole
 pub mod Turns
+pub mod Promise

@@ -41,6 +41,22 @@ size-at t = and 3 size-kinds.ps (is 3 size-kinds.ps μ-size t) size.Pre
 abbrev size-below : ℕ → In 3 size-kinds.ps
 size-below t = and 3 size-kinds.ps (falls 3 size-kinds.ps _<_ μ-size t) size.Pre
 
+abbrev child-size-claims : ℕ → child-size-lts.Claims
+child-size-claims t = (
+  size-below t,
+  size.Post,
+)
+
+abbrev size-claims : ℕ → size-lts.Claims
+size-claims t = (
+  octet-reads.Asked,
+  octet-reads.Learnt,
+  named-reads.Asked,
+  named-reads.Learnt,
+  child-size-below t,
+  child-size.Post,
+)
+
 abbrev size-Inv-loop : size-lts.InvT-loop
 size-Inv-loop names ends marks node left end n₀ c₀ n c =
     (end ≡ getD ends node 0) × (node < c) × (n + 65 * (end - c) < 65 * (end - node)) × Sizing names ends left marks node n c
@@ -50,10 +66,7 @@ size-μ-loop names ends marks node left end n₀ c₀ n c =
     end - c
 
 pub +child-size+size-spec : {M : Type 1} → statement M
-+child-size+size-spec = close μ-child-size μ-size (λ t. child-size-lts.spec (
-  size-below t,
-  size.Post,
-)
++child-size+size-spec = close μ-child-size μ-size (λ t. child-size-lts.spec (child-size-claims t)
     (child-size-at t)
     child-size.Post
     (λ c. let a = in-range _ _ _ _ (c .pre .1 .held) in omega arith)
@@ -61,14 +74,7 @@ pub +child-size+size-spec : {M : Type 1} → statement M
     (λ c κs. (omega (arith, c .before .before .pre .0), c .before .before .pre .1))
     (λ c. let s = c .size .ensures .small in let f = c .before .before .before .pre .1 .held .fits in omega arith)
     (λ c. kept-sized _ _ _ _ _ _ (c .before .if1 .left) (c .size .ensures)))
-    λ t. size-lts.spec (
-      octet-reads.Asked,
-      octet-reads.Learnt,
-      named-reads.Asked,
-      named-reads.Learnt,
-      child-size-below t,
-      child-size.Post,
-    )
+    λ t. size-lts.spec (size-claims t)
     (size-at t)
     size.Post
     size-Inv-loop

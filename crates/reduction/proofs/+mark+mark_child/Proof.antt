@@ -42,6 +42,24 @@ abbrev mark-child-below : ℕ → In 4 mark-child-kinds.ps
 mark-child-below t =
     and 4 mark-child-kinds.ps (falls 4 mark-child-kinds.ps _<_ μ-mark-child t) mark-child.Pre
 
+abbrev mark-claims : ℕ → mark-lts.Claims
+mark-claims t = (
+  octet-reads.Asked,
+  octet-reads.Learnt,
+  mark-child-below t,
+  mark-child.Post,
+)
+
+abbrev mark-child-claims : ℕ → mark-child-lts.Claims
+mark-child-claims t = (
+  dropped-reads.Asked,
+  dropped-reads.Learnt,
+  put-reads.Asked,
+  put-reads.Learnt,
+  mark-below t,
+  mark.Post,
+)
+
 abbrev mark-Inv-loop : mark-lts.InvT-loop
 mark-Inv-loop names roles ends marks₀ node left end c₀ marks c =
     (end ≡ getD ends node 0) × Marking names roles ends left node marks₀ marks c
@@ -51,12 +69,7 @@ mark-μ-loop names roles ends marks₀ node left end c₀ marks c =
     end - c
 
 pub +mark+mark-child-spec : {M : Type 1} → statement M
-+mark+mark-child-spec = close μ-mark μ-mark-child (λ t. mark-lts.spec (
-  octet-reads.Asked,
-  octet-reads.Learnt,
-  mark-child-below t,
-  mark-child.Post,
-)
++mark+mark-child-spec = close μ-mark μ-mark-child (λ t. mark-lts.spec (mark-claims t)
     (mark-at t)
     mark.Post
     mark-Inv-loop
@@ -86,14 +99,7 @@ pub +mark+mark-child-spec : {M : Type 1} → statement M
           (c .before .before .mark-child .ensures) (c .octet2 .ensures .0) (c8 .pre .1),
     ))
     (λ c. mark-all _ _ _ _ _ _ _ _ (c .before .loop .inv .1) (omega (arith, c .before .loop .inv .0))))
-    λ t. mark-child-lts.spec (
-      dropped-reads.Asked,
-      dropped-reads.Learnt,
-      put-reads.Asked,
-      put-reads.Learnt,
-      mark-below t,
-      mark.Post,
-    )
+    λ t. mark-child-lts.spec (mark-child-claims t)
     (mark-child-at t)
     mark-child.Post
     (λ c κs. search needs)

@@ -83,6 +83,30 @@ subsumes-one-below t =
     (falls 3 subsumes-one-kinds.ps _<_ μ-subsumes-one t)
     subsumes-one.Pre
 
+abbrev subsumes-claims : ℕ → subsumes-lts.Claims
+subsumes-claims t = (
+  within-reads.Asked,
+  within-reads.Learnt,
+  octet-reads.Asked,
+  octet-reads.Learnt,
+  subsumes-one-below t,
+  subsumes-one.Post,
+)
+
+abbrev subsumes-like-claims : ℕ → subsumes-like-lts.Claims
+subsumes-like-claims t = (
+  subsumes-below t,
+  subsumes.Post,
+)
+
+abbrev subsumes-one-claims : ℕ → subsumes-one-lts.Claims
+subsumes-one-claims t = (
+  subsumes-like-below t,
+  subsumes-like.Post,
+  octet-reads.Asked,
+  octet-reads.Learnt,
+)
+
 abbrev subsumes-Inv-loop : subsumes-lts.InvT-loop
 subsumes-Inv-loop names roles ends c d left e m k₀ k =
     (e ≡ getD ends c 0) × (m ≡ getD ends d 0) × Serving names roles ends left c d k
@@ -101,14 +125,7 @@ subsumes-one-μ-loop names roles ends c first end left d₀ d =
 
 pub +subsumes+subsumes-like+subsumes-one-spec : {M : Type 1} → statement M
 +subsumes+subsumes-like+subsumes-one-spec =
-    close μ-subsumes μ-subsumes-like μ-subsumes-one (λ t. subsumes-lts.spec (
-      within-reads.Asked,
-      within-reads.Learnt,
-      octet-reads.Asked,
-      octet-reads.Learnt,
-      subsumes-one-below t,
-      subsumes-one.Post,
-    )
+    close μ-subsumes μ-subsumes-like μ-subsumes-one (λ t. subsumes-lts.spec (subsumes-claims t)
     (subsumes-at t)
     subsumes.Post
     subsumes-Inv-loop
@@ -157,8 +174,7 @@ pub +subsumes+subsumes-like+subsumes-one-spec : {M : Type 1} → statement M
           (not-false _ (c .before .before .if2 .left)) (c .octet3 .ensures .0),
     ))
     (λ c. serve-all _ _ _ _ _ _ _ (c .before .loop .inv .2) (omega (arith, c .before .loop .inv .0))))
-    (λ t. subsumes-like-lts.spec
-    (subsumes-below t, subsumes.Post)
+    (λ t. subsumes-like-lts.spec (subsumes-like-claims t)
     (subsumes-like-at t)
     subsumes-like.Post
     (λ c. let a = in-range _ _ _ _ (c .pre .1 .one) in let b = in-range _ _ _ _ (c .pre .1 .other) in omega arith)
@@ -167,8 +183,7 @@ pub +subsumes+subsumes-like+subsumes-one-spec : {M : Type 1} → statement M
     (λ c κs. search needs)
     (λ c. let c4 = c .before .before .before .before in
     role-same _ _ _ _ _ (c4 .args .c) (c4 .args .d) (c .subsumes .ensures) (omega arith) (omega arith) (omega (arith, c .before .if1 .left))))
-    λ t. subsumes-one-lts.spec
-    (subsumes-like-below t, subsumes-like.Post, octet-reads.Asked, octet-reads.Learnt)
+    λ t. subsumes-one-lts.spec (subsumes-one-claims t)
     (subsumes-one-at t)
     subsumes-one.Post
     subsumes-one-Inv-loop
