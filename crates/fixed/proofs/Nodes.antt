@@ -15,7 +15,7 @@ use Rattle.meaning.specs.Tree.{node, Forest, none, more, Concept}
 use Rattle.meaning.specs.Requirement.{Threshold}
 use Rattle.meaning.specs.Message.{Part, Spot, entered, readChildren, readNode, noThresholds, readThresholds, withThresholds}
 use Rattle.meaning.proofs.Reading.{good-inj, not-good, le-of-not-below, pass, stop, stopped, halted, took, below, not-below, at-most, not-le, fitted}
-use Rattle.fixed.specs.Readers.{spot, labelIn, nodeIn, childrenIn}
+use Rattle.fixed.specs.Spots.{spot, labelIn, nodeIn, childrenIn}
 
 suc-of : (k : ℕ) → 0 < k → suc (k - 1) ≡ k
 suc-of k h = omega arith

@@ -20,7 +20,7 @@ use Rattle.meaning.specs.Requirement.{Threshold}
 use Rattle.meaning.specs.Message.{Part, Spot, comparison, readInner, readThreshold, readThresholds}
 use Rattle.meaning.proofs.Tests.{holds, is-true, is-false, of-not, and-both}
 use Rattle.meaning.proofs.Reading.{pass, stop, stopped, halted, took, below, not-below, at-most, not-le, fitted}
-use Rattle.fixed.specs.Readers.{spot, nodeIn, wholeInner}
+use Rattle.fixed.specs.Spots.{spot, nodeIn, wholeInner}
 use Rattle.fixed.specs.Fixed.{lawfulAt}
 
 -- ---- one after the other

@@ -17,7 +17,7 @@ use Rattle.fixed.specs.declared.EdgeFields.{EdgeFields}
 use Rattle.fixed.specs.declared.EdgeFields.the-variants.{Good as GoodEdge, Refused as RefusedEdge}
 use Rattle.fixed.specs.declared.ThresholdFields.{ThresholdFields}
 use Rattle.fixed.specs.declared.ThresholdFields.the-variants.{Good as GoodThreshold, Refused as RefusedThreshold}
-use Rattle.fixed.specs.Readers.{spot, nodeIn, childrenIn}
+use Rattle.fixed.specs.Spots.{spot, nodeIn, childrenIn}
 
 -- the first field that does not fit whole, where only so many bytes stand before the end
 abbrev pub nodeCut : ℕ → ℕ → ℕ

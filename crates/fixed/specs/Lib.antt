@@ -1,2 +1,2 @@
-pub mod Readers
+pub mod Spots
 pub mod Fixed

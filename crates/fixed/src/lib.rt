@@ -3,7 +3,7 @@ ghost use mathlib.Core.Path.{_≡_};
 ghost use mathlib.Core.Bool.{_&&_};
 ghost use Prim.Native.Nat.{_+_, _<_};
 ghost use lib.Dec.{ltb};
-ghost use Rattle.fixed.specs.Readers.{Here};
+ghost use Rattle.fixed.specs.Spots.{Here};
 ghost use Rattle.fixed.specs.Fixed.{nodeCut, thresholdCut, NodeFixed, EdgeFixed, ThresholdFixed};
 
 // A node's names, and how many thresholds and children it has; or the number and place of a fault.

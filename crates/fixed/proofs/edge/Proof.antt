@@ -8,17 +8,11 @@ use native.Mathlib.Omega.{arith}
 use Rattle.meaning.specs.Bytes.{number}
 use Rattle.fixed.proofs.Nodes.{children-cut, children-role}
 
-sub-if1 : tie.Need-sub-if1
-sub-if1 c = search needs
-
 returns : tie.Need-returns
 returns c =
     let a = c .before .before .args in
     let h : a .end < a .at + 1 = omega (arith, c .if1 .taken, c .before .before .pre .before) in
     λ inner left k n ps l. children-cut inner (a .s .now) (a .end) (a .at) n ps left k l h
-
-one-requires : tie.Need-one-requires
-one-requires c κs = search needs
 
 returns-2 : tie.Need-returns-2
 returns-2 c =
@@ -27,8 +21,5 @@ returns-2 c =
     let above : 31 < number (a .s .now) (a .at) 1 = omega (arith, c .if2 .taken, c .before .one .ensures .0) in
     λ inner left k n ps l. children-role inner (a .s .now) (a .end) (a .at) n ps left k l fits above
 
-returns-3 : tie.Need-returns-3
-returns-3 c = search needs
-
 pub edge-spec : {M : Type 1} → statement M
-edge-spec = tie.close (tie.spec sub-if1 returns one-requires returns-2 returns-3)
+edge-spec = tie.close (tie.spec (λ c. search needs) returns (λ c κs. search needs) returns-2 (λ c. search needs))

@@ -12,15 +12,6 @@ use Rattle.meaning.specs.declared.Side.the-variants.{Requirement as requirement
 use Rattle.meaning.specs.Refusal.{refused, at}
 use Rattle.fixed.proofs.Nodes.{node-cut-end, node-deep, node-many, node-forbidden}
 
-sub-if1 : tie.Need-sub-if1
-sub-if1 c = search needs
-
-sub-node-cut : tie.Need-sub-node-cut
-sub-node-cut c = search needs
-
-node-cut-requires : tie.Need-node-cut-requires
-node-cut-requires c κs = search needs
-
 returns : tie.Need-returns
 returns c =
     let a = c .before .before .before .args in
@@ -43,18 +34,6 @@ returns-3 c =
     let many : 64 ≤ a .n = omega (arith, c .if3 .taken) in
     λ ps. node-many (a .inner) (a .s .now) (a .end) (a .at) (a .n) ps fits (a .left) deep many
 
-add-one : tie.Need-add-one
-add-one c = search needs
-
-one-requires : tie.Need-one-requires
-one-requires c κs = search needs
-
-forbidden-requires : tie.Need-forbidden-requires
-forbidden-requires c κs = search needs
-
-add-t13 : tie.Need-add-t13
-add-t13 c = search needs
-
 returns-4 : tie.Need-returns-4
 returns-4 c =
     let a = c .before .before .before .before .before .before .before .args in
@@ -63,15 +42,6 @@ returns-4 c =
     let room : a .n < 64 = omega (arith, c .before .before .before .if3 .left) in
     let held = sym (c .before .forbidden .ensures ∙ ap (λ (z : ℕ). a .inner && ltb 0 z) (c .before .before .one .ensures .0)) ∙ c .if4 .taken in
     λ ps. node-forbidden (a .inner) (a .s .now) (a .end) (a .at) (a .n) ps fits room (a .left) deep held
-
-eight-requires : tie.Need-eight-requires
-eight-requires c κs = search needs
-
-add-one-2 : tie.Need-add-one-2
-add-one-2 c = search needs
-
-one-requires-2 : tie.Need-one-requires-2
-one-requires-2 c κs = search needs
 
 returns-5 : tie.Need-returns-5
 returns-5 c =
@@ -89,18 +59,18 @@ pub node-spec : {M : Type 1} → statement M
 node-spec =
     tie.close
     (tie.spec
-    sub-if1
-    sub-node-cut
-    node-cut-requires
+    (λ c. search needs)
+    (λ c. search needs)
+    (λ c κs. search needs)
     returns
     returns-2
     returns-3
-    add-one
-    one-requires
-    forbidden-requires
-    add-t13
+    (λ c. search needs)
+    (λ c κs. search needs)
+    (λ c κs. search needs)
+    (λ c. search needs)
     returns-4
-    eight-requires
-    add-one-2
-    one-requires-2
+    (λ c κs. search needs)
+    (λ c. search needs)
+    (λ c κs. search needs)
     returns-5)

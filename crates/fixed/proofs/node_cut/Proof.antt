@@ -11,13 +11,10 @@ returns c =
     let h : c .before .args .room < 8 = omega arith in
     rw (below (c .before .args .room) 8 h) refl
 
-add-result : tie.Need-add-result
-add-result c = search needs
-
 returns-2 : tie.Need-returns-2
 returns-2 c =
     let h : 8 ≤ c .before .args .room = omega arith in
     rw (not-below (c .before .args .room) 8 h) refl
 
 pub node-cut-spec : {M : Type 1} → statement M
-node-cut-spec = tie.close (tie.spec returns add-result returns-2)
+node-cut-spec = tie.close (tie.spec returns (λ c. search needs) returns-2)

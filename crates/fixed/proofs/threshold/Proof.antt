@@ -19,15 +19,6 @@ returns c =
     let many : 16 ≤ a .parts = omega (arith, c .if1 .taken) in
     λ owner n ps l. threshold-many (a .s .now) (a .end) owner (a .at) n ps (omega (arith, l))
 
-sub-if2 : tie.Need-sub-if2
-sub-if2 c = search needs
-
-sub-threshold-cut : tie.Need-sub-threshold-cut
-sub-threshold-cut c = search needs
-
-threshold-cut-requires : tie.Need-threshold-cut-requires
-threshold-cut-requires c κs = search needs
-
 returns-2 : tie.Need-returns-2
 returns-2 c =
     let a = c .before .before .before .before .args in
@@ -36,9 +27,6 @@ returns-2 c =
     let place = ap (λ (q : ℕ). refused (at requirement 1 q)) (sym (c .threshold-cut .ensures)) in
     λ owner n ps l. (threshold-cut-end (a .s .now) (a .end) owner (a .at) n ps (omega (arith, l)) (c .before .before .before .before .pre .before) cut ∙ place)
 
-one-requires : tie.Need-one-requires
-one-requires c κs = search needs
-
 returns-3 : tie.Need-returns-3
 returns-3 c =
     let a = c .before .before .before .before .before .args in
@@ -46,21 +34,6 @@ returns-3 c =
     let fits : a .at + 5 ≤ a .end = omega (arith, c .before .before .if2 .left, c .before .before .before .before .before .pre .before) in
     let above : 3 < number (a .s .now) (a .at) 1 = omega (arith, c .if3 .taken, c .before .one .ensures .0) in
     λ owner n ps l. threshold-rule (a .s .now) (a .end) owner (a .at) n ps (omega (arith, l)) fits (rule-above (a .s .now) (a .at) above)
-
-add-two : tie.Need-add-two
-add-two c = search needs
-
-two-requires : tie.Need-two-requires
-two-requires c κs = search needs
-
-add-two-2 : tie.Need-add-two-2
-add-two-2 c = search needs
-
-two-requires-2 : tie.Need-two-requires-2
-two-requires-2 c κs = search needs
-
-wrong-requires : tie.Need-wrong-requires
-wrong-requires c κs = search needs
 
 returns-4 : tie.Need-returns-4
 returns-4 c =
@@ -71,12 +44,6 @@ returns-4 c =
     let small : number (a .s .now) (a .at) 1 ≤ 3 = omega (arith, c .before .before .before .before .if3 .left, c .before .before .before .before .before .one .ensures .0) in
     let rule = rule-broken (a .s .now) (a .at) _ _ _ (c .before .before .before .two .ensures .0) (c .before .before .two2 .ensures .0) (c .before .wrong .ensures) small (c .if4 .taken) in
     λ owner n ps l. threshold-rule (a .s .now) (a .end) owner (a .at) n ps (omega (arith, l)) fits rule
-
-sub-if5 : tie.Need-sub-if5
-sub-if5 c = search needs
-
-add-t14 : tie.Need-add-t14
-add-t14 c = search needs
 
 returns-5 : tie.Need-returns-5
 returns-5 c =
@@ -90,21 +57,6 @@ returns-5 c =
     let rule = rule-kept (a .s .now) (a .at) _ _ _ (c₁ .before .two .ensures .0) (c₁ .two2 .ensures .0) (c .before .before .wrong .ensures) small (c .before .if4 .left) in
     let cut : a .end < a .at + 7 = omega (arith, c .if5 .taken, c₃ .before .pre .before) in
     λ owner n ps l. threshold-length-cut (a .s .now) (a .end) owner (a .at) n ps (omega (arith, l)) fits rule cut
-
-add-two-3 : tie.Need-add-two-3
-add-two-3 c = search needs
-
-two-requires-3 : tie.Need-two-requires-3
-two-requires-3 c κs = search needs
-
-sub-if6 : tie.Need-sub-if6
-sub-if6 c = search needs
-
-sub-if6-2 : tie.Need-sub-if6-2
-sub-if6-2 c = search needs
-
-add-t15 : tie.Need-add-t15
-add-t15 c = search needs
 
 returns-6 : tie.Need-returns-6
 returns-6 c =
@@ -120,12 +72,6 @@ returns-6 c =
     let long : a .at + 7 ≤ a .end = omega (arith, c .before .before .if5 .left, c₄ .pre .before) in
     let past : a .end < a .at + 7 + number (a .s .now) (a .at + 5) 2 = omega (arith, c .if6 .taken, c .before .two3 .ensures .0, c₄ .pre .before) in
     λ owner n ps l. threshold-past (a .s .now) (a .end) owner (a .at) n ps (omega (arith, l)) fits rule long past
-
-add-t7 : tie.Need-add-t7
-add-t7 c = search needs
-
-add-t11 : tie.Need-add-t11
-add-t11 c = search needs
 
 returns-7 : tie.Need-returns-7
 returns-7 c =
@@ -147,27 +93,27 @@ threshold-spec =
     tie.close
     (tie.spec
     returns
-    sub-if2
-    sub-threshold-cut
-    threshold-cut-requires
+    (λ c. search needs)
+    (λ c. search needs)
+    (λ c κs. search needs)
     returns-2
-    one-requires
+    (λ c κs. search needs)
     returns-3
-    add-two
-    two-requires
-    add-two-2
-    two-requires-2
-    wrong-requires
+    (λ c. search needs)
+    (λ c κs. search needs)
+    (λ c. search needs)
+    (λ c κs. search needs)
+    (λ c κs. search needs)
     returns-4
-    sub-if5
-    add-t14
+    (λ c. search needs)
+    (λ c. search needs)
     returns-5
-    add-two-3
-    two-requires-3
-    sub-if6
-    sub-if6-2
-    add-t15
+    (λ c. search needs)
+    (λ c κs. search needs)
+    (λ c. search needs)
+    (λ c. search needs)
+    (λ c. search needs)
     returns-6
-    add-t7
-    add-t11
+    (λ c. search needs)
+    (λ c. search needs)
     returns-7)

@@ -11,17 +11,11 @@ returns c =
     let h : c .before .args .room < 1 = omega arith in
     rw (below (c .before .args .room) 1 h) refl
 
-add-result : tie.Need-add-result
-add-result c = search needs
-
 returns-2 : tie.Need-returns-2
 returns-2 c =
     let h : 1 ≤ c .before .before .args .room = omega arith in
     let l : c .before .before .args .room < 3 = omega arith in
     rw (not-below (c .before .before .args .room) 1 h, below (c .before .before .args .room) 3 l) refl
-
-add-result-2 : tie.Need-add-result-2
-add-result-2 c = search needs
 
 returns-3 : tie.Need-returns-3
 returns-3 c =
@@ -30,4 +24,4 @@ returns-3 c =
     rw (not-below (c .before .before .args .room) 1 h, not-below (c .before .before .args .room) 3 l) refl
 
 pub threshold-cut-spec : {M : Type 1} → statement M
-threshold-cut-spec = tie.close (tie.spec returns add-result returns-2 add-result-2 returns-3)
+threshold-cut-spec = tie.close (tie.spec returns (λ c. search needs) returns-2 (λ c. search needs) returns-3)

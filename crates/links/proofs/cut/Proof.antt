@@ -11,17 +11,11 @@ returns c =
     let h : c .before .args .room < 2 = omega arith in
     rw (below (c .before .args .room) 2 h) refl
 
-add-t4 : tie.Need-add-t4
-add-t4 c = search needs
-
 returns-2 : tie.Need-returns-2
 returns-2 c =
     let h : 2 ≤ c .before .before .args .room = omega arith in
     let l : c .before .before .args .room < 3 = omega arith in
     rw (not-below (c .before .before .args .room) 2 h, below (c .before .before .args .room) 3 l) refl
-
-add-t5 : tie.Need-add-t5
-add-t5 c = search needs
 
 returns-3 : tie.Need-returns-3
 returns-3 c =
@@ -30,4 +24,4 @@ returns-3 c =
     rw (not-below (c .before .before .args .room) 2 h, not-below (c .before .before .args .room) 3 l) refl
 
 pub cut-spec : {M : Type 1} → statement M
-cut-spec = tie.close (tie.spec returns add-t4 returns-2 add-t5 returns-3)
+cut-spec = tie.close (tie.spec returns (λ c. search needs) returns-2 (λ c. search needs) returns-3)

@@ -19,21 +19,9 @@ abbrev μ-loop : tie.MeasureT-loop
 μ-loop s end items links start i₀ at₀ floor₀ front₀ last₀ i at floor front last =
     links - i
 
-sub-if1 : tie.Need-sub-if1 Inv-loop μ-loop
-sub-if1 c = search needs
-
 returns : tie.Need-returns Inv-loop μ-loop
 returns c =
     λ h. none-to-read _ _ _ _ _ (eqb-true _ _ h)
-
-four-requires : tie.Need-four-requires Inv-loop μ-loop
-four-requires c κs = search needs
-
-add-one : tie.Need-add-one Inv-loop μ-loop
-add-one c = search needs
-
-one-requires : tie.Need-one-requires Inv-loop μ-loop
-one-requires c κs = search needs
 
 loop-holds : tie.Need-loop-holds Inv-loop μ-loop
 loop-holds c =
@@ -48,30 +36,9 @@ loop-holds c =
       going-none _ _ _ _ _,
     )
 
-mul-number : tie.Need-mul-number Inv-loop μ-loop
-mul-number c = search needs
-
-add-number : tie.Need-add-number Inv-loop μ-loop
-add-number c = search needs
-
-wrong-requires : tie.Need-wrong-requires Inv-loop μ-loop
-wrong-requires c κs = search needs
-
 returns-2 : tie.Need-returns-2 Inv-loop μ-loop
 returns-2 c =
     λ h. absurd (let z : _≡_ {A = ℕ} 0 1 = cc in omega arith)
-
-add-floor : tie.Need-add-floor Inv-loop μ-loop
-add-floor c = search needs
-
-add-i : tie.Need-add-i Inv-loop μ-loop
-add-i c = search needs
-
-add-at : tie.Need-add-at Inv-loop μ-loop
-add-at c = search needs
-
-sub-if3 : tie.Need-sub-if3 Inv-loop μ-loop
-sub-if3 c = search needs
 
 returns-3 : tie.Need-returns-3 Inv-loop μ-loop
 returns-3 c =
@@ -85,18 +52,6 @@ returns-3 c =
     let right = c .before .before .wrong .ensures (c .before .if2 .left) in
     let read = link-passed (a .s .now) by (a .end) (a .items) (c4 .loop .at) (c4 .loop .floor) _ (w .before) (l .2) (c9 .pre .2) (l .5) right (w .floor) in
     λ h. all-read _ _ _ _ _ _ _ _ (going-more _ _ _ _ _ _ _ _ w _ (c .before .before .before .loop-test .taken) (c9 .pre .2) read) (eqb-true _ _ h)
-
-four-requires-2 : tie.Need-four-requires-2 Inv-loop μ-loop
-four-requires-2 c κs = search needs
-
-add-one-2 : tie.Need-add-one-2 Inv-loop μ-loop
-add-one-2 c = search needs
-
-one-requires-2 : tie.Need-one-requires-2 Inv-loop μ-loop
-one-requires-2 c κs = search needs
-
-loop-less : tie.Need-loop-less Inv-loop μ-loop
-loop-less c = search needs
 
 loop-again : tie.Need-loop-again Inv-loop μ-loop
 loop-again c =
@@ -130,24 +85,24 @@ quick-links-spec =
     (tie.spec
     Inv-loop
     μ-loop
-    sub-if1
+    (λ c. search needs)
     returns
-    four-requires
-    add-one
-    one-requires
+    (λ c κs. search needs)
+    (λ c. search needs)
+    (λ c κs. search needs)
     loop-holds
-    mul-number
-    add-number
-    wrong-requires
+    (λ c. search needs)
+    (λ c. search needs)
+    (λ c κs. search needs)
     returns-2
-    add-floor
-    add-i
-    add-at
-    sub-if3
+    (λ c. search needs)
+    (λ c. search needs)
+    (λ c. search needs)
+    (λ c. search needs)
     returns-3
-    four-requires-2
-    add-one-2
-    one-requires-2
-    loop-less
+    (λ c κs. search needs)
+    (λ c. search needs)
+    (λ c κs. search needs)
+    (λ c. search needs)
     loop-again
     returns-4)

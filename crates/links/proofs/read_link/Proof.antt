@@ -10,15 +10,6 @@ use Rattle.meaning.specs.Register.{linkAt}
 use Rattle.links.specs.Links.{key, paperLink}
 use Rattle.links.proofs.OneLink.{link-cut, link-from, link-role, link-to, link-order, link-good}
 
-sub-if1 : tie.Need-sub-if1
-sub-if1 c = search needs
-
-sub-cut : tie.Need-sub-cut
-sub-cut c = search needs
-
-cut-requires : tie.Need-cut-requires
-cut-requires c κs = search needs
-
 returns : tie.Need-returns
 returns c =
     let c3 = c .before .before .before in
@@ -28,24 +19,12 @@ returns c =
       rw (c .cut .ensures) tt,
     )
 
-two-requires : tie.Need-two-requires
-two-requires c κs = search needs
-
 returns-2 : tie.Need-returns-2
 returns-2 c =
     let c4 = c .before .before .before .before in
     let h : c4 .args .at + 5 ≤ c4 .args .end = omega arith in
     let l : c4 .args .items ≤ number (c4 .args .s .now) (c4 .args .at) 2 = omega (arith, c .before .two .ensures .0) in
     (λ before f. sym (link-from (c4 .args .s .now) (c4 .args .end) (c4 .args .items) before (c4 .args .at) h l), tt)
-
-add-one : tie.Need-add-one
-add-one c = search needs
-
-one-requires : tie.Need-one-requires
-one-requires c κs = search needs
-
-add-t13 : tie.Need-add-t13
-add-t13 c = search needs
 
 returns-3 : tie.Need-returns-3
 returns-3 c =
@@ -54,15 +33,6 @@ returns-3 c =
     let a : number (c6 .args .s .now) (c6 .args .at) 2 < c6 .args .items = omega (arith, c .before .before .before .two .ensures .0) in
     let l : 31 < number (c6 .args .s .now) (c6 .args .at + 2) 1 = omega (arith, c .before .one .ensures .0) in
     (λ before f. sym (link-role (c6 .args .s .now) (c6 .args .end) (c6 .args .items) before (c6 .args .at) h a l), tt)
-
-add-two : tie.Need-add-two
-add-two c = search needs
-
-two-requires-2 : tie.Need-two-requires-2
-two-requires-2 c κs = search needs
-
-add-t14 : tie.Need-add-t14
-add-t14 c = search needs
 
 returns-4 : tie.Need-returns-4
 returns-4 c =
@@ -73,18 +43,6 @@ returns-4 c =
     let b : number (c8 .args .s .now) (c8 .args .at + 2) 1 ≤ 31 = omega (arith, c .before .before .before .one .ensures .0) in
     let l : c8 .args .items ≤ number (c8 .args .s .now) (c8 .args .at + 3) 2 = omega (arith, c .before .two2 .ensures .0) in
     (λ before f. sym (link-to (c8 .args .s .now) (c8 .args .end) (c8 .args .items) before (c8 .args .at) h a b l), tt)
-
-mul-number : tie.Need-mul-number
-mul-number c = search needs
-
-add-number : tie.Need-add-number
-add-number c = search needs
-
-mul-number-2 : tie.Need-mul-number-2
-mul-number-2 c = search needs
-
-add-number-2 : tie.Need-add-number-2
-add-number-2 c = search needs
 
 returns-5 : tie.Need-returns-5
 returns-5 c =
@@ -99,9 +57,6 @@ returns-5 c =
     let m : c9 .args .items ≤ 512 = omega arith in
     let l : key (linkAt (c9 .args .s .now) (c9 .args .at)) < c9 .args .floor = omega (arith, c6 .two .ensures .0, c4 .one .ensures .0, c2 .two2 .ensures .0) in
     (λ before f. sym (link-order (c9 .args .s .now) (c9 .args .end) (c9 .args .items) before (c9 .args .at) h a b d m (c9 .args .floor) f l), tt)
-
-add-t16 : tie.Need-add-t16
-add-t16 c = search needs
 
 returns-6 : tie.Need-returns-6
 returns-6 c =
@@ -125,24 +80,24 @@ pub read-link-spec : {M : Type 1} → statement M
 read-link-spec =
     tie.close
     (tie.spec
-    sub-if1
-    sub-cut
-    cut-requires
+    (λ c. search needs)
+    (λ c. search needs)
+    (λ c κs. search needs)
     returns
-    two-requires
+    (λ c κs. search needs)
     returns-2
-    add-one
-    one-requires
-    add-t13
+    (λ c. search needs)
+    (λ c κs. search needs)
+    (λ c. search needs)
     returns-3
-    add-two
-    two-requires-2
-    add-t14
+    (λ c. search needs)
+    (λ c κs. search needs)
+    (λ c. search needs)
     returns-4
-    mul-number
-    add-number
-    mul-number-2
-    add-number-2
+    (λ c. search needs)
+    (λ c. search needs)
+    (λ c. search needs)
+    (λ c. search needs)
     returns-5
-    add-t16
+    (λ c. search needs)
     returns-6)

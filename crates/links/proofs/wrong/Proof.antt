@@ -10,9 +10,6 @@ returns : tie.Need-returns
 returns c =
     λ h. absurd (let z : _≡_ {A = ℕ} 0 1 = cc in omega arith)
 
-mul-if2 : tie.Need-mul-if2
-mul-if2 c = search needs
-
 returns-2 : tie.Need-returns-2
 returns-2 c =
     λ h. absurd (let z : _≡_ {A = ℕ} 0 1 = cc in omega arith)
@@ -26,4 +23,4 @@ returns-4 c =
     λ h. (omega arith, omega arith, omega arith, ltb-false _ _ h)
 
 pub wrong-spec : {M : Type 1} → statement M
-wrong-spec = tie.close (tie.spec returns mul-if2 returns-2 returns-3 returns-4)
+wrong-spec = tie.close (tie.spec returns (λ c. search needs) returns-2 returns-3 returns-4)

@@ -21,18 +21,6 @@ loop-holds : tie.Need-loop-holds Inv-loop μ-loop
 loop-holds c =
     (omega arith, omega arith, omega arith, going-none _ _ _ _ _)
 
-read-link-requires : tie.Need-read-link-requires Inv-loop μ-loop
-read-link-requires c κs = search needs
-
-enum-known-l : tie.Need-enum-known-l Inv-loop μ-loop
-enum-known-l c = search needs
-
-enum-known-l-2 : tie.Need-enum-known-l-2 Inv-loop μ-loop
-enum-known-l-2 c = search needs
-
-refused-requires : tie.Need-refused-requires Inv-loop μ-loop
-refused-requires c κs = search needs
-
 returns : tie.Need-returns Inv-loop μ-loop
 returns c =
     let w = c .before .before .before .before .before .before .loop .inv .3 in
@@ -40,18 +28,12 @@ returns c =
     ∙ sym (links-stop _ _ _ _ _ _ (going-stop _ _ _ _ _ _ _ _ w _ _ (omega arith)
     (ap paperLink (sym (c .before .before .l2 .given .1)) ∙ c .before .before .before .before .read-link .ensures .0 (w .before) (w .floor))))
 
-add-i : tie.Need-add-i Inv-loop μ-loop
-add-i c = search needs
-
 add-at : tie.Need-add-at Inv-loop μ-loop
 add-at c =
     let c5 = c .before .before .before .before .before in
     let c7 = c5 .before .before in
     let fit = subst (λ z. Passed (c5 .loop .at) (c7 .args .end) z) (c .before .l .given .1) (c .before .before .before .read-link .ensures .1) in
     omega arith
-
-loop-less : tie.Need-loop-less Inv-loop μ-loop
-loop-less c = search needs
 
 loop-again : tie.Need-loop-again Inv-loop μ-loop
 loop-again c =
@@ -65,9 +47,6 @@ loop-again c =
       fit,
       going-more _ _ _ _ _ _ _ _ w _ (omega arith) (omega arith) (ap paperLink (sym (c .before .l .given .1)) ∙ c3 .read-link .ensures .0 (w .before) (w .floor)),
     )
-
-refused-requires-2 : tie.Need-refused-requires-2 Inv-loop μ-loop
-refused-requires-2 c κs = search needs
 
 returns-2 : tie.Need-returns-2 Inv-loop μ-loop
 returns-2 c =
@@ -86,15 +65,15 @@ slow-links-spec =
     Inv-loop
     μ-loop
     loop-holds
-    read-link-requires
-    enum-known-l
-    enum-known-l-2
-    refused-requires
+    (λ c κs. search needs)
+    (λ c. search needs)
+    (λ c. search needs)
+    (λ c κs. search needs)
     returns
-    add-i
+    (λ c. search needs)
     add-at
-    loop-less
+    (λ c. search needs)
     loop-again
-    refused-requires-2
+    (λ c κs. search needs)
     returns-2
     returns-3)

@@ -11,8 +11,8 @@ use lib.Seq.{getD-set-same, getD-set-other, getD-append-seam}
 use Rattle.meaning.specs.Message.{Part}
 use Rattle.rows.specs.Packed.{low, high, highPair, namesIn, rolesIn, endsIn, ownersIn, firstsIn}
 use Rattle.rows.proofs.At.{name-at, role-at, end-at, owner-at, first-at}
-use Rattle.requirement.specs.Reading.{noPart, PartsHeld, RowsKept}
-use Rattle.requirement.proofs.Same.{Alike}
+use Rattle.readers.specs.Reading.{noPart, PartsHeld, RowsKept}
+use Rattle.readers.proofs.Same.{Alike}
 
 -- a store elsewhere
 pub set-above : (L : List ℕ) (i j a : ℕ) → j < i → getD (set L i a) j 0 ≡ getD L j 0

@@ -1,20 +1,11 @@
--- `listing::degree_row` meets its contract: the line of what the call answered.
+-- `entries::degree_row` meets its contract: the line of what the call answered.
 -- Assumes nothing.
 use borrow.Author.Needs.{needs}
-use Rattle.listing.proofs.degree_row.Statement.{statement}
-use Rattle.listing.proofs.degree_row.Tie as tie
-use Rattle.listing.proofs.Items.{degree-row-good, degree-row-refused}
-use Rattle.listing.proofs.Pieces.{begins, begins-as}
+use Rattle.entries.proofs.degree_row.Statement.{statement}
+use Rattle.entries.proofs.degree_row.Tie as tie
+use Rattle.entries.proofs.Answers.{degree-row-good, degree-row-refused}
+use Rattle.entries.proofs.Begins.{begins, begins-as}
 use native.Mathlib.Omega.{arith}
-
-slice-aggregate-degree-of : tie.Need-slice-aggregate-degree-of
-slice-aggregate-degree-of c = search needs
-
-degree-of-requires : tie.Need-degree-of-requires
-degree-of-requires c κs = search needs
-
-enum-known-a : tie.Need-enum-known-a
-enum-known-a c = search needs
 
 array-share-prefix-map : tie.Need-array-share-prefix-map
 array-share-prefix-map c =
@@ -33,15 +24,6 @@ put-degree-line-requires c κs =
     let row = degree-row-good _ _ _ _ _ (at-degree-of .degree-of .ensures .0) (at-degree-of .degree-of .ensures .1) _ _ _ (c .before .before .before .a .given .1) in
     (omega (arith, start .pre), omega (arith, row .2, row .3))
 
-enum-known-a-2 : tie.Need-enum-known-a-2
-enum-known-a-2 c = search needs
-
-put-refusal-requires : tie.Need-put-refusal-requires
-put-refusal-requires c κs = search needs
-
-same-length : tie.Need-same-length
-same-length c = search needs
-
 returns : tie.Need-returns
 returns c =
     let at-put-degree-line = c .before .before in
@@ -50,9 +32,6 @@ returns c =
     let start = at-degree-of .before .before .before .before .before in
     let row = degree-row-good _ _ _ _ _ (at-degree-of .degree-of .ensures .0) (at-degree-of .degree-of .ensures .1) _ _ _ (at-a .a .given .1) in
     begins-as (row .0) (begins (at-put-degree-line .put-degree-line .ensures .0) (omega (arith, start .pre, at-put-degree-line .put-degree-line .ensures .1)))
-
-same-length-2 : tie.Need-same-length-2
-same-length-2 c = search needs
 
 returns-2 : tie.Need-returns-2
 returns-2 c =
@@ -67,15 +46,15 @@ pub degree-row-spec : {M : Type 1} → statement M
 degree-row-spec =
     tie.close
     (tie.spec
-    slice-aggregate-degree-of
-    degree-of-requires
-    enum-known-a
+    (λ c. search needs)
+    (λ c κs. search needs)
+    (λ c. search needs)
     array-share-prefix-map
     slice-aggregate-put-degree-line
     put-degree-line-requires
-    enum-known-a-2
-    put-refusal-requires
-    same-length
+    (λ c. search needs)
+    (λ c κs. search needs)
+    (λ c. search needs)
     returns
-    same-length-2
+    (λ c. search needs)
     returns-2)

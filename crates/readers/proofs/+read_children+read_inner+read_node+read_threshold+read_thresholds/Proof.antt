@@ -3,37 +3,37 @@
 use Prim.Native.Nat.{ℕ, _<_}
 use borrow.Fn.Kinds.{In}
 use borrow.Fn.PlainCycle.{Measures, is, falls, and}
-use Rattle.requirement.proofs.read_children.Reads as read-children
-use Rattle.requirement.proofs.read_children.Kinds as read-children-kinds
-use Rattle.requirement.proofs.+read_children+read_inner+read_node+read_threshold+read_thresholds.Lts-read_children as read-children-lts
-use Rattle.requirement.proofs.read_inner.Reads as read-inner
-use Rattle.requirement.proofs.read_inner.Kinds as read-inner-kinds
-use Rattle.requirement.proofs.+read_children+read_inner+read_node+read_threshold+read_thresholds.Lts-read_inner as read-inner-lts
-use Rattle.requirement.proofs.read_node.Reads as read-node
-use Rattle.requirement.proofs.read_node.Kinds as read-node-kinds
-use Rattle.requirement.proofs.+read_children+read_inner+read_node+read_threshold+read_thresholds.Lts-read_node as read-node-lts
-use Rattle.requirement.proofs.read_threshold.Reads as read-threshold
-use Rattle.requirement.proofs.read_threshold.Kinds as read-threshold-kinds
-use Rattle.requirement.proofs.+read_children+read_inner+read_node+read_threshold+read_thresholds.Lts-read_threshold as read-threshold-lts
-use Rattle.requirement.proofs.read_thresholds.Reads as read-thresholds
-use Rattle.requirement.proofs.read_thresholds.Kinds as read-thresholds-kinds
-use Rattle.requirement.proofs.+read_children+read_inner+read_node+read_threshold+read_thresholds.Lts-read_thresholds as read-thresholds-lts
+use Rattle.readers.proofs.read_children.Reads as read-children
+use Rattle.readers.proofs.read_children.Kinds as read-children-kinds
+use Rattle.readers.proofs.+read_children+read_inner+read_node+read_threshold+read_thresholds.Lts-read_children as read-children-lts
+use Rattle.readers.proofs.read_inner.Reads as read-inner
+use Rattle.readers.proofs.read_inner.Kinds as read-inner-kinds
+use Rattle.readers.proofs.+read_children+read_inner+read_node+read_threshold+read_thresholds.Lts-read_inner as read-inner-lts
+use Rattle.readers.proofs.read_node.Reads as read-node
+use Rattle.readers.proofs.read_node.Kinds as read-node-kinds
+use Rattle.readers.proofs.+read_children+read_inner+read_node+read_threshold+read_thresholds.Lts-read_node as read-node-lts
+use Rattle.readers.proofs.read_threshold.Reads as read-threshold
+use Rattle.readers.proofs.read_threshold.Kinds as read-threshold-kinds
+use Rattle.readers.proofs.+read_children+read_inner+read_node+read_threshold+read_thresholds.Lts-read_threshold as read-threshold-lts
+use Rattle.readers.proofs.read_thresholds.Reads as read-thresholds
+use Rattle.readers.proofs.read_thresholds.Kinds as read-thresholds-kinds
+use Rattle.readers.proofs.+read_children+read_inner+read_node+read_threshold+read_thresholds.Lts-read_thresholds as read-thresholds-lts
 use Rattle.fixed.proofs.edge.Reads as edge-reads
 use Rattle.fixed.proofs.node.Reads as node-reads
 use Rattle.fixed.proofs.threshold.Reads as threshold-reads
 use Rattle.rows.proofs.packed.Reads as packed-reads
-use Rattle.requirement.proofs.size_in.Reads as size-in-reads
-use Rattle.requirement.proofs.+read_children+read_inner+read_node+read_threshold+read_thresholds.{statement}
-use Rattle.requirement.proofs.+read_children+read_inner+read_node+read_threshold+read_thresholds.Tie.{close}
+use Rattle.readers.proofs.size_in.Reads as size-in-reads
+use Rattle.readers.proofs.+read_children+read_inner+read_node+read_threshold+read_thresholds.{statement}
+use Rattle.readers.proofs.+read_children+read_inner+read_node+read_threshold+read_thresholds.Tie.{close}
 use mathlib.Core.Path.{subst}
 use Prim.Native.Nat.{_+_, _*_, _-_, _≤_}
 use native.Mathlib.Omega.{arith}
 use lib.ListN.{length-set}
 use Rattle.fixed.specs.Fixed.{NodeFixed, EdgeFixed, ThresholdFixed}
-use Rattle.requirement.proofs.Turns.{Children, child-read, children-begun, Thresholds, threshold-read, thresholds-begun}
-use Rattle.requirement.proofs.Cycle.{children-empty, edge-stops, child-stops, fixed-stops, node-stops, children-here, children-stop}
-use Rattle.requirement.proofs.Cycle.{children-end, node-then, thresholds-empty, first-stops, fields-stop, inner-stops, threshold-then}
-use Rattle.requirement.proofs.Cycle.{inner-first, inner-short, inner-rows, inner-big, inner-whole}
+use Rattle.readers.proofs.Turns.{Children, child-read, children-begun, Thresholds, threshold-read, thresholds-begun}
+use Rattle.readers.proofs.Cycle.{children-empty, edge-stops, child-stops, fixed-stops, node-stops, children-here, children-stop}
+use Rattle.readers.proofs.Cycle.{children-end, node-then, thresholds-empty, first-stops, fields-stop, inner-stops, threshold-then}
+use Rattle.readers.proofs.Cycle.{inner-first, inner-short, inner-rows, inner-big, inner-whole}
 use borrow.Author.Needs.{needs}
 
 abbrev μ-read-children : Measures 2 read-children-kinds.ps ℕ

@@ -1,21 +1,12 @@
--- `requirement::size_in` meets its contract: the arrays that stand in the rows hold the tree.
+-- `readers::size_in` meets its contract: the arrays that stand in the rows hold the tree.
 -- Assumes nothing.
 use borrow.Author.Needs.{needs}
-use Rattle.requirement.proofs.size_in.Statement.{statement}
-use Rattle.requirement.proofs.size_in.Tie as tie
+use Rattle.readers.proofs.size_in.Statement.{statement}
+use Rattle.readers.proofs.size_in.Tie as tie
 use mathlib.Core.Path.{_≡_, sym}
 use Rattle.meaning.specs.Reduce.{reduce, size}
 use Rattle.reduction.specs.Held.{Held, ForTree}
-use Rattle.requirement.proofs.Places.{same-rows}
-
-names-requires : tie.Need-names-requires
-names-requires c κs = search needs
-
-roles-requires : tie.Need-roles-requires
-roles-requires c κs = search needs
-
-ends-requires : tie.Need-ends-requires
-ends-requires c κs = search needs
+use Rattle.readers.proofs.Places.{same-rows}
 
 reduced-size-requires : tie.Need-reduced-size-requires
 reduced-size-requires c κs =
@@ -32,4 +23,4 @@ returns c =
 
 pub size-in-spec : {M : Type 1} → statement M
 size-in-spec =
-    tie.close (tie.spec names-requires roles-requires ends-requires reduced-size-requires returns)
+    tie.close (tie.spec (λ c κs. search needs) (λ c κs. search needs) (λ c κs. search needs) reduced-size-requires returns)

@@ -11,9 +11,9 @@ use Rattle.meaning.specs.declared.Side.the-variants.{Requirement as requirement
 use Rattle.meaning.specs.declared.Refusal.{Refusal}
 use Rattle.meaning.specs.Refusal.{Answer, good, refused, at}
 use Rattle.meaning.specs.Message.{Spot}
-use Rattle.requirement.specs.declared.Reached.{Reached}
-use Rattle.requirement.specs.declared.Reached.the-variants.{Good, Refused}
-use Rattle.requirement.specs.Reading.{refusalOf, ReadGood, Outcome, PartsGood, PartsOutcome}
+use Rattle.readers.specs.declared.Reached.{Reached}
+use Rattle.readers.specs.declared.Reached.the-variants.{Good, Refused}
+use Rattle.readers.specs.Reading.{refusalOf, ReadGood, Outcome, PartsGood, PartsOutcome}
 
 -- a refusal in hand is the one in the document's words
 fault : (r : Reached) (e : Refusal) (n p : ℕ) → refusalOf r ≡ some e → r ≡ Refused n p → e ≡ at requirement n p

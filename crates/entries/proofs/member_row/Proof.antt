@@ -1,20 +1,11 @@
--- `listing::member_row` meets its contract: the line of what the call answered.
+-- `entries::member_row` meets its contract: the line of what the call answered.
 -- Assumes nothing.
 use borrow.Author.Needs.{needs}
-use Rattle.listing.proofs.member_row.Statement.{statement}
-use Rattle.listing.proofs.member_row.Tie as tie
-use Rattle.listing.proofs.Items.{member-row-yes, member-row-no, member-row-refused}
-use Rattle.listing.proofs.Pieces.{begins, begins-as}
+use Rattle.entries.proofs.member_row.Statement.{statement}
+use Rattle.entries.proofs.member_row.Tie as tie
+use Rattle.entries.proofs.Answers.{member-row-yes, member-row-no, member-row-refused}
+use Rattle.entries.proofs.Begins.{begins, begins-as}
 use native.Mathlib.Omega.{arith}
-
-slice-aggregate-decide : tie.Need-slice-aggregate-decide
-slice-aggregate-decide c = search needs
-
-decide-requires : tie.Need-decide-requires
-decide-requires c κs = search needs
-
-enum-known-v : tie.Need-enum-known-v
-enum-known-v c = search needs
 
 array-share-prefix-map : tie.Need-array-share-prefix-map
 array-share-prefix-map c =
@@ -33,21 +24,6 @@ put-yes-line-requires c κs =
     let row = member-row-yes _ _ _ _ _ (at-decide .decide .ensures .0) (at-decide .decide .ensures .1) _ (c .before .before .before .v .given .1) in
     (omega (arith, start .pre), omega (arith, row .2, row .3))
 
-enum-told : tie.Need-enum-told
-enum-told c = search needs
-
-put-no-line-requires : tie.Need-put-no-line-requires
-put-no-line-requires c κs = search needs
-
-enum-known-v-2 : tie.Need-enum-known-v-2
-enum-known-v-2 c = search needs
-
-put-refusal-requires : tie.Need-put-refusal-requires
-put-refusal-requires c κs = search needs
-
-same-length : tie.Need-same-length
-same-length c = search needs
-
 returns : tie.Need-returns
 returns c =
     let at-put-yes-line = c .before .before in
@@ -57,9 +33,6 @@ returns c =
     let row = member-row-yes _ _ _ _ _ (at-decide .decide .ensures .0) (at-decide .decide .ensures .1) _ (at-v .v .given .1) in
     begins-as (row .0) (begins (at-put-yes-line .put-yes-line .ensures .0) (omega (arith, start .pre, at-put-yes-line .put-yes-line .ensures .1)))
 
-same-length-2 : tie.Need-same-length-2
-same-length-2 c = search needs
-
 returns-2 : tie.Need-returns-2
 returns-2 c =
     let at-put-no-line = c .before .before in
@@ -68,9 +41,6 @@ returns-2 c =
     let start = at-decide .before .before .before .before .before in
     let row = member-row-no _ _ _ _ _ (at-decide .decide .ensures .0) (at-decide .decide .ensures .1) (at-enum-told .enum-told .given .1) in
     begins-as row (begins (at-put-no-line .put-no-line .ensures .0) (omega (arith, start .pre, at-put-no-line .put-no-line .ensures .1)))
-
-same-length-3 : tie.Need-same-length-3
-same-length-3 c = search needs
 
 returns-3 : tie.Need-returns-3
 returns-3 c =
@@ -85,19 +55,19 @@ pub member-row-spec : {M : Type 1} → statement M
 member-row-spec =
     tie.close
     (tie.spec
-    slice-aggregate-decide
-    decide-requires
-    enum-known-v
+    (λ c. search needs)
+    (λ c κs. search needs)
+    (λ c. search needs)
     array-share-prefix-map
     slice-aggregate-put-yes-line
     put-yes-line-requires
-    enum-told
-    put-no-line-requires
-    enum-known-v-2
-    put-refusal-requires
-    same-length
+    (λ c. search needs)
+    (λ c κs. search needs)
+    (λ c. search needs)
+    (λ c κs. search needs)
+    (λ c. search needs)
     returns
-    same-length-2
+    (λ c. search needs)
     returns-2
-    same-length-3
+    (λ c. search needs)
     returns-3)

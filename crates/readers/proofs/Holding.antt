@@ -9,10 +9,10 @@ use lib.Seq.{getD-set-same}
 use Rattle.meaning.specs.Tree.{node, Forest, more, Concept}
 use Rattle.meaning.specs.Rows.{Holds, HoldsF}
 use Rattle.rows.specs.Packed.{low, high, namesIn, rolesIn, endsIn}
-use Rattle.requirement.specs.Reading.{Kept, RowsKept, NodeHeld, ForestHeld}
-use Rattle.requirement.proofs.Same.{tree-some, tree-same, forest-same}
+use Rattle.readers.specs.Reading.{Kept, RowsKept, NodeHeld, ForestHeld}
+use Rattle.readers.proofs.Same.{tree-some, tree-same, forest-same}
 use Rattle.rows.proofs.At.{name-at, role-at, end-at}
-use Rattle.requirement.proofs.Places.{set-above, set-below, names-alike, roles-alike, ends-alike}
+use Rattle.readers.proofs.Places.{set-above, set-below, names-alike, roles-alike, ends-alike}
 
 pub tree-ends : (B : List ℕ) (left n m : ℕ) (t : Concept) → Holds (namesIn B) (rolesIn B) (endsIn B) t left n m → getD (endsIn B) n 0 ≡ m
 unfolding Holds

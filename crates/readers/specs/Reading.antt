@@ -15,9 +15,9 @@ use Rattle.meaning.specs.Tree.{Forest, Concept}
 use Rattle.meaning.specs.Bounds.{mostNodes, mostThresholds}
 use Rattle.meaning.specs.Message.{Part, Spot, readThreshold, readThresholds}
 use Rattle.meaning.specs.Rows.{Holds, HoldsF}
-use Rattle.requirement.specs.declared.Reached.{Reached}
-use Rattle.requirement.specs.declared.Reached.the-variants.{Good, Refused}
-pub use Rattle.fixed.specs.Readers.{spot, Here, nodeIn, childrenIn, wholeInner}
+use Rattle.readers.specs.declared.Reached.{Reached}
+use Rattle.readers.specs.declared.Reached.the-variants.{Good, Refused}
+pub use Rattle.fixed.specs.Spots.{spot, Here, nodeIn, childrenIn, wholeInner}
 use Rattle.rows.specs.Packed.{namesIn, rolesIn, endsIn, ownersIn, firstsIn}
 
 -- ---- where a reader starts, and the rows

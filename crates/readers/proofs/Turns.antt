@@ -8,11 +8,11 @@ use Prim.Native.Nat.{ℕ, _+_, _-_, _≤_, _<_}
 use native.Mathlib.Nat.{le-refl}
 use native.Mathlib.Omega.{arith}
 use lib.ListN.{length}
-use Rattle.requirement.specs.declared.Reached.{Reached}
-use Rattle.requirement.specs.declared.Reached.the-variants.{Good}
-use Rattle.requirement.specs.Reading.{Start, NodeDone, ChildrenDone, ThresholdDone, ThresholdsDone}
+use Rattle.readers.specs.declared.Reached.{Reached}
+use Rattle.readers.specs.declared.Reached.the-variants.{Good}
+use Rattle.readers.specs.Reading.{Start, NodeDone, ChildrenDone, ThresholdDone, ThresholdsDone}
 use Rattle.fixed.specs.Fixed.{EdgeOpen}
-use Rattle.requirement.proofs.Cycle.{child-here, children-then, others-here, thresholds-then}
+use Rattle.readers.proofs.Cycle.{child-here, children-then, others-here, thresholds-then}
 
 -- ---- children
 
