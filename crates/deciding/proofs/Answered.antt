@@ -31,7 +31,7 @@ use Rattle.requirement.specs.declared.Message.{Message}
 use Rattle.requirement.specs.declared.Message.the-variants.{Good as GoodMessage, Refused as RefusedMessage}
 use Rattle.rows.specs.Packed.{namesIn, rolesIn, endsIn, ownersIn, firstsIn}
 use Rattle.requirement.specs.Message.{MessageGood, MessageOutcome, MessageDone}
-use Rattle.requirement.proofs.Places.{same-rows}
+use Rattle.readers.proofs.Places.{same-rows}
 use Rattle.deciding.specs.declared.Verdict.{Verdict}
 use Rattle.deciding.specs.declared.Verdict.the-variants.{Yes, No, Refused}
 use Rattle.meeting.specs.Case.{Settled}

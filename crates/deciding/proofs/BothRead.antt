@@ -20,7 +20,7 @@ use Rattle.meaning.proofs.Rows.{opened}
 use Rattle.meaning.proofs.MessageLabel.{PartAt, decoded, lawful-open, inner-read, sound-inner}
 use Rattle.meaning.proofs.Message.{Accepted, read-back, accepted-length, parts-stand, partsIn}
 use Rattle.register.specs.Image.{OfSize}
-use Rattle.requirement.specs.Reading.{noPart}
+use Rattle.readers.specs.Reading.{noPart}
 use Rattle.graph.specs.Judged.{Judged}
 use Rattle.screening.specs.Standing.{noThreshold, StandsAt, AllStand, Ruled}
 use Rattle.graph.proofs.Use.{one-register}

@@ -16,7 +16,7 @@ use Rattle.meaning.specs.Rows.{Holds}
 use Rattle.meaning.proofs.MessageTree.{partsOf, partsOfF}
 use Rattle.meaning.proofs.MessageLabel.{partsAt, at-length, outerKind}
 use Rattle.meaning.proofs.Message.{partsIn, parts-length}
-use Rattle.requirement.specs.Reading.{noPart}
+use Rattle.readers.specs.Reading.{noPart}
 use Rattle.screening.specs.Standing.{noThreshold, Ruled}
 use Rattle.deciding.proofs.Owners.{many, manyF, Own, Listed, ListedF, ruled-all}
 

@@ -11,7 +11,7 @@ use Rattle.meaning.specs.Register.{Register, readRegister, readBuffer}
 use Rattle.meaning.specs.Requirement.{Requirement, bare}
 use Rattle.meaning.specs.Message.{Part, readRequirement}
 use Rattle.meaning.specs.Rows.{Holds}
-use Rattle.requirement.specs.Reading.{noPart}
+use Rattle.readers.specs.Reading.{noPart}
 
 -- a whole image, of so many items and links
 pub record Imaged (image : List ℕ) (items links : ℕ) : Type 0 where

@@ -1,5 +1,5 @@
 // The listing program: reads one register and then one requirement from standard input, and prints a line for each item.
-// All that is printed is worked out by `listing::plan` and `listing::row`, whose promises name every byte; what stands here is reading and writing.
+// All that is printed is worked out by `listing::plan` and `entries::row`, whose promises name every byte; what stands here is reading and writing.
 // Where either fails, one line on standard error says so: the kit has no exit status.
 mod standard;
 
@@ -13,7 +13,7 @@ fn print_row(input: &[u8], end: usize, degrees: bool, item: usize) -> bool
     requires { ⌜ end ≤ length (now input) ⌝ }
 {
     let mut line = [0u8; lines::ROOM];
-    let k = listing::row(&mut line, input, end, degrees, item);
+    let k = entries::row(&mut line, input, end, degrees, item);
     io::write_all(libc::STDOUT_FILENO, &line[..k])
 }
 

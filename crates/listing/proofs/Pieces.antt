@@ -1,33 +1,23 @@
--- The pieces of a listing: a line at the front of a buffer, a plan of what is printed, and that whatever the promises of `plan` and `row` allow to be
+-- The pieces of a listing: a plan of what is printed, and that whatever the promises of `plan` and `row` allow to be
 -- printed is the listing (`pieces-are`): so any two results that they allow print the same (`one-listing`).
 -- Assumes nothing.
-use mathlib.Core.Path.{_≡_, refl, sym, ap, ap₂, subst, _∙_}
+use mathlib.Core.Path.{_≡_, refl, sym, ap, subst, _∙_}
 use mathlib.Core.Bool.{Bool, true, false}
-use mathlib.Core.List.{List, [], _∷_, _++_, append-nil}
-use Prim.Native.Nat.{ℕ, zero, suc, _+_, _-_, _≤_, _<_}
+use mathlib.Core.List.{List, [], _++_, append-nil}
+use Prim.Native.Nat.{ℕ, _+_, _-_, _≤_, _<_}
 use native.Mathlib.Omega.{arith}
 use lib.ListN.{length, take, drop, length-drop}
-use lib.Seq.{length-sets, take-all, length-take-le}
+use lib.Seq.{take-all, length-take-le}
 use lib.Dec.{ltb, ltb→lt}
 use Rattle.meaning.specs.Bounds.{mostItems}
 use Rattle.meaning.proofs.Tests.{holds}
 use Rattle.meaning.proofs.Reading.{le-of-not-below}
 use Rattle.fields.proofs.Once.{itself, once}
-use Rattle.lines.specs.Text.{Wrote}
+use Rattle.entries.proofs.Begins.{begins-as}
 use Rattle.listing.specs.declared.Outline.{Outline}
 use Rattle.listing.specs.Listing.{rowOf, lines, listingOf, printed, registerEnd, tooLong, mostInput, listing}
 use Rattle.listing.specs.Pieces.{Begins, Opens, Planned}
-use Rattle.listing.proofs.Items.{front, lines-none, same-lines, too-long, not-too-long}
-
--- a text that was written from the first byte on
-pub begins : {old new text : List ℕ} {r : ℕ} → Wrote old new 0 text r → r ≤ length old → Begins new text r
-begins {old} {new} {text} {r} w l = record {
-  fits = omega (arith, ap length (w .bytes) ∙ length-sets old 0 text);
-  is = ap (take r) (w .bytes) ∙ front old text r (omega (arith, w .next)) l;
-}
-
-pub begins-as : {buffer text said : List ℕ} {r : ℕ} → said ≡ text → Begins buffer text r → Begins buffer said r
-begins-as {buffer} {r = r} e b = subst (λ (t : List ℕ). Begins buffer t r) (sym e) b
+use Rattle.listing.proofs.Items.{lines-none, same-lines, too-long, not-too-long}
 
 -- a head, and then rows
 pub opens : (image message text buffer head : List ℕ) (p : Outline) → Begins buffer head (p .first) → p .rows ≤ mostItems → p .end ≡ length image
@@ -47,13 +37,6 @@ opens-line image message text buffer p b none e =
 
 pub opens-as : {image message text said buffer : List ℕ} {p : Outline} → said ≡ text → Opens image message text buffer p → Opens image message said buffer p
 opens-as {image} {message} {buffer = buffer} {p = p} e o = subst (λ (t : List ℕ). Opens image message t buffer p) (sym e) o
-
--- a row, by the bytes that the program hands over
-pub row-split : (b d : Bool) (s : List ℕ) (end item : ℕ) → b ≡ d
-    → rowOf b (take end s) (drop end s) item ≡ rowOf d (take end s) (take (length s - end) (drop end s)) item
-row-split b d s end item e =
-    let rest : take (length s - end) (drop end s) ≡ drop end s = take-all (length s - end) (drop end s) (omega (arith, length-drop end s)) in
-    ap (λ (x : Bool). rowOf x (take end s) (drop end s) item) e ∙ ap (λ (m : List ℕ). rowOf d (take end s) m item) (sym rest)
 
 -- ---- an input
 

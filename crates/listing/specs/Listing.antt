@@ -1,6 +1,6 @@
 -- What the listing program prints, as document 01 has it at the end of "Sheet of examples".
 -- Assumes nothing.
-use mathlib.Core.Bool.{Bool, true, false, cond}
+use mathlib.Core.Bool.{true, false, cond}
 use mathlib.Core.List.{List, [], _∷_, _++_}
 use Prim.Native.Nat.{ℕ, zero, suc, _+_, min}
 use lib.Dec.{ltb}
@@ -9,9 +9,10 @@ use Rattle.meaning.specs.Refusal.{Answer, good, refused, _>>=_}
 use Rattle.meaning.specs.Bytes.{number}
 use Rattle.meaning.specs.Register.{readRegister}
 use Rattle.meaning.specs.Message.{Part, readRequirement}
-use Rattle.meaning.specs.Calls.{Found, degreeCall, Decision, met, unmet, memberCall}
+use Rattle.meaning.specs.Calls.{degreeCall}
 use Rattle.meaning.specs.Bounds.{mostNodes}
-use Rattle.lines.specs.Lines.{refusalLine, degreeLine, yesLine, noLine}
+use Rattle.lines.specs.Lines.{refusalLine}
+pub use Rattle.entries.specs.Entries.{degreeRow, memberRow, rowOf}
 
 -- ---- the words, in bytes
 
@@ -34,21 +35,7 @@ unfoldable pub lines : (ℕ → List ℕ) → ℕ → List ℕ
 lines line zero = []
 lines line (suc n) = lines line n ++ line n
 
--- ---- the listing: what the calls answer for each item, whose maps have room for all 64 nodes
-
-abbrev pub degreeRow : ℕ → Answer Found → List ℕ
-degreeRow i (good a) = degreeLine i (a .degree) (a .map)
-degreeRow i (refused r) = refusalLine r
-
-abbrev pub memberRow : ℕ → Answer Decision → List ℕ
-memberRow i (good (met m)) = yesLine i m
-memberRow i (good unmet) = noLine i
-memberRow i (refused r) = refusalLine r
-
--- an item's row, of degrees or of yes and no
-abbrev pub rowOf : Bool → List ℕ → List ℕ → ℕ → List ℕ
-rowOf true image message i = degreeRow i (degreeCall image message i mostNodes)
-rowOf false image message i = memberRow i (memberCall image message i mostNodes)
+-- ---- the listing
 
 abbrev pub degreeRows : List ℕ → List ℕ → ℕ → List ℕ
 degreeRows image message n = lines (rowOf true image message) n

@@ -5,13 +5,9 @@ use mathlib.Core.List.{List, _++_}
 use Prim.Native.Nat.{ℕ, _≤_}
 use lib.ListN.{length, take, drop}
 use Rattle.meaning.specs.Bounds.{mostItems}
+pub use Rattle.entries.specs.Entries.{Begins}
 use Rattle.listing.specs.declared.Outline.{Outline}
 use Rattle.listing.specs.Listing.{rowOf, lines, listing}
-
--- the first r bytes of a buffer are the text
-pub record Begins (buffer text : List ℕ) (r : ℕ) : Type 0 where
-  pub fits : r ≤ length buffer
-  pub is : take r buffer ≡ text
 
 -- the text is what the buffer begins with, and then the rows of an image and a message
 pub record Opens (image message text buffer : List ℕ) (p : Outline) : Type 0 where

@@ -9,10 +9,10 @@ use Rattle.meaning.specs.Refusal.{Answer}
 use Rattle.meaning.specs.Tree.{Concept, nodes}
 use Rattle.meaning.specs.Message.{Spot}
 use Rattle.meaning.specs.Rows.{Holds}
-use Rattle.requirement.specs.declared.Reached.{Reached}
+use Rattle.readers.specs.declared.Reached.{Reached}
 use Rattle.rows.specs.Packed.{namesIn, rolesIn, endsIn}
-use Rattle.requirement.specs.Reading.{Outcome, ReadGood, NodeHeld, NodeDone}
-use Rattle.requirement.proofs.Places.{no-parts}
+use Rattle.readers.specs.Reading.{Outcome, ReadGood, NodeHeld, NodeDone}
+use Rattle.readers.proofs.Places.{no-parts}
 use Rattle.requirement.proofs.Whole.{tree-rows}
 use Rattle.parts.specs.Inner.{ConceptDone}
 

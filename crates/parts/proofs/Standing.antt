@@ -18,7 +18,7 @@ use Rattle.meaning.proofs.Message.{Accepted, read-back, parts-stand, parts-insi
 use Rattle.requirement.specs.declared.Message.{Message}
 use Rattle.requirement.specs.declared.Message.the-variants.{Good as GoodMessage, Refused as RefusedMessage}
 use Rattle.rows.specs.Packed.{firstsIn}
-use Rattle.requirement.specs.Reading.{PartsHeld, noPart}
+use Rattle.readers.specs.Reading.{PartsHeld, noPart}
 use Rattle.requirement.specs.Message.{MessageOutcome, MessageDone}
 use Rattle.parts.specs.declared.Place.{Place}
 use Rattle.parts.specs.Inner.{placeAmong, innerPlace}

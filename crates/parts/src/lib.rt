@@ -5,7 +5,7 @@ ghost use Prim.Native.Nat.{_+_, _≤_};
 ghost use lib.ListN.{length};
 ghost use Rattle.meaning.specs.Message.{readRequirement, innerPart};
 ghost use Rattle.rows.specs.Packed.{namesIn, rolesIn, endsIn};
-ghost use Rattle.requirement.specs.Reading.{Here};
+ghost use Rattle.readers.specs.Reading.{Here};
 ghost use Rattle.parts.specs.Inner.{innerPlace, ConceptDone};
 
 // Where the k-th inner concept stands in a message: its first byte and its length, and no bytes where the message is refused or has no k-th.
@@ -53,5 +53,5 @@ pub fn read_concept(s: &[u8], at: usize, stop: usize, rows: &mut [u64])
     requires { ⌜ 144 ≤ length (now rows) ⌝ }
     ensures { λ _. ⌜ ConceptDone (now (s .entry)) stop at (namesIn (now (rows .exit))) (rolesIn (now (rows .exit))) (endsIn (now (rows .exit))) ⌝ }
 {
-    requirement::read_node(s, stop, at, meaning::MOST_LEVELS, true, 0, 0, 0, rows);
+    readers::read_node(s, stop, at, meaning::MOST_LEVELS, true, 0, 0, 0, rows);
 }

@@ -27,9 +27,9 @@ use Rattle.reduction.proofs.Held.{held}
 use Rattle.requirement.specs.declared.Message.{Message}
 use Rattle.requirement.specs.declared.Message.the-variants.{Good as GoodMessage, Refused as RefusedMessage}
 use Rattle.rows.specs.Packed.{namesIn, rolesIn, endsIn, firstsIn}
-use Rattle.requirement.specs.Reading.{noPart}
+use Rattle.readers.specs.Reading.{noPart}
 use Rattle.requirement.specs.Message.{MessageGood, MessageOutcome, MessageDone}
-use Rattle.requirement.proofs.Places.{same-rows}
+use Rattle.readers.proofs.Places.{same-rows}
 use Rattle.plain.specs.declared.Plain.{Plain}
 use Rattle.plain.specs.declared.Plain.the-variants.{Good as GoodPlain, Refused as RefusedPlain}
 use Rattle.plain.specs.Reading.{Rows, rows, plainRefused, PlainOutcome, PlainDone}

@@ -1,5 +1,4 @@
--- The links of a register rise, in where they lead from and in their numbers. So those of one item stand together, and a search by halves finds where
--- they begin.
+-- The links of a register rise, in where they lead from and in their numbers. So those of one item stand together.
 -- Assumes nothing.
 use mathlib.Core.Path.{_≡_, sym, _∙_, subst}
 use mathlib.Core.Bool.{Bool, _&&_, _||_}
@@ -20,8 +19,7 @@ use Rattle.meaning.proofs.Image.{right, image-fits}
 use Rattle.meaning.proofs.SessionLinks.{Sound}
 use Rattle.register.specs.Image.{Asked, Image, noLink, linkNo, Begins}
 use Rattle.register.specs.Reading.{key, Small}
-use Rattle.register.proofs.Rising.{rises-key}
-use Rattle.register.proofs.Halves.{Narrowed}
+use Rattle.links.proofs.Rising.{rises-key}
 
 -- what is asked holds of the register that was read
 pub asked-image : {s : List ℕ} {P : Register → Type 0} → Asked s P → Image s P
@@ -75,16 +73,6 @@ module _ (s : List ℕ) (b : Bytes s) (g : Register) (h : readBuffer s ≡ good 
 
       up : (l m : Link) → Sound (length (g .names)) l → Sound (length (g .names)) m → T (rises l m) → key l ≤ key m
       up l m o u t = let q = leb→le (key l + 1) (key m) (subst T (rises-key l m (small l o) (small m u)) t) in omega arith
-
--- ---- the search for the links of an item
-
-pub narrowed-all : (ls : List Link) (item low high : ℕ) → Narrowed (λ j. getD ls j noLink .from) (length ls) item low high → low ≡ high → high ≤ length ls
-    → Begins ls item low
-narrowed-all ls item low high w e h = record {
-  within = omega arith;
-  before = w .before;
-  behind = λ j k l. w .behind j (omega arith) l;
-}
 
 -- the links of the first item begin at the first link
 pub begins-first : (ls : List Link) → Begins ls 0 0

@@ -1,6 +1,4 @@
-pub mod Rising
-pub mod OneLink
-pub mod Links
+pub mod Behind
 pub mod Body
 pub mod Whole
 pub mod Facts

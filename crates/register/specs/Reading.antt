@@ -1,22 +1,19 @@
 -- What the readers of an image answer, in the document's words.
 -- Assumes nothing.
 use mathlib.Core.Path.{_≡_}
-use mathlib.Core.Bool.{Bool, cond}
+use mathlib.Core.Bool.{Bool}
 use mathlib.Core.List.{List}
-use mathlib.Core.Option.{Option, some}
 use mathlib.Core.Option.{none as nowhere}
-use Prim.Native.Nat.{ℕ, _+_, _*_, _/_, _%_, _≤_, _<_}
+use Prim.Native.Nat.{ℕ, _+_, _*_}
 use lib.Dec.{ltb}
 use lib.ListN.{length}
 use Rattle.meaning.specs.declared.Side.the-variants.{Register as register}
 use Rattle.meaning.specs.Refusal.{Answer, good, refused, at, refuseIf, _>>=_, _>>_}
-use Rattle.meaning.specs.Bounds.{mostRole}
-use Rattle.meaning.specs.Register.{Link, Register, readLinks, readRegisterBy}
+use Rattle.meaning.specs.Register.{Register, readLinks, readRegisterBy}
 use Rattle.fields.specs.Head.{wrongIn}
 use Rattle.register.specs.declared.Reading.{Reading}
 use Rattle.register.specs.declared.Reading.the-variants.{Good, Refused}
-use Rattle.register.specs.declared.Linked.{Linked}
-use Rattle.register.specs.declared.Linked.the-variants.{Good as GoodLink, Refused as RefusedLink}
+pub use Rattle.links.specs.Links.{key, Small}
 
 -- how many items and links
 pub record Counts : Type 0 where
@@ -40,45 +37,6 @@ ReadPromise s session r = paperReading r ≡ counted (readRegisterBy (wrongIn se
 
 abbrev pub refusedAt : ℕ → ℕ → Reading
 refusedAt n p = Refused (at register n p)
-
--- ---- links
-
--- the number of a link's five bytes: it rises with (from, role, to)
-abbrev pub key : Link → ℕ
-key l = (l .from * 256 + l .role) * 65536 + l .to
-
--- the fields behind `from` are small enough not to reach into it
-abbrev pub Small : Link → Type 0
-Small l = (l .role ≤ mostRole) × (l .to < 65536)
-
--- the least number that a link behind this one may have
-abbrev pub Floor : Option Link → ℕ → Type 0
-Floor nowhere f = f ≡ 0
-Floor (some l) f = (f ≡ key l + 1) × (l .role ≤ mostRole) × (l .to < 65536)
-
-abbrev pub paperLink : Linked → Answer ℕ
-paperLink (GoodLink f) = good f
-paperLink (RefusedLink n p) = refused (at register n p)
-
-unfoldable pub keyed : Answer Link → Answer ℕ
-keyed a = a >>= λ l. good (key l + 1)
-
--- a link that was read lies before the end
-abbrev pub Passed : ℕ → ℕ → Linked → Type 0
-Passed p end (GoodLink f) = p + 5 ≤ end
-Passed p end (RefusedLink k q) = Unit {0}
-
--- a link's number passes every test, among n items
-abbrev pub Right : ℕ → ℕ → ℕ → Type 0
-Right k n floor = (floor ≤ k) × (k < n * 16777216) × (k % 65536 < n) × (k / 65536 % 256 ≤ mostRole)
-
--- m links from place p on are read
-abbrev pub AllRead : List ℕ → ℕ → ℕ → ℕ → ℕ → Type 0
-AllRead s end n m p = (ls : List Link) × (readLinks s end n m nowhere p ≡ good ls)
-
--- the first field of a link that does not fit into so much room
-abbrev pub cutAt : ℕ → ℕ → Linked
-cutAt room p = RefusedLink 1 (cond (ltb room 2) p (cond (ltb room 3) (p + 2) (p + 3)))
 
 -- the links of n items from place p on, and that nothing is left behind them
 unfoldable pub linksAnswer : List ℕ → ℕ → ℕ → ℕ → ℕ → Answer Counts

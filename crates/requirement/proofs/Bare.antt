@@ -13,7 +13,7 @@ use Rattle.meaning.specs.Tree.{Tree, node, Forest, none, more, Concept, relabel
 use Rattle.meaning.specs.Requirement.{Label}
 use Rattle.meaning.specs.Message.{Spot, passed, readChildren, readNode, withThresholds}
 use Rattle.meaning.specs.Bounds.{mostNodes}
-use Rattle.requirement.specs.Reading.{labelIn, nodeIn}
+use Rattle.fixed.specs.Spots.{labelIn, nodeIn}
 
 -- ---- steps put together otherwise
 

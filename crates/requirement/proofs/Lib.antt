@@ -1,11 +1,3 @@
-pub mod Same
-pub mod Outcomes
-pub mod Nodes
-pub mod Thresholds
-pub mod Places
-pub mod Holding
-pub mod Cycle
 pub mod Bare
 pub mod Whole
-pub mod Turns
 pub mod Promise

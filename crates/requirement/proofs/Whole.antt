@@ -17,15 +17,15 @@ use Rattle.meaning.specs.Requirement.{Label, Requirement, bare}
 use Rattle.meaning.specs.Message.{Part, Spot, readNode, withThresholds, readRequirement}
 use Rattle.meaning.specs.Rows.{Holds, HoldsF}
 use Rattle.meaning.proofs.Reading.{number-below, pass, stop, stopped, took, taken, below, not-below, good-inj}
-use Rattle.requirement.specs.declared.Reached.{Reached}
-use Rattle.requirement.specs.declared.Reached.the-variants.{Good, Refused}
+use Rattle.readers.specs.declared.Reached.{Reached}
+use Rattle.readers.specs.declared.Reached.the-variants.{Good, Refused}
 use Rattle.requirement.specs.declared.Message.{Message}
 use Rattle.requirement.specs.declared.Message.the-variants.{Good as GoodMessage}
 use Rattle.rows.specs.Packed.{namesIn, rolesIn, endsIn}
-use Rattle.requirement.specs.Reading.{spot, PartsHeld, nodeIn, Outcome, ReadGood, NodeHeld, NodeDone}
+use Rattle.readers.specs.Reading.{spot, PartsHeld, nodeIn, Outcome, ReadGood, NodeHeld, NodeDone}
 use Rattle.requirement.specs.Message.{refusedAt, MessageOutcome, MessageDone, paperMessage, counted}
-use Rattle.requirement.proofs.Outcomes.{outcome-refused, outcome-good}
-use Rattle.requirement.proofs.Places.{no-parts}
+use Rattle.readers.proofs.Outcomes.{outcome-refused, outcome-good}
+use Rattle.readers.proofs.Places.{no-parts}
 use Rattle.requirement.proofs.Bare.{names, bareTree, bare-node}
 
 -- a tree without its thresholds has as many nodes

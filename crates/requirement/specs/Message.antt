@@ -14,7 +14,7 @@ use Rattle.meaning.specs.Rows.{Holds}
 use Rattle.requirement.specs.declared.Message.{Message}
 use Rattle.requirement.specs.declared.Message.the-variants.{Good, Refused}
 use Rattle.rows.specs.Packed.{namesIn, rolesIn, endsIn}
-use Rattle.requirement.specs.Reading.{PartsHeld}
+use Rattle.readers.specs.Reading.{PartsHeld}
 
 abbrev pub refusedAt : ℕ → ℕ → Message
 refusedAt n p = Refused (at requirement n p)

@@ -25,8 +25,8 @@ use Rattle.meaning.proofs.InPlace.{scale-in, degree-in}
 use Rattle.reduction.specs.Held.{Held}
 use Rattle.reduction.specs.Marks.{MarkedWhole}
 use Rattle.rows.specs.Packed.{namesIn, rolesIn, endsIn}
-use Rattle.requirement.specs.Reading.{Here}
-use Rattle.requirement.proofs.Places.{same-rows}
+use Rattle.readers.specs.Reading.{Here}
+use Rattle.readers.proofs.Places.{same-rows}
 use Rattle.parts.specs.Inner.{ConceptDone}
 use Rattle.graph.specs.Judged.{Judged}
 use Rattle.graph.specs.Sets.{inSet}

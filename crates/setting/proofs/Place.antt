@@ -19,7 +19,7 @@ use Rattle.meaning.proofs.Links.{same-link, Below, rises-below, all-below}
 use Rattle.meaning.proofs.SessionLinks.{among, among-member, below-both}
 use Rattle.register.specs.Reading.{key, Small}
 use Rattle.register.specs.Image.{noLink}
-use Rattle.register.proofs.Rising.{rises-key}
+use Rattle.links.proofs.Rising.{rises-key}
 use Rattle.setting.specs.Setting.{PlaceOf}
 
 -- a link's number says which it is

@@ -4,14 +4,8 @@ use borrow.Author.Needs.{needs}
 use Rattle.listing.proofs.only.Statement.{statement}
 use Rattle.listing.proofs.only.Tie as tie
 use mathlib.Core.Path.{refl}
-use Rattle.listing.proofs.Pieces.{begins}
+use Rattle.entries.proofs.Begins.{begins}
 use native.Mathlib.Omega.{arith}
-
-put-refusal-requires : tie.Need-put-refusal-requires
-put-refusal-requires c κs = search needs
-
-same-length : tie.Need-same-length
-same-length c = search needs
 
 returns : tie.Need-returns
 returns c =
@@ -23,6 +17,6 @@ pub only-spec : {M : Type 1} → statement M
 only-spec =
     tie.close
     (tie.spec
-    put-refusal-requires
-    same-length
+    (λ c κs. search needs)
+    (λ c. search needs)
     returns)

@@ -5,17 +5,9 @@ use Rattle.listing.proofs.plan.Statement.{statement}
 use Rattle.listing.proofs.plan.Tie as tie
 use mathlib.Core.Path.{refl, sym}
 use lib.Seq.{length-take-le}
-use Rattle.listing.proofs.Pieces.{begins, planned-long}
+use Rattle.entries.proofs.Begins.{begins}
+use Rattle.listing.proofs.Pieces.{planned-long}
 use native.Mathlib.Omega.{arith}
-
-slice-aggregate-put-word : tie.Need-slice-aggregate-put-word
-slice-aggregate-put-word c = search needs
-
-put-word-requires : tie.Need-put-word-requires
-put-word-requires c κs = search needs
-
-same-length : tie.Need-same-length
-same-length c = search needs
 
 returns : tie.Need-returns
 returns c =
@@ -36,9 +28,6 @@ plan-split-requires c κs =
     let count = length-take-le (start .args .count) (start .args .buffer .now) (omega (arith, start .pre .1, start .pre .2)) in
     (start .pre .0, omega (arith, c .before .before .if1 .left, count))
 
-same-length-2 : tie.Need-same-length-2
-same-length-2 c = search needs
-
 returns-2 : tie.Need-returns-2
 returns-2 c =
     c .before .before .plan-split .ensures
@@ -47,11 +36,11 @@ pub plan-spec : {M : Type 1} → statement M
 plan-spec =
     tie.close
     (tie.spec
-    slice-aggregate-put-word
-    put-word-requires
-    same-length
+    (λ c. search needs)
+    (λ c κs. search needs)
+    (λ c. search needs)
     returns
     slice-aggregate-plan-split
     plan-split-requires
-    same-length-2
+    (λ c. search needs)
     returns-2)

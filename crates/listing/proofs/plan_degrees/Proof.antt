@@ -6,32 +6,9 @@ use Rattle.listing.proofs.plan_degrees.Tie as tie
 use mathlib.Core.Path.{refl}
 use Rattle.listing.specs.Listing.{degreeHead}
 use Rattle.listing.proofs.Items.{listed-degrees, listed-refused}
-use Rattle.listing.proofs.Pieces.{begins, opens, opens-as, opens-line}
+use Rattle.entries.proofs.Begins.{begins}
+use Rattle.listing.proofs.Pieces.{opens, opens-as, opens-line}
 use native.Mathlib.Omega.{arith}
-
-slice-aggregate-degree-of : tie.Need-slice-aggregate-degree-of
-slice-aggregate-degree-of c = search needs
-
-degree-of-requires : tie.Need-degree-of-requires
-degree-of-requires c κs = search needs
-
-enum-told : tie.Need-enum-told
-enum-told c = search needs
-
-slice-aggregate-put-word : tie.Need-slice-aggregate-put-word
-slice-aggregate-put-word c = search needs
-
-put-word-requires : tie.Need-put-word-requires
-put-word-requires c κs = search needs
-
-enum-known-a : tie.Need-enum-known-a
-enum-known-a c = search needs
-
-only-requires : tie.Need-only-requires
-only-requires c κs = search needs
-
-same-length : tie.Need-same-length
-same-length c = search needs
 
 returns : tie.Need-returns
 returns c =
@@ -41,9 +18,6 @@ returns c =
     let start = at-degree-of .before .before .before .before .before in
     let all = listed-degrees _ _ _ _ _ _ _ (at-enum-told .enum-told .given .1) (at-degree-of .degree-of .ensures .0) in
     opens _ _ _ _ degreeHead _ (begins (at-put-word .put-word .ensures) (omega (arith, start .pre .0, at-put-word .put-word .ensures .next))) (start .pre .1) refl all
-
-same-length-2 : tie.Need-same-length-2
-same-length-2 c = search needs
 
 returns-2 : tie.Need-returns-2
 returns-2 c =
@@ -57,14 +31,14 @@ pub plan-degrees-spec : {M : Type 1} → statement M
 plan-degrees-spec =
     tie.close
     (tie.spec
-    slice-aggregate-degree-of
-    degree-of-requires
-    enum-told
-    slice-aggregate-put-word
-    put-word-requires
-    enum-known-a
-    only-requires
-    same-length
+    (λ c. search needs)
+    (λ c κs. search needs)
+    (λ c. search needs)
+    (λ c. search needs)
+    (λ c κs. search needs)
+    (λ c. search needs)
+    (λ c κs. search needs)
+    (λ c. search needs)
     returns
-    same-length-2
+    (λ c. search needs)
     returns-2)

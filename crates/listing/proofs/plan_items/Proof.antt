@@ -6,22 +6,14 @@ use Rattle.listing.proofs.plan_items.Tie as tie
 use mathlib.Core.Path.{refl}
 use Rattle.listing.specs.Listing.{memberHead}
 use Rattle.listing.proofs.Items.{items-plain, items-ruled, items-refused}
-use Rattle.listing.proofs.Pieces.{begins, opens, opens-as, opens-line}
+use Rattle.entries.proofs.Begins.{begins}
+use Rattle.listing.proofs.Pieces.{opens, opens-as, opens-line}
 use native.Mathlib.Omega.{arith}
-
-read-requires : tie.Need-read-requires
-read-requires c κs = search needs
-
-enum-known-m : tie.Need-enum-known-m
-enum-known-m c = search needs
 
 plan-degrees-requires : tie.Need-plan-degrees-requires
 plan-degrees-requires c κs =
     let start = c .before .before .before .before .before .before .before .before .before in
     start .pre
-
-same-length : tie.Need-same-length
-same-length c = search needs
 
 returns : tie.Need-returns
 returns c =
@@ -31,24 +23,15 @@ returns c =
     let all = items-plain _ _ _ _ (at-read .read .ensures) _ _ (at-m .m .given .1) (at-if1 .if1 .taken) in
     opens-as all (c .before .before .plan-degrees .ensures)
 
-slice-aggregate-put-word : tie.Need-slice-aggregate-put-word
-slice-aggregate-put-word c = search needs
-
 put-word-requires : tie.Need-put-word-requires
 put-word-requires c κs =
     let start = c .before .before .before .before .before .before .before .before .before .before in
     omega (arith, start .pre .0)
 
-enum-known-m-2 : tie.Need-enum-known-m-2
-enum-known-m-2 c = search needs
-
 only-requires : tie.Need-only-requires
 only-requires c κs =
     let start = c .before .before .before .before .before .before .before .before in
     omega (arith, start .pre .0)
-
-same-length-2 : tie.Need-same-length-2
-same-length-2 c = search needs
 
 returns-2 : tie.Need-returns-2
 returns-2 c =
@@ -59,9 +42,6 @@ returns-2 c =
     let start = at-read .before .before .before .before in
     let all = items-ruled _ _ _ _ (at-read .read .ensures) _ _ (at-m .m .given .1) (at-if1 .if1 .left) in
     opens _ _ _ _ memberHead _ (begins (at-put-word .put-word .ensures) (omega (arith, start .pre .0, at-put-word .put-word .ensures .next))) (start .pre .1) refl all
-
-same-length-3 : tie.Need-same-length-3
-same-length-3 c = search needs
 
 returns-3 : tie.Need-returns-3
 returns-3 c =
@@ -75,16 +55,16 @@ pub plan-items-spec : {M : Type 1} → statement M
 plan-items-spec =
     tie.close
     (tie.spec
-    read-requires
-    enum-known-m
+    (λ c κs. search needs)
+    (λ c. search needs)
     plan-degrees-requires
-    same-length
+    (λ c. search needs)
     returns
-    slice-aggregate-put-word
+    (λ c. search needs)
     put-word-requires
-    enum-known-m-2
+    (λ c. search needs)
     only-requires
-    same-length-2
+    (λ c. search needs)
     returns-2
-    same-length-3
+    (λ c. search needs)
     returns-3)

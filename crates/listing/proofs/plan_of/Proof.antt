@@ -7,12 +7,6 @@ use Rattle.fields.proofs.Known.{bytes-known}
 use Rattle.listing.proofs.Items.{register-good, register-refused}
 use Rattle.listing.proofs.Pieces.{opens-as, opens-line}
 
-read-requires : tie.Need-read-requires
-read-requires c κs = search needs
-
-enum-known-r : tie.Need-enum-known-r
-enum-known-r c = search needs
-
 plan-items-requires : tie.Need-plan-items-requires
 plan-items-requires c κs =
     let at-read = c .before .before .before .before in
@@ -20,15 +14,6 @@ plan-items-requires c κs =
     let start = at-shared-slice-known .before .before in
     let bytes = bytes-known (start .args .image .now) (at-shared-slice-known .shared-slice-known .given) in
     (start .pre, register-good _ (start .args .message .now) _ (at-read .read .ensures) _ _ bytes (c .before .before .r .given .1) .0)
-
-enum-known-r-2 : tie.Need-enum-known-r-2
-enum-known-r-2 c = search needs
-
-only-requires : tie.Need-only-requires
-only-requires c κs = search needs
-
-same-length : tie.Need-same-length
-same-length c = search needs
 
 returns : tie.Need-returns
 returns c =
@@ -38,9 +23,6 @@ returns c =
     let start = at-shared-slice-known .before .before in
     let bytes = bytes-known (start .args .image .now) (at-shared-slice-known .shared-slice-known .given) in
     opens-as (register-good _ _ _ (at-read .read .ensures) _ _ bytes (at-r .r .given .1) .1) (c .before .before .plan-items .ensures)
-
-same-length-2 : tie.Need-same-length-2
-same-length-2 c = search needs
 
 returns-2 : tie.Need-returns-2
 returns-2 c =
@@ -55,12 +37,12 @@ pub plan-of-spec : {M : Type 1} → statement M
 plan-of-spec =
     tie.close
     (tie.spec
-    read-requires
-    enum-known-r
+    (λ c κs. search needs)
+    (λ c. search needs)
     plan-items-requires
-    enum-known-r-2
-    only-requires
-    same-length
+    (λ c. search needs)
+    (λ c κs. search needs)
+    (λ c. search needs)
     returns
-    same-length-2
+    (λ c. search needs)
     returns-2)

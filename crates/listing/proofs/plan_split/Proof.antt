@@ -7,27 +7,9 @@ use mathlib.Core.Path.{sym}
 use lib.Seq.{length-take-le}
 use Rattle.listing.proofs.Pieces.{planned}
 
-register-end-requires : tie.Need-register-end-requires
-register-end-requires c κs = search needs
-
 slice-aggregate-plan-of : tie.Need-slice-aggregate-plan-of
 slice-aggregate-plan-of c =
     sym (length-take-le _ _ (c .before .before .register-end .ensures .1))
-
-sub-plan-of : tie.Need-sub-plan-of
-sub-plan-of c = search needs
-
-part-plan-of-start : tie.Need-part-plan-of-start
-part-plan-of-start c = search needs
-
-part-plan-of-end : tie.Need-part-plan-of-end
-part-plan-of-end c = search needs
-
-plan-of-requires : tie.Need-plan-of-requires
-plan-of-requires c κs = search needs
-
-same-length : tie.Need-same-length
-same-length c = search needs
 
 returns : tie.Need-returns
 returns c =
@@ -39,11 +21,11 @@ pub plan-split-spec : {M : Type 1} → statement M
 plan-split-spec =
     tie.close
     (tie.spec
-    register-end-requires
+    (λ c κs. search needs)
     slice-aggregate-plan-of
-    sub-plan-of
-    part-plan-of-start
-    part-plan-of-end
-    plan-of-requires
-    same-length
+    (λ c. search needs)
+    (λ c. search needs)
+    (λ c. search needs)
+    (λ c κs. search needs)
+    (λ c. search needs)
     returns)

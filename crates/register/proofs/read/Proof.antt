@@ -8,21 +8,9 @@ use Rattle.fields.specs.Head.{paperHead, wrongIn, EndsWithin}
 use Rattle.register.specs.Reading.{paperReading}
 use Rattle.register.proofs.Whole.{whole-good, whole-refused}
 
-read-head-requires : tie.Need-read-head-requires
-read-head-requires c κs = search needs
-
-enum-known-h : tie.Need-enum-known-h
-enum-known-h c = search needs
-
 read-body-requires : tie.Need-read-body-requires
 read-body-requires c κs =
     subst (λ z. EndsWithin (length (c .before .before .before .before .before .args .s .now)) z) (c .before .h .given .1) (c .before .before .before .read-head .ensures .1)
-
-enum-known-h-2 : tie.Need-enum-known-h-2
-enum-known-h-2 c = search needs
-
-refused-requires : tie.Need-refused-requires
-refused-requires c κs = search needs
 
 returns : tie.Need-returns
 returns c =
@@ -42,10 +30,10 @@ pub read-spec : {M : Type 1} → statement M
 read-spec =
     tie.close
     (tie.spec
-    read-head-requires
-    enum-known-h
+    (λ c κs. search needs)
+    (λ c. search needs)
     read-body-requires
-    enum-known-h-2
-    refused-requires
+    (λ c. search needs)
+    (λ c κs. search needs)
     returns
     returns-2)

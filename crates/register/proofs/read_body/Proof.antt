@@ -6,19 +6,10 @@ use native.Mathlib.Omega.{arith}
 use Rattle.register.specs.Reading.{paperReading}
 use Rattle.register.proofs.Body.{body-items-cut, body-items-few, body-items-many, body-names-cut, body-links-cut, body-links-many, body-links}
 
-refused-requires : tie.Need-refused-requires
-refused-requires c κs = search needs
-
 returns : tie.Need-returns
 returns c =
     let a = c .before .before .before .args in
     ap paperReading (c .refused .ensures) ∙ sym (body-items-cut (a .s .now) (a .end) (omega arith) (omega arith))
-
-two-requires : tie.Need-two-requires
-two-requires c κs = search needs
-
-refused-requires-2 : tie.Need-refused-requires-2
-refused-requires-2 c κs = search needs
 
 returns-2 : tie.Need-returns-2
 returns-2 c =
@@ -26,23 +17,11 @@ returns-2 c =
     let e = c .before .before .two .ensures .0 in
     ap paperReading (c .refused2 .ensures) ∙ sym (body-items-few (a .s .now) (a .end) (omega arith) (omega arith))
 
-refused-requires-3 : tie.Need-refused-requires-3
-refused-requires-3 c κs = search needs
-
 returns-3 : tie.Need-returns-3
 returns-3 c =
     let a = c .before .before .before .before .before .before .args in
     let e = c .before .before .before .two .ensures .0 in
     ap paperReading (c .refused3 .ensures) ∙ sym (body-items-many (a .s .now) (a .end) (omega arith) (omega arith) (omega arith))
-
-count-at-requires : tie.Need-count-at-requires
-count-at-requires c κs = search needs
-
-cut-names-requires : tie.Need-cut-names-requires
-cut-names-requires c κs = search needs
-
-refused-requires-4 : tie.Need-refused-requires-4
-refused-requires-4 c κs = search needs
 
 returns-4 : tie.Need-returns-4
 returns-4 c =
@@ -51,12 +30,6 @@ returns-4 c =
     let q = c .before .before .before .count-at .ensures in
     ap paperReading (c .refused4 .ensures)
     ∙ sym (body-names-cut (a .s .now) (a .end) (omega arith) (omega arith) (omega arith) (omega arith) (c .before .cut-names .ensures))
-
-add-if5 : tie.Need-add-if5
-add-if5 c = search needs
-
-refused-requires-5 : tie.Need-refused-requires-5
-refused-requires-5 c κs = search needs
 
 returns-5 : tie.Need-returns-5
 returns-5 c =
@@ -70,9 +43,6 @@ two-requires-2 : tie.Need-two-requires-2
 two-requires-2 c κs =
     omega arith
 
-refused-requires-6 : tie.Need-refused-requires-6
-refused-requires-6 c κs = search needs
-
 returns-6 : tie.Need-returns-6
 returns-6 c =
     let a = c .before .before .before .before .before .before .before .before .before .before .before .args in
@@ -81,12 +51,6 @@ returns-6 c =
     let d = c .before .before .two2 .ensures .0 in
     ap paperReading (c .refused6 .ensures)
     ∙ sym (body-links-many (a .s .now) (a .end) (omega arith) (omega arith) (omega arith) (omega arith) _ (omega arith) (omega arith) (omega arith))
-
-link-at-requires : tie.Need-link-at-requires
-link-at-requires c κs = search needs
-
-read-links-requires : tie.Need-read-links-requires
-read-links-requires c κs = search needs
 
 returns-7 : tie.Need-returns-7
 returns-7 c =
@@ -101,23 +65,23 @@ pub read-body-spec : {M : Type 1} → statement M
 read-body-spec =
     tie.close
     (tie.spec
-    refused-requires
+    (λ c κs. search needs)
     returns
-    two-requires
-    refused-requires-2
+    (λ c κs. search needs)
+    (λ c κs. search needs)
     returns-2
-    refused-requires-3
+    (λ c κs. search needs)
     returns-3
-    count-at-requires
-    cut-names-requires
-    refused-requires-4
+    (λ c κs. search needs)
+    (λ c κs. search needs)
+    (λ c κs. search needs)
     returns-4
-    add-if5
-    refused-requires-5
+    (λ c. search needs)
+    (λ c κs. search needs)
     returns-5
     two-requires-2
-    refused-requires-6
+    (λ c κs. search needs)
     returns-6
-    link-at-requires
-    read-links-requires
+    (λ c κs. search needs)
+    (λ c κs. search needs)
     returns-7)

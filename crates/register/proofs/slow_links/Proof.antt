@@ -3,8 +3,10 @@ use Rattle.register.proofs.slow_links.Tie as tie
 use mathlib.Core.Path.{_≡_, sym, _∙_, ap, subst}
 use Prim.Native.Nat.{_+_, _*_, _-_, _≤_}
 use native.Mathlib.Omega.{arith}
-use Rattle.register.specs.Reading.{paperReading, paperLink, Passed}
-use Rattle.register.proofs.Links.{Going, going-none, going-more, going-stop, going-left, going-done}
+use Rattle.links.specs.Links.{paperLink, Passed}
+use Rattle.links.proofs.Links.{Going, going-none, going-more, going-stop, all-read}
+use Rattle.register.specs.Reading.{paperReading}
+use Rattle.register.proofs.Behind.{links-stop, links-left, links-done}
 use borrow.Author.Needs.{needs}
 
 abbrev Inv-loop : tie.InvT-loop
@@ -19,26 +21,12 @@ loop-holds : tie.Need-loop-holds Inv-loop μ-loop
 loop-holds c =
     (omega arith, omega arith, omega arith, going-none _ _ _ _ _)
 
-read-link-requires : tie.Need-read-link-requires Inv-loop μ-loop
-read-link-requires c κs = search needs
-
-enum-known-l : tie.Need-enum-known-l Inv-loop μ-loop
-enum-known-l c = search needs
-
-enum-known-l-2 : tie.Need-enum-known-l-2 Inv-loop μ-loop
-enum-known-l-2 c = search needs
-
-refused-requires : tie.Need-refused-requires Inv-loop μ-loop
-refused-requires c κs = search needs
-
 returns : tie.Need-returns Inv-loop μ-loop
 returns c =
     let w = c .before .before .before .before .before .before .loop .inv .3 in
     ap paperReading (c .refused .ensures)
-    ∙ sym (going-stop _ _ _ _ _ _ _ _ w _ _ (omega arith) (ap paperLink (sym (c .before .before .l2 .given .1)) ∙ c .before .before .before .before .read-link .ensures .0 (w .before) (w .floor)))
-
-add-i : tie.Need-add-i Inv-loop μ-loop
-add-i c = search needs
+    ∙ sym (links-stop _ _ _ _ _ _ (going-stop _ _ _ _ _ _ _ _ w _ _ (omega arith)
+    (ap paperLink (sym (c .before .before .l2 .given .1)) ∙ c .before .before .before .before .read-link .ensures .0 (w .before) (w .floor))))
 
 add-at : tie.Need-add-at Inv-loop μ-loop
 add-at c =
@@ -46,9 +34,6 @@ add-at c =
     let c7 = c5 .before .before in
     let fit = subst (λ z. Passed (c5 .loop .at) (c7 .args .end) z) (c .before .l .given .1) (c .before .before .before .read-link .ensures .1) in
     omega arith
-
-loop-less : tie.Need-loop-less Inv-loop μ-loop
-loop-less c = search needs
 
 loop-again : tie.Need-loop-again Inv-loop μ-loop
 loop-again c =
@@ -63,16 +48,15 @@ loop-again c =
       going-more _ _ _ _ _ _ _ _ w _ (omega arith) (omega arith) (ap paperLink (sym (c .before .l .given .1)) ∙ c3 .read-link .ensures .0 (w .before) (w .floor)),
     )
 
-refused-requires-2 : tie.Need-refused-requires-2 Inv-loop μ-loop
-refused-requires-2 c κs = search needs
-
 returns-2 : tie.Need-returns-2 Inv-loop μ-loop
 returns-2 c =
-    ap paperReading (c .refused2 .ensures) ∙ sym (going-left _ _ _ _ _ _ _ _ (c .before .before .before .loop .inv .3) (omega arith) (c .before .before .before .loop .inv .1) (omega arith))
+    let w = c .before .before .before .loop .inv in
+    ap paperReading (c .refused2 .ensures) ∙ sym (links-left _ _ _ _ _ (all-read _ _ _ _ _ _ _ _ (w .3) (omega arith)) _ (omega arith) (omega arith))
 
 returns-3 : tie.Need-returns-3 Inv-loop μ-loop
 returns-3 c =
-    sym (going-done _ _ _ _ _ _ _ _ (c .before .before .loop .inv .3) (omega arith) (c .before .before .loop .inv .1) (omega arith))
+    let w = c .before .before .loop in
+    sym (links-done _ _ _ _ _ (all-read _ _ _ _ _ _ _ _ (w .inv .3) (omega arith)) (w .at) (omega arith) (omega arith))
 
 pub slow-links-spec : {M : Type 1} → statement M
 slow-links-spec =
@@ -81,15 +65,15 @@ slow-links-spec =
     Inv-loop
     μ-loop
     loop-holds
-    read-link-requires
-    enum-known-l
-    enum-known-l-2
-    refused-requires
+    (λ c κs. search needs)
+    (λ c. search needs)
+    (λ c. search needs)
+    (λ c κs. search needs)
     returns
-    add-i
+    (λ c. search needs)
     add-at
-    loop-less
+    (λ c. search needs)
     loop-again
-    refused-requires-2
+    (λ c κs. search needs)
     returns-2
     returns-3)

@@ -1,0 +1,26 @@
+use borrow.Author.Needs.{needs}
+use Rattle.links.proofs.wrong.Statement.{statement}
+use Rattle.links.proofs.wrong.Tie as tie
+use native.Mathlib.Omega.{arith}
+use mathlib.Core.Path.{_≡_}
+use Prim.Native.Nat.{ℕ}
+use borrow.Author.Tests.{ltb-false}
+
+returns : tie.Need-returns
+returns c =
+    λ h. absurd (let z : _≡_ {A = ℕ} 0 1 = cc in omega arith)
+
+returns-2 : tie.Need-returns-2
+returns-2 c =
+    λ h. absurd (let z : _≡_ {A = ℕ} 0 1 = cc in omega arith)
+
+returns-3 : tie.Need-returns-3
+returns-3 c =
+    λ h. absurd (let z : _≡_ {A = ℕ} 0 1 = cc in omega arith)
+
+returns-4 : tie.Need-returns-4
+returns-4 c =
+    λ h. (omega arith, omega arith, omega arith, ltb-false _ _ h)
+
+pub wrong-spec : {M : Type 1} → statement M
+wrong-spec = tie.close (tie.spec returns (λ c. search needs) returns-2 returns-3 returns-4)
