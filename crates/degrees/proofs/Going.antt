@@ -17,8 +17,10 @@ use Rattle.meaning.specs.Tree.{Concept, children}
 use Rattle.meaning.specs.Register.{judged}
 use Rattle.meaning.specs.InPlace.{scaleIn}
 use Rattle.meaning.proofs.Tests.{true-false}
+use Rattle.graph.specs.Judged.{Judged}
 use Rattle.graph.specs.Sets.{Among}
-use Rattle.degrees.specs.Case.{Case, Member, Items, Room}
+use Rattle.degrees.specs.Gradable.{Gradable, Member, Items}
+use Rattle.degrees.specs.Room.{Room}
 use Rattle.degrees.specs.Notes.{flag, Clear, Outside}
 use Rattle.degrees.specs.Heavy.{Stands, Headed}
 use Rattle.degrees.specs.Given.{rowAt, Kept, Done, Below, sumWith, Folding, Folded}
@@ -28,14 +30,14 @@ use Rattle.degrees.proofs.Folding.{Rest, Child, Head, head, given, rest
 use Rattle.degrees.proofs.Noted.{Entered, entered-start, entered-pass, entered-clear, entered-next, entered-end, noted-node}
 use Rattle.degrees.proofs.Reaching.{graph, rows, reach-best, reach-one}
 
-module _ {s : List ℕ} {items : ℕ} {index names roles ends marks : List ℕ} {node left : ℕ} (k : Case s items index names roles ends marks node left)
+module _ {s : List ℕ} {items : ℕ} {index names roles ends marks : List ℕ} {node left : ℕ} (k : Gradable (Judged s items index) names roles ends marks node left)
     (set : List ℕ) (heavy at first : ℕ) (notes₀ numbers₀ : List ℕ) (h : Headed k (Member set) heavy at first notes₀ numbers₀) where
   abbrev e : ℕ
   e = getD ends node 0
 
   abbrev pub Notes : List ℕ → ℕ → Type 0
   Notes notes c =
-      Entered names roles ends marks (k .graph .register) (Member set) (children (k .tree)) (left - 1) (node + 1) e (rows k) heavy (h .tree) (h .stands) notes₀ notes c
+      Entered names roles ends marks (k .posed .graph .register) (Member set) (children (k .tree)) (left - 1) (node + 1) e (rows k) heavy (h .tree) (h .stands) notes₀ notes c
 
   -- the children from row c on are left, but for the heaviest
   pub record Going (notes numbers : List ℕ) (n product c : ℕ) : Type 0 where
@@ -44,12 +46,12 @@ module _ {s : List ℕ} {items : ℕ} {index names roles ends marks : List ℕ} 
     pub kept : Kept at numbers₀ numbers
 
   whole : Head names roles ends marks (graph k) left e node heavy (h .tree) (Member set) (k .tree)
-  whole = head names roles ends marks (graph k) left e node heavy (h .tree) (Member set) (k .tree) (k .held) (k .marked) (h .stands) (h .kept)
+  whole = head names roles ends marks (graph k) left e node heavy (h .tree) (Member set) (k .tree) (k .posed .held) (k .marked) (h .stands) (h .kept)
 
   pub going-start : (n : ℕ) → n ≡ many (getD names node 0) → Going notes₀ numbers₀ (n + 1) first (node + 1)
   going-start n en = record {
     rest = whole .then (n + 1) first (rowAt numbers₀ at) (ap (λ (z : ℕ). z + 1) en) (h .scaled) (h .summed);
-    entered = entered-start names roles ends marks (k .graph .register) (Member set) (children (k .tree)) (left - 1) (node + 1) e (rows k) heavy (h .tree) (h .stands) notes₀
+    entered = entered-start names roles ends marks (k .posed .graph .register) (Member set) (children (k .tree)) (left - 1) (node + 1) e (rows k) heavy (h .tree) (h .stands) notes₀
         (h .noted) (λ j l p q w. h .clear j l (omega arith) q w);
     kept = λ i l. refl;
   }
@@ -62,7 +64,7 @@ module _ {s : List ℕ} {items : ℕ} {index names roles ends marks : List ℕ} 
     going-pass j ej b eb t = go (eqb (getD marks c 0) 0) refl (sym eb ∙ t)
       where
         over : (getD marks c 0 ≡ 0) ⊎ (c ≡ heavy) → Notes notes j
-        over o = entered-pass names roles ends marks (k .graph .register) (Member set) (children (k .tree)) (left - 1) (node + 1) (getD ends node 0) (rows k) heavy (h .tree) (h .stands) notes₀
+        over o = entered-pass names roles ends marks (k .posed .graph .register) (Member set) (children (k .tree)) (left - 1) (node + 1) e (rows k) heavy (h .tree) (h .stands) notes₀
             (w .entered) l j ej o
 
         go : (d : Bool) → eqb (getD marks c 0) 0 ≡ d → (d || eqb c heavy) ≡ true → Going notes numbers n product j
@@ -85,18 +87,16 @@ module _ {s : List ℕ} {items : ℕ} {index names roles ends marks : List ℕ} 
       abbrev child : Child names roles ends marks (graph k) (k .tree) (left - 1) (getD ends node 0) heavy c n product (rowAt numbers at) (Member set)
       child = rest-child (w .rest) l (neither .0) (neither .1)
 
-      abbrev pub going-case : Case s items index names roles ends marks c (left - 1)
+      abbrev pub going-case : Gradable (Judged s items index) names roles ends marks c (left - 1)
       going-case = record {
-        graph = k .graph;
         tree = child .tree;
-        held = child .held;
+        posed = record { graph = k .posed .graph; held = child .held; few = le-trans (going-inside .1) (k .posed .few) };
         marked = child .marked;
-        few = le-trans (going-inside .1) (k .few);
         small = le-trans (child .small) (k .small);
       }
 
       empty : (j i : ℕ) → c ≤ j → j < getD ends c 0 → flag notes j i ≡ false
-      empty = entered-clear names roles ends marks (k .graph .register) (Member set) (children (k .tree)) (left - 1) (node + 1) (getD ends node 0) (rows k) heavy (h .tree) (h .stands) notes₀
+      empty = entered-clear names roles ends marks (k .posed .graph .register) (Member set) (children (k .tree)) (left - 1) (node + 1) (getD ends node 0) (rows k) heavy (h .tree) (h .stands) notes₀
           (w .entered) l (neither .1)
 
       pub going-clear : Clear notes (c + 1) (getD ends c 0)
@@ -146,15 +146,15 @@ module _ {s : List ℕ} {items : ℕ} {index names roles ends marks : List ℕ} 
         same-sum : (x : ℕ) → Member set x → sumWith (graph k) ys role (at + 512) at scale product x
             ≡ rowAt numbers at x * scaleIn (child .tree) + given roles (graph k) c (child .tree) x * product
         same-sum x m =
-            let stays : rowAt ys at x ≡ rowAt numbers at x = d .kept (at + x) (let q = among x m in let r = k .graph .most in omega arith) in
+            let stays : rowAt ys at x ≡ rowAt numbers at x = d .kept (at + x) (let q = among x m in let r = k .posed .graph .most in omega arith) in
             rw (stays, d .worked .scaled, reach-best going-case set role (at + 512) scale notes mid numbers ys er d x m)
 
         pub going-folding : (size : ℕ) → length ys ≡ size → Room size at (getD ends node 0 - node) → Folding s items index set mid ys role c (at + 512) at scale product
         going-folding size es room = record {
-          graph = k .graph;
+          graph = k .posed .graph;
           fits = λ x m. let q = child .sum-fits x m in let r = k .small in rw (same-sum x m) (omega arith);
           clear = λ i. d .outside c i (inl (omega arith)) ∙ empty c i (omega arith) (going-inside .0);
-          inside = let q = k .few in omega arith;
+          inside = let q = k .posed .few in omega arith;
           short = omega (arith, room .size-is);
           from-fits = omega (arith, going-two size room);
           to-fits = omega (arith, going-two size room);
@@ -162,10 +162,10 @@ module _ {s : List ℕ} {items : ℕ} {index names roles ends marks : List ℕ} 
         }
 
         pub going-next : (j : ℕ) → j ≡ getD ends c 0 → (new zs : List ℕ) → length mid ≡ length notes → length new ≡ length mid
-            → Folded (k .graph .register) set mid new ys zs role c (at + 512) at scale product → Going new zs (n + 1) (product * scale) j
+            → Folded (k .posed .graph .register) set mid new ys zs role c (at + 512) at scale product → Going new zs (n + 1) (product * scale) j
         going-next j ej new zs sm sn o = record {
           rest = rest-at ej (rw (d .worked .scaled) (child .then (rowAt zs at) (λ x m. o .sums x m ∙ same-sum x m)));
-          entered = entered-next names roles ends marks (k .graph .register) (Member set) (children (k .tree)) (left - 1) (node + 1) (getD ends node 0) (rows k) heavy (h .tree) (h .stands) notes₀
+          entered = entered-next names roles ends marks (k .posed .graph .register) (Member set) (children (k .tree)) (left - 1) (node + 1) e (rows k) heavy (h .tree) (h .stands) notes₀
               (w .entered) l (neither .1) j ej (child .tree) (child .held) mid new sm sn (d .outside) (o .outside)
               (λ x m. reach-one going-case set role (at + 512) scale notes mid numbers ys er d x m new sn (o .outside) (o .noted x m));
           kept = λ i q. o .kept i q ∙ d .kept i (omega arith) ∙ w .kept i q;
@@ -181,8 +181,8 @@ module _ {s : List ℕ} {items : ℕ} {index names roles ends marks : List ℕ} 
         let q = whole-other (w .rest) l (λ z. let y : n ≡ 0 = z in omega arith) in
         record {
           worked = record { scaled = sym (q .0); each = λ x m. sym (q .1 x m) };
-          noted = noted-node names roles ends marks (k .graph .register) (Member set) notes (k .tree) left node (getD ends node 0) (k .held)
-              (entered-end names roles ends marks (k .graph .register) (Member set) (children (k .tree)) (left - 1) (node + 1) (getD ends node 0) (rows k) heavy (h .tree) (h .stands) notes₀
+          noted = noted-node names roles ends marks (k .posed .graph .register) (Member set) notes (k .tree) left node (getD ends node 0) (k .posed .held)
+              (entered-end names roles ends marks (k .posed .graph .register) (Member set) (children (k .tree)) (left - 1) (node + 1) (getD ends node 0) (rows k) heavy (h .tree) (h .stands) notes₀
               (w .entered) l);
           outside = w .entered .outside;
           kept = w .kept;

@@ -18,7 +18,9 @@ use Rattle.meaning.specs.Degree.{orOne}
 use Rattle.meaning.specs.InPlace.{countIn, scaleIn, scaleInF, degreeIn, degreeInF}
 use Rattle.meaning.specs.Rows.{Holds, Marked, MarkedF}
 use Rattle.register.specs.Image.{Asked}
-use Rattle.degrees.specs.Case.{Case, Member, Items, Room}
+use Rattle.graph.specs.Judged.{Judged}
+use Rattle.degrees.specs.Gradable.{Gradable, Member, Items}
+use Rattle.degrees.specs.Room.{Room}
 use Rattle.degrees.specs.Notes.{flag, Clear, Outside}
 use Rattle.degrees.specs.Heavy.{Stands, Heavy, Headed}
 use Rattle.degrees.specs.Given.{rowAt, Kept, Done, Below, Folding, Folded}
@@ -28,7 +30,7 @@ use Rattle.degrees.proofs.Folding.{Head, head, given}
 use Rattle.degrees.proofs.Noted.{outside-then, noted-node}
 use Rattle.degrees.proofs.Reaching.{graph, items-named, reach-best, reach-one}
 
-module _ {s : List ℕ} {items : ℕ} {index names roles ends marks : List ℕ} {node left : ℕ} (k : Case s items index names roles ends marks node left) where
+module _ {s : List ℕ} {items : ℕ} {index names roles ends marks : List ℕ} {node left : ℕ} (k : Gradable (Judged s items index) names roles ends marks node left) where
   -- ---- no child is kept
 
   module _ (h : Heavy ends marks (k .tree) node (getD ends node 0)) where
@@ -56,10 +58,10 @@ module _ {s : List ℕ} {items : ℕ} {index names roles ends marks : List ℕ} 
         → ((x : ℕ) → X x → rowAt out at x ≡ orOne (many (getD names node 0)) (common (getD names node 0) (graph k .names x)))
         → Kept at numbers out → Done k X at scale notes notes numbers out
     alone-done X at scale notes numbers out es eo kept =
-        let q = alone-is (k .tree) (k .held) (k .marked) (h .none refl) in
+        let q = alone-is (k .tree) (k .posed .held) (k .marked) (h .none refl) in
         record {
           worked = record { scaled = es ∙ q .0; each = λ x m. eo x m ∙ q .1 x };
-          noted = noted-node names roles ends marks (k .graph .register) X notes (k .tree) left node (getD ends node 0) (k .held) (λ c u s m. absurd (m (h .none refl c u s)));
+          noted = noted-node names roles ends marks (k .posed .graph .register) X notes (k .tree) left node (getD ends node 0) (k .posed .held) (λ c u s m. absurd (m (h .none refl c u s)));
           outside = λ j l o. refl;
           kept = kept;
         }
@@ -75,21 +77,19 @@ module _ {s : List ℕ} {items : ℕ} {index names roles ends marks : List ℕ} 
 
     pub heavy-head : Head names roles ends marks (graph k) left (getD ends node 0) node heavy heavy-tree (Member set) (k .tree)
     heavy-head = head names roles ends marks (graph k) left (getD ends node 0) node heavy heavy-tree (Member set)
-        (k .tree) (k .held) (k .marked) heavy-stands (h .some some .0)
+        (k .tree) (k .posed .held) (k .marked) heavy-stands (h .some some .0)
 
     pub heavy-inside : (node < heavy) × (heavy < getD ends heavy 0) × (getD ends heavy 0 ≤ getD ends node 0)
     heavy-inside = let p = heavy-head .place in (omega (arith, p .behind), p .inside, p .within)
 
     pub heavy-low : heavy < 64
-    heavy-low = let l = k .few in omega (arith, heavy-inside .1, heavy-inside .2)
+    heavy-low = let l = k .posed .few in omega (arith, heavy-inside .1, heavy-inside .2)
 
-    abbrev pub heavy-case : Case s items index names roles ends marks heavy (left - 1)
+    abbrev pub heavy-case : Gradable (Judged s items index) names roles ends marks heavy (left - 1)
     heavy-case = record {
-      graph = k .graph;
       tree = heavy-tree;
-      held = heavy-head .place .held;
+      posed = record { graph = k .posed .graph; held = heavy-head .place .held; few = le-trans (heavy-inside .2) (k .posed .few) };
       marked = heavy-head .marked;
-      few = le-trans (heavy-inside .2) (k .few);
       small = le-trans (heavy-head .small) (k .small);
     }
 
@@ -114,7 +114,7 @@ module _ {s : List ℕ} {items : ℕ} {index names roles ends marks : List ℕ} 
 
       pub heavy-folding : (size : ℕ) → length ys ≡ size → Room size at (getD ends node 0 - node) → Folding s items index set mid ys role heavy at (at + 512) 0 1
       heavy-folding size e room = record {
-        graph = k .graph;
+        graph = k .posed .graph;
         fits = λ x m. let q = fits x in let r = reach-best heavy-case set role at scale notes mid numbers ys er d x m in rw r (omega arith);
         clear = λ l. d .outside heavy l (inl (omega arith)) ∙ clear heavy l (omega (arith, heavy-inside .0)) (omega (arith, heavy-inside .1, heavy-inside .2));
         inside = heavy-low;
@@ -125,7 +125,7 @@ module _ {s : List ℕ} {items : ℕ} {index names roles ends marks : List ℕ} 
       }
 
       -- its part stands in the next row, and it is noted
-      module _ (new zs : List ℕ) (f : Folded (k .graph .register) set mid new ys zs role heavy at (at + 512) 0 1) where
+      module _ (new zs : List ℕ) (f : Folded (k .posed .graph .register) set mid new ys zs role heavy at (at + 512) 0 1) where
         part : (x : ℕ) → Member set x → rowAt zs (at + 512) x ≡ given roles (graph k) heavy heavy-tree x
         part x m = f .sums x m ∙ rw (reach-best heavy-case set role at scale notes mid numbers ys er d x m) (omega arith)
 
@@ -138,7 +138,7 @@ module _ {s : List ℕ} {items : ℕ} {index names roles ends marks : List ℕ} 
 
         pub heavy-own : Items items set → Asked s (λ g. Items (length (g .names)) set
             × ((x : ℕ) → Member set x → common (getD names node 0) (judged g .names x) * scale + rowAt zs (at + 512) x < 4294967296))
-        heavy-own w = record { register = k .graph .register; read = k .graph .read; holds = (items-named k set w, heavy-fits) }
+        heavy-own w = record { register = k .posed .graph .register; read = k .posed .graph .read; holds = (items-named k set w, heavy-fits) }
 
         -- so it is at the head of the others
         pub heavy-headed : (out : List ℕ) → length new ≡ length mid → ((x : ℕ) → Member set x → rowAt out at x ≡ shared x * scale + rowAt zs (at + 512) x)

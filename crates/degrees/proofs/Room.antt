@@ -5,7 +5,7 @@ use Prim.Native.Nat.{ℕ, zero, suc, _+_, _-_, _*_, _≤_, _<_}
 use native.Mathlib.Nat.{mul-le-mul-right, mul-le-mul-left}
 use native.Mathlib.Decide.{decLt}
 use native.Mathlib.Omega.{arith}
-use Rattle.degrees.specs.Case.{doubled, Room}
+use Rattle.degrees.specs.Room.{doubled, Room}
 
 doubled-pos : (t : ℕ) → 0 < doubled t
 unfolding doubled

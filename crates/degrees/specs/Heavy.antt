@@ -14,7 +14,8 @@ use Rattle.meaning.specs.Degree.{best}
 use Rattle.meaning.specs.InPlace.{scaleIn, degreeIn}
 use Rattle.meaning.specs.Shown.{pick}
 use Rattle.meaning.specs.Rows.{Holds}
-use Rattle.degrees.specs.Case.{Case}
+use Rattle.graph.specs.Judged.{Judged}
+use Rattle.degrees.specs.Gradable.{Gradable}
 use Rattle.degrees.specs.Notes.{flag, Note, Noted}
 
 -- of the trees f, which stand from row i on, the one at row c is t
@@ -48,7 +49,7 @@ One roles ends marks g X notes c u =
     × ((y : ℕ) → List·Memᴰ y (judged g .next x (getD roles c 0)) → Noted ends marks g notes u c y)
 
 -- the child at row h is folded in and noted, for each x of X, and no other is
-pub record Headed {s : List ℕ} {items : ℕ} {index names roles ends marks : List ℕ} {node left : ℕ} (k : Case s items index names roles ends marks node left)
+pub record Headed {s : List ℕ} {items : ℕ} {index names roles ends marks : List ℕ} {node left : ℕ} (k : Gradable (Judged s items index) names roles ends marks node left)
     (X : ℕ → Type 0) (h at scale : ℕ) (notes numbers : List ℕ) : Type 0 where
   pub tree : Concept
   pub stands : Stands ends (children (k .tree)) (node + 1) h tree
@@ -56,7 +57,7 @@ pub record Headed {s : List ℕ} {items : ℕ} {index names roles ends marks : L
   pub most : Most ends marks (k .tree) node h
   pub scaled : scale ≡ scaleIn tree
   pub summed : (x : ℕ) → X x
-      → getD numbers (at + x) 0 ≡ common (getD names node 0) (judged (k .graph .register) .names x) * scale
-      + best (λ y. degreeIn (judged (k .graph .register)) tree y) (judged (k .graph .register) .next x (getD roles h 0))
-  pub noted : One roles ends marks (k .graph .register) X notes h tree
+      → getD numbers (at + x) 0 ≡ common (getD names node 0) (judged (k .posed .graph .register) .names x) * scale
+      + best (λ y. degreeIn (judged (k .posed .graph .register)) tree y) (judged (k .posed .graph .register) .next x (getD roles h 0))
+  pub noted : One roles ends marks (k .posed .graph .register) X notes h tree
   pub clear : (j l : ℕ) → node < j → j < getD ends node 0 → (j < h) ⊎ (getD ends h 0 ≤ j) → flag notes j l ≡ false

@@ -7,7 +7,9 @@ ghost use Prim.Native.Nat.{ℕ, _+_, _-_};
 ghost use lib.Dec.{eqb, ltb};
 ghost use lib.ListN.{length, getD};
 ghost use Rattle.meaning.specs.Register.{judged};
-ghost use Rattle.degrees.specs.Case.{Case, Member, Items, Room};
+ghost use Rattle.graph.specs.Judged.{Judged};
+ghost use Rattle.degrees.specs.Gradable.{Gradable, Member, Items};
+ghost use Rattle.degrees.specs.Room.{Room};
 ghost use Rattle.degrees.specs.Notes.{Clear};
 ghost use Rattle.degrees.specs.Heavy.{Written, Heavy, Headed};
 ghost use Rattle.degrees.specs.Given.{Worked, Done, Below};
@@ -75,9 +77,9 @@ pub fn work(
     notes: &mut [u64],
     numbers: &mut [u32],
 ) -> u64
-    requires { ⌜ Case (now s) items (now index) (now names) (now roles) (now ends) (now marks) node left ⌝ }
+    requires { ⌜ Gradable (Judged (now s) items (now index)) (now names) (now roles) (now ends) (now marks) node left ⌝ }
     requires { ⌜ Items items (now set) × Clear (now notes) (node + 1) (getD (now ends) node 0) × Room (length (now numbers)) at (getD (now ends) node 0 - node) ⌝ }
-    ensures { λ r. ⌜ ((k : Case (now (s .entry)) items (now (index .entry)) (now (names .entry)) (now (roles .entry)) (now (ends .entry)) (now (marks .entry)) node left)
+    ensures { λ r. ⌜ ((k : Gradable (Judged (now (s .entry)) items (now (index .entry))) (now (names .entry)) (now (roles .entry)) (now (ends .entry)) (now (marks .entry)) node left)
         → Done k (Member (now (set .entry))) at r (now (notes .entry)) (now (notes .exit)) (now (numbers .entry)) (now (numbers .exit))) ⌝ }
 {
     let heavy = heaviest(ends, marks, node);
@@ -150,10 +152,10 @@ fn reach(
     notes: &mut [u64],
     numbers: &mut [u32],
 ) -> u64
-    requires { ⌜ Case (now s) items (now index) (now names) (now roles) (now ends) (now marks) node left ⌝ }
+    requires { ⌜ Gradable (Judged (now s) items (now index)) (now names) (now roles) (now ends) (now marks) node left ⌝ }
     requires { ⌜ Items items (now set) × Clear (now notes) (node + 1) (getD (now ends) node 0) × Room (length (now numbers)) at (getD (now ends) node 0 - node) ⌝ }
-    ensures { λ r. ⌜ ((k : Case (now (s .entry)) items (now (index .entry)) (now (names .entry)) (now (roles .entry)) (now (ends .entry)) (now (marks .entry)) node left)
-        → Done k (Below (judged (k .graph .register)) (now (set .entry)) (getD (now (roles .entry)) node 0)) at r
+    ensures { λ r. ⌜ ((k : Gradable (Judged (now (s .entry)) items (now (index .entry))) (now (names .entry)) (now (roles .entry)) (now (ends .entry)) (now (marks .entry)) node left)
+        → Done k (Below (judged (k .posed .graph .register)) (now (set .entry)) (getD (now (roles .entry)) node 0)) at r
         (now (notes .entry)) (now (notes .exit)) (now (numbers .entry)) (now (numbers .exit))) ⌝ }
 {
     let mut below = [0u64; 8];
@@ -194,11 +196,11 @@ fn others(
     notes: &mut [u64],
     numbers: &mut [u32],
 ) -> u64
-    requires { ⌜ Case (now s) items (now index) (now names) (now roles) (now ends) (now marks) node left ⌝ }
+    requires { ⌜ Gradable (Judged (now s) items (now index)) (now names) (now roles) (now ends) (now marks) node left ⌝ }
     requires { ⌜ Items items (now set) × Room (length (now numbers)) at (getD (now ends) node 0 - node) ⌝ }
-    requires { ⌜ ((k : Case (now s) items (now index) (now names) (now roles) (now ends) (now marks) node left)
+    requires { ⌜ ((k : Gradable (Judged (now s) items (now index)) (now names) (now roles) (now ends) (now marks) node left)
         → Headed k (Member (now set)) heavy at first (now notes) (now numbers)) ⌝ }
-    ensures { λ r. ⌜ ((k : Case (now (s .entry)) items (now (index .entry)) (now (names .entry)) (now (roles .entry)) (now (ends .entry)) (now (marks .entry)) node left)
+    ensures { λ r. ⌜ ((k : Gradable (Judged (now (s .entry)) items (now (index .entry))) (now (names .entry)) (now (roles .entry)) (now (ends .entry)) (now (marks .entry)) node left)
         → Done k (Member (now (set .entry))) at r (now (notes .entry)) (now (notes .exit)) (now (numbers .entry)) (now (numbers .exit))) ⌝ }
 {
     let e = fields::octet(ends[node]);
@@ -259,10 +261,10 @@ pub fn degrees(
     set: &[u64],
     numbers: &mut [u32],
 ) -> u64
-    requires { ⌜ Case (now s) items (now index) (now names) (now roles) (now ends) (now marks) 0 17 ⌝ }
+    requires { ⌜ Gradable (Judged (now s) items (now index)) (now names) (now roles) (now ends) (now marks) 0 17 ⌝ }
     requires { ⌜ Items items (now set) × (length (now numbers) ≡ 3072) ⌝ }
-    ensures { λ r. ⌜ ((k : Case (now (s .entry)) items (now (index .entry)) (now (names .entry)) (now (roles .entry)) (now (ends .entry)) (now (marks .entry)) 0 17)
-        → Worked (k .graph .register) (k .tree) (Member (now (set .entry))) 0 r (now (numbers .exit))) ⌝ }
+    ensures { λ r. ⌜ ((k : Gradable (Judged (now (s .entry)) items (now (index .entry))) (now (names .entry)) (now (roles .entry)) (now (ends .entry)) (now (marks .entry)) 0 17)
+        → Worked (k .posed .graph .register) (k .tree) (Member (now (set .entry))) 0 r (now (numbers .exit))) ⌝ }
 {
     let mut notes = [0u64; 1];
     work(

@@ -30,7 +30,8 @@ use Rattle.meaning.proofs.Rows.{opened, first, ran-out, holds-nodes}
 use Rattle.graph.proofs.Use.{next-inside}
 use Rattle.degrees.specs.Notes.{Note, Noted, NotedF}
 use Rattle.degrees.proofs.Folding.{mark-zero, mark-other}
-use Rattle.shown.specs.Given.{placeOf, Inside, drawn, Drawing}
+use Rattle.graph.specs.Posed.{placeOf}
+use Rattle.shown.specs.Given.{Inside, drawn, Drawing}
 
 -- ---- stores one after the other
 
@@ -166,16 +167,17 @@ start names roles ends marks g notes (node a f) left i e o m h k s =
 root-drawn : (G : Graph ℕ) (t : Concept) (i : ℕ) (o : Option ℕ) (m : List ℕ) (v : ℕ) → v ≡ placeOf o
     → children-drawn G t i o (set m i v) ≡ sets m i (map markNumber (shown G t o))
 unfolding shown
-root-drawn G (node a f) i o m v e = rw (e, add-one i)
+root-drawn G (node a f) i nowhere m v e = rw (e, add-one i)
+root-drawn G (node a f) i (some x) m v e = rw (e, add-one i)
 
 module _ {s : List ℕ} {items : ℕ} {index ends marks notes : List ℕ} {node left item : ℕ} (k : Drawing s items index ends marks notes node left item) where
   pub drawing-here : (0 < left) × (node < 64) × (node < getD ends node 0)
   drawing-here =
-      let q = opened (k .names) (k .roles) ends (k .tree) left node (getD ends node 0) (k .held) in
-      (q .deep, let l = q .inside in let m = k .few in omega arith, q .inside)
+      let q = opened (k .names) (k .roles) ends (k .tree) left node (getD ends node 0) (k .posed .held) in
+      (q .deep, let l = q .inside in let m = k .posed .few in omega arith, q .inside)
 
   pub drawing-fits : item < 65536
-  drawing-fits = rw (k .same) (place-fits items (k .to) (k .graph .most) (k .inside))
+  drawing-fits = rw (k .same) (place-fits items (k .to) (k .posed .graph .most) (k .inside))
 
   -- an item, where it is not nowhere
   pub drawing-inside : (item ≡ 65535 → ⊥) → item < items
@@ -188,33 +190,33 @@ module _ {s : List ℕ} {items : ℕ} {index ends marks notes : List ℕ} {node 
   -- the children from row c on are left, and the node goes to o
   abbrev pub Traced : List ℕ → ℕ → List ℕ → Type 0
   Traced old c new =
-      Drawn (k .names) (k .roles) ends marks (k .graph .register) notes (left - 1) (getD ends node 0) (k .to)
-      (children-drawn (judged (k .graph .register)) (k .tree) node (k .to) old) c new
+      Drawn (k .names) (k .roles) ends marks (k .posed .graph .register) notes (left - 1) (getD ends node 0) (k .to)
+      (children-drawn (judged (k .posed .graph .register)) (k .tree) node (k .to) old) c new
 
   pub trace-start : (m : List ℕ) → Traced m (node + 1) m
   trace-start m =
-      start (k .names) (k .roles) ends marks (k .graph .register) notes (k .tree) left node (getD ends node 0) (k .to) m (k .held) (k .marked) (k .noted)
+      start (k .names) (k .roles) ends marks (k .posed .graph .register) notes (k .tree) left node (getD ends node 0) (k .to) m (k .posed .held) (k .marked) (k .noted)
 
   pub trace-end : (m : List ℕ) (v c : ℕ) (new : List ℕ) → v ≡ item → Traced (set m node v) c new → getD ends node 0 ≤ c
-      → new ≡ drawn (k .graph .register) (k .tree) node (k .to) m
-  trace-end m v c new e w l = drawn-end w l ∙ root-drawn (judged (k .graph .register)) (k .tree) node (k .to) m v (e ∙ k .same)
+      → new ≡ drawn (k .posed .graph .register) (k .tree) node (k .to) m
+  trace-end m v c new e w l = drawn-end w l ∙ root-drawn (judged (k .posed .graph .register)) (k .tree) node (k .to) m v (e ∙ k .same)
 
   -- a child that is kept, and goes where the notes say
   module _ (b : Bytes s) {final : List ℕ} {c : ℕ} {new : List ℕ}
-      (w : Drawn (k .names) (k .roles) ends marks (k .graph .register) notes (left - 1) (getD ends node 0) (k .to) final c new)
+      (w : Drawn (k .names) (k .roles) ends marks (k .posed .graph .register) notes (left - 1) (getD ends node 0) (k .to) final c new)
       (l : c < getD ends node 0) (m : getD marks c 0 ≡ 0 → ⊥) (next : ℕ)
-      (onward : (o : Option ℕ) → (item ≡ 65535 → o ≡ nowhere) → ((item ≡ 65535 → ⊥) → Note (k .graph .register) notes c item o) → next ≡ placeOf o) where
-    abbrev pub child : Child (k .names) (k .roles) ends marks (k .graph .register) notes (left - 1) (getD ends node 0) (k .to) final c new
+      (onward : (o : Option ℕ) → (item ≡ 65535 → o ≡ nowhere) → ((item ≡ 65535 → ⊥) → Note (k .posed .graph .register) notes c item o) → next ≡ placeOf o) where
+    abbrev pub child : Child (k .names) (k .roles) ends marks (k .posed .graph .register) notes (left - 1) (getD ends node 0) (k .to) final c new
     child = drawn-child w l m
 
     -- where it goes, and what is known there
     pub record Going (o : Option ℕ) : Type 0 where
       pub inside : Inside items o
       pub lost : item ≡ 65535 → o ≡ nowhere
-      pub note : (item ≡ 65535 → ⊥) → Note (k .graph .register) notes c item o
-      pub noted : (y : ℕ) → o ≡ some y → Noted ends marks (k .graph .register) notes (child .tree) c y
+      pub note : (item ≡ 65535 → ⊥) → Note (k .posed .graph .register) notes c item o
+      pub noted : (y : ℕ) → o ≡ some y → Noted ends marks (k .posed .graph .register) notes (child .tree) c y
 
-    from : (p : Option ℕ) → Inside items p → item ≡ placeOf p → k .to ≡ p → Going (goesTo (judged (k .graph .register)) p (getD (k .roles) c 0) (child .tree))
+    from : (p : Option ℕ) → Inside items p → item ≡ placeOf p → k .to ≡ p → Going (goesTo (judged (k .posed .graph .register)) p (getD (k .roles) c 0) (child .tree))
     unfolding goesTo
     from nowhere i e q = record {
       inside = tt;
@@ -223,44 +225,42 @@ module _ {s : List ℕ} {items : ℕ} {index ends marks notes : List ℕ} {node 
       noted = λ y z. absurd (let x : _≡_ {A = ℕ} 0 1 = cc in omega arith);
     }
     from (some x) i e q =
-        rw (goes-some (judged (k .graph .register)) x (getD (k .roles) c 0) (child .tree)) (record {
+        rw (goes-some (judged (k .posed .graph .register)) x (getD (k .roles) c 0) (child .tree)) (record {
           inside = stays (pick v ys) refl;
-          lost = λ z. absurd (let y : item ≡ 65535 = z in let r = k .graph .most in omega arith);
+          lost = λ z. absurd (let y : item ≡ 65535 = z in let r = k .posed .graph .most in omega arith);
           note = λ z. rw e (child .noted x q .0);
           noted = λ y z. child .noted x q .1 y (pick-some v ys y z .0);
         })
       where
         v : ℕ → ℕ
-        v y = degreeIn (judged (k .graph .register)) (child .tree) y
+        v y = degreeIn (judged (k .posed .graph .register)) (child .tree) y
 
         ys : List ℕ
-        ys = judged (k .graph .register) .next x (getD (k .roles) c 0)
+        ys = judged (k .posed .graph .register) .next x (getD (k .roles) c 0)
 
         stays : (p : Option ℕ) → pick v ys ≡ p → Inside items p
         stays nowhere z = tt
-        stays (some y) z = next-inside (k .graph) b x (getD (k .roles) c 0) y (pick-some v ys y z .0)
+        stays (some y) z = next-inside (k .posed .graph) b x (getD (k .roles) c 0) y (pick-some v ys y z .0)
 
-    pub going : Going (goesTo (judged (k .graph .register)) (k .to) (getD (k .roles) c 0) (child .tree))
+    pub going : Going (goesTo (judged (k .posed .graph .register)) (k .to) (getD (k .roles) c 0) (child .tree))
     going = from (k .to) (k .inside) (k .same) refl
 
     abbrev pub trace-child : Drawing s items index ends marks notes c (left - 1) next
     trace-child = record {
-      graph = k .graph;
       names = k .names;
       roles = k .roles;
       tree = child .tree;
-      held = child .held;
+      posed = record { graph = k .posed .graph; held = child .held; few = le-trans (drawn-next w l .1) (k .posed .few) };
       marked = child .marked;
-      few = le-trans (drawn-next w l .1) (k .few);
       places = k .places;
-      to = goesTo (judged (k .graph .register)) (k .to) (getD (k .roles) c 0) (child .tree);
+      to = goesTo (judged (k .posed .graph .register)) (k .to) (getD (k .roles) c 0) (child .tree);
       inside = going .inside;
       same = onward _ (going .lost) (going .note);
       noted = going .noted;
     }
 
-    pub trace-next : (j : ℕ) → j ≡ getD ends c 0 → (new′ : List ℕ) → new′ ≡ drawn (k .graph .register) (trace-child .tree) c (trace-child .to) new
-        → Drawn (k .names) (k .roles) ends marks (k .graph .register) notes (left - 1) (getD ends node 0) (k .to) final j new′
+    pub trace-next : (j : ℕ) → j ≡ getD ends c 0 → (new′ : List ℕ) → new′ ≡ drawn (k .posed .graph .register) (trace-child .tree) c (trace-child .to) new
+        → Drawn (k .names) (k .roles) ends marks (k .posed .graph .register) notes (left - 1) (getD ends node 0) (k .to) final j new′
     trace-next j ej new′ e = drawn-is (child .then j ej) e
 
 -- ---- a dropped child

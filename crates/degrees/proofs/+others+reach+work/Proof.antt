@@ -1,6 +1,7 @@
 use Prim.Native.Nat.{ℕ, _<_}
 use borrow.Fn.Kinds.{In}
 use borrow.Fn.PlainCycle.{Measures, is, falls, and}
+use Rattle.graph.specs.Judged.{Judged}
 use Rattle.degrees.proofs.others.Reads as others
 use Rattle.degrees.proofs.others.Kinds as others-kinds
 use Rattle.degrees.proofs.+others+reach+work.Lts-others as others-lts
@@ -25,7 +26,7 @@ use Prim.Native.Nat.{_+_, _-_, _*_, _≤_}
 use native.Mathlib.Omega.{arith}
 use lib.ListN.{length}
 use Rattle.graph.proofs.Empty.{among-none}
-use Rattle.degrees.specs.Case.{Case, Member}
+use Rattle.degrees.specs.Gradable.{Gradable, Member}
 use Rattle.degrees.specs.Heavy.{Heavy, Headed}
 use Rattle.degrees.proofs.Reaching.{written, here, asked-items, room-here, reach-done}
 use Rattle.degrees.proofs.Head.{alone-done, heavy-case, heavy-low, heavy-clear, heavy-room, heavy-two, heavy-folding, heavy-own, heavy-headed, heavy-done}
@@ -66,7 +67,7 @@ work-below t = and 9 work-kinds.ps (falls 9 work-kinds.ps _<_ μ-work t) work.Pr
 abbrev others-Inv-loop : others-lts.InvT-loop
 others-Inv-loop s items index names roles ends marks node left set heavy first at notes₀ numbers₀ e n₀ product₀ c₀ notes numbers n product c =
     (length notes ≡ length notes₀) × (length numbers ≡ length numbers₀) × (1 ≤ n)
-    × ((k : Case s items index names roles ends marks node left) (h : Headed k (Member set) heavy at first notes₀ numbers₀) → Going k set heavy at first notes₀ numbers₀ h
+    × ((k : Gradable (Judged s items index) names roles ends marks node left) (h : Headed k (Member set) heavy at first notes₀ numbers₀) → Going k set heavy at first notes₀ numbers₀ h
     notes numbers n product c)
 
 abbrev others-μ-loop : others-lts.MeasureT-loop
@@ -103,13 +104,13 @@ pub +others+reach+work-spec : {M : Type 1} → statement M
     (λ c.
     let at-octet = c .before .before .before .before in
     let start = at-octet .before .before .before .before .before .before .before in
-    omega (arith, c .loop-test .taken, at-octet .octet .ensures .0, (start .pre .1 .0) .few))
+    omega (arith, c .loop-test .taken, at-octet .octet .ensures .0, start .pre .1 .0 .posed .few))
     (λ c κs. search needs)
     (λ c.
     let at-loop-test = c .before .before in
     let at-octet = at-loop-test .before .before .before .before in
     let start = at-octet .before .before .before .before .before .before .before in
-    omega (arith, at-loop-test .loop-test .taken, at-octet .octet .ensures .0, (start .pre .1 .0) .few))
+    omega (arith, at-loop-test .loop-test .taken, at-octet .octet .ensures .0, start .pre .1 .0 .posed .few))
     (λ c κs. search needs)
     (λ c.
     let at-octet2 = c .before .before .before in
@@ -183,7 +184,7 @@ pub +others+reach+work-spec : {M : Type 1} → statement M
     let at-loop-test = c .before .before .before .before .before .before .before .before .before .before .before .before in
     let at-octet = at-loop-test .before .before .before .before in
     let start = at-octet .before .before .before .before .before .before .before in
-    omega (arith, at-loop-test .loop-test .taken, at-octet .octet .ensures .0, (start .pre .1 .0) .few))
+    omega (arith, at-loop-test .loop-test .taken, at-octet .octet .ensures .0, start .pre .1 .0 .posed .few))
     (λ c κs. search needs)
     (λ c.
     let at-if1 = c .before .before .before .before .before .before .before .before .before in
@@ -278,7 +279,7 @@ pub +others+reach+work-spec : {M : Type 1} → statement M
           _ _ _ _ _ h (turn .loop .inv .3 k h) (omega (arith, at-loop-test .loop-test .taken, at-octet .octet .ensures .0)) _ (at-passed .passed .ensures) (at-if1 .if1 .left)
           _ _ _ _ (at-octet3 .octet3 .ensures .0) (start .pre .1 .1 .0 .0 .1) (at-reach .reach .ensures (going-case k (start .args .set .now) _ _ _ _ _ h (turn .loop .inv .3
           k h) (omega (arith, at-loop-test .loop-test .taken, at-octet .octet .ensures .0)) _ (at-passed .passed .ensures) (at-if1 .if1 .left))) _ (at-octet2 .octet2 .ensures .0)
-          _ _ (at-reach .reach .kept .1 .1 .1 .1 .1 .1 .1 .1 .1 .1 .1 .0) (at-fold .fold .kept .1 .1 .1 .1 .1 .1 .1 .1 .1 .1 .0) (at-fold .fold .ensures (k .graph)),
+          _ _ (at-reach .reach .kept .1 .1 .1 .1 .1 .1 .1 .1 .1 .1 .1 .0) (at-fold .fold .kept .1 .1 .1 .1 .1 .1 .1 .1 .1 .1 .0) (at-fold .fold .ensures (k .posed .graph)),
     ))
     (λ c.
     let at-octet = c .before .before .before .before in
@@ -313,7 +314,7 @@ pub +others+reach+work-spec : {M : Type 1} → statement M
     (λ c. search needs)
     (λ c κs.
     let start = c .before .before .before .before .before .before .before .before in
-    (start .pre .1 .0 .graph, (start .pre .1 .1 .0, (refl, among-none _))))
+    (start .pre .1 .0 .posed .graph, (start .pre .1 .1 .0, (refl, among-none _))))
     (λ c. search needs)
     (λ c κs.
     let at-spread = c .before .before .before .before in
@@ -322,7 +323,7 @@ pub +others+reach+work-spec : {M : Type 1} → statement M
       (
         start .pre .1 .0,
         (
-          (at-spread .spread .kept .1 .1 .1 .1 .1 .0, at-spread .spread .ensures (start .pre .1 .0 .graph) .among),
+          (at-spread .spread .kept .1 .1 .1 .1 .1 .0, at-spread .spread .ensures (start .pre .1 .0 .posed .graph) .among),
           start .pre .1 .1 .1,
           start .pre .1 .1 .2,
         ),
@@ -335,7 +336,7 @@ pub +others+reach+work-spec : {M : Type 1} → statement M
     let at-spread = at-work .before .before .before .before .before in
     let at-octet = at-spread .before .before in
     let start = at-octet .before .before .before .before .before .before .before in
-    λ k. reach-done k (start .args .set .now) _ _ _ _ _ _ _ _ (at-octet .octet .ensures .0) (at-spread .spread .ensures (k .graph)) (at-work .work .ensures k)))
+    λ k. reach-done k (start .args .set .now) _ _ _ _ _ _ _ _ (at-octet .octet .ensures .0) (at-spread .spread .ensures (k .posed .graph)) (at-work .work .ensures k)))
     λ t. work-lts.spec (
       heaviest-reads.Asked,
       heaviest-reads.Learnt,
@@ -370,7 +371,7 @@ pub +others+reach+work-spec : {M : Type 1} → statement M
     let at-heaviest = at-octet .before .before in
     let start = at-heaviest .before .before .before .before .before .before in
     λ k. alone-done k (subst (λ (z : ℕ). Heavy (start .args .ends .now) (start .args .marks .now) (k .tree) (start .args .node) z) (at-if1 .if1 .taken ∙ at-octet .octet .ensures .0)
-    (at-heaviest .heaviest .ensures (written k))) _ _ _ _ _ _ (at-alone .alone .ensures .0) (at-alone .alone .ensures .1 .0 (k .graph .register) (k .graph .read))
+    (at-heaviest .heaviest .ensures (written k))) _ _ _ _ _ _ (at-alone .alone .ensures .0) (at-alone .alone .ensures .1 .0 (k .posed .graph .register) (k .posed .graph .read))
     (at-alone .alone .ensures .1 .1))
     (λ c. omega (arith, here (c .before .before .before .before .before .before .before .before .before .pre .1 .0) .0))
     (λ c κs.
@@ -447,7 +448,7 @@ pub +others+reach+work-spec : {M : Type 1} → statement M
     let k = start .pre .1 .0 in (
       heavy-own k _ (at-heaviest .heaviest .ensures (written k)) (λ z. at-if1 .if1 .left (z ∙ sym (at-octet .octet .ensures .0))) (start .args .set .now)
           _ _ _ _ _ _ _ (at-octet2 .octet2 .ensures .0) (at-reach .reach .ensures (heavy-case k _ (at-heaviest .heaviest .ensures (written k)) (λ z. at-if1 .if1 .left
-          (z ∙ sym (at-octet .octet .ensures .0))) (start .args .set .now))) (start .pre .1 .1 .1) _ _ (at-fold .fold .ensures (k .graph)) (start .pre .1 .1 .0),
+          (z ∙ sym (at-octet .octet .ensures .0))) (start .args .set .now))) (start .pre .1 .1 .1) _ _ (at-fold .fold .ensures (k .posed .graph)) (start .pre .1 .1 .0),
       omega (
         arith,
         heavy-two k _ (at-heaviest .heaviest .ensures (written k)) (λ z. at-if1 .if1 .left (z ∙ sym (at-octet .octet .ensures .0))) (start .args .set .now) _
@@ -477,7 +478,7 @@ pub +others+reach+work-spec : {M : Type 1} → statement M
           λ k. heavy-headed k _ (at-heaviest .heaviest .ensures (written k)) (λ
               z. at-if1 .if1 .left (z ∙ sym (at-octet .octet .ensures .0))) (start .args .set .now) _ _ _ _ _ _ _ (at-octet2 .octet2 .ensures .0) (at-reach .reach .ensures
               (heavy-case k _ (at-heaviest .heaviest .ensures (written k)) (λ z. at-if1 .if1 .left (z ∙ sym (at-octet .octet .ensures .0))) (start .args .set .now))) (start .pre .1 .1 .1)
-              _ _ (at-fold .fold .ensures (k .graph)) _ (at-fold .fold .kept .1 .1 .1 .1 .1 .1 .1 .1 .1 .1 .0) (at-own .own .ensures .0 (k .graph .register) (k .graph .read)),
+              _ _ (at-fold .fold .ensures (k .posed .graph)) _ (at-fold .fold .kept .1 .1 .1 .1 .1 .1 .1 .1 .1 .1 .0) (at-own .own .ensures .0 (k .posed .graph .register) (k .posed .graph .read)),
         ),
       ),
     ))
@@ -505,5 +506,5 @@ pub +others+reach+work-spec : {M : Type 1} → statement M
     let start = at-heaviest .before .before .before .before .before .before in
     λ k. heavy-done k _ (at-heaviest .heaviest .ensures (written k)) (λ z. at-if1 .if1 .left (z ∙ sym (at-octet .octet .ensures .0))) (start .args .set .now) _ _ _ _
     _ _ _ (at-octet2 .octet2 .ensures .0) (at-reach .reach .ensures (heavy-case k _ (at-heaviest .heaviest .ensures (written k)) (λ z. at-if1 .if1 .left (z ∙ sym
-    (at-octet .octet .ensures .0))) (start .args .set .now))) (start .pre .1 .1 .1) _ _ (at-fold .fold .ensures (k .graph)) _ _ _ _ (at-own .own .ensures .1)
+    (at-octet .octet .ensures .0))) (start .args .set .now))) (start .pre .1 .1 .1) _ _ (at-fold .fold .ensures (k .posed .graph)) _ _ _ _ (at-own .own .ensures .1)
     (at-others .others .ensures k))

@@ -61,13 +61,13 @@ pub +show-spec : {M : Type 1} → statement M
     (λ c.
     let at-octet = c .before .before in
     let start = at-octet .before .before .before .before .before .before in
-    omega (arith, c .loop-test .taken, at-octet .octet .ensures .0, start .pre .1 .0 .few))
+    omega (arith, c .loop-test .taken, at-octet .octet .ensures .0, start .pre .1 .0 .posed .few))
     (λ c κs. search needs)
     (λ c.
     let at-loop-test = c .before .before in
     let at-octet = at-loop-test .before .before in
     let start = at-octet .before .before .before .before .before .before in
-    omega (arith, at-loop-test .loop-test .taken, at-octet .octet .ensures .0, start .pre .1 .0 .few))
+    omega (arith, at-loop-test .loop-test .taken, at-octet .octet .ensures .0, start .pre .1 .0 .posed .few))
     (λ c κs.
     let at-octet2 = c .before .before .before in
     let at-loop-test = at-octet2 .before .before in
@@ -115,14 +115,14 @@ pub +show-spec : {M : Type 1} → statement M
     let at-loop-test = c .before .before .before .before in
     let at-octet = at-loop-test .before .before in
     let start = at-octet .before .before .before .before .before .before in (
-      (start .pre .1 .0 .graph, start .pre .1 .0 .places),
+      (start .pre .1 .0 .posed .graph, start .pre .1 .0 .places),
       (
         drawing-inside (start .pre .1 .0),
         omega (
           arith,
           at-loop-test .loop-test .taken,
           at-octet .octet .ensures .0,
-          start .pre .1 .0 .few,
+          start .pre .1 .0 .posed .few,
         ),
       ),
     ))
@@ -140,7 +140,7 @@ pub +show-spec : {M : Type 1} → statement M
       omega (arith, drawing-here k .0, start .pre .0),
       (
         trace-child k (bytes-known (start .args .s .now) (at-shared-slice-known .shared-slice-known .given))
-            (turn .loop .inv .1 k) (omega (arith, at-loop-test .loop-test .taken, at-octet .octet .ensures .0)) (at-if1 .if1 .left) _ (c .before .onward .ensures (k .graph)),
+            (turn .loop .inv .1 k) (omega (arith, at-loop-test .loop-test .taken, at-octet .octet .ensures .0)) (at-if1 .if1 .left) _ (c .before .onward .ensures (k .posed .graph)),
         omega (
           arith,
           turn .loop .inv .0,
@@ -177,9 +177,9 @@ pub +show-spec : {M : Type 1} → statement M
     let start = at-shared-slice-known .before in (
       at-show .show .kept .1 .1 .1 .1 .1 .1 .1 .1 .1 .0 ∙ turn .loop .inv .0,
       λ k. trace-next k (bytes-known (start .args .s .now) (at-shared-slice-known .shared-slice-known .given))
-          (turn .loop .inv .1 k) (omega (arith, at-loop-test .loop-test .taken, at-octet .octet .ensures .0)) (at-if1 .if1 .left) _ (at-onward .onward .ensures (k .graph))
+          (turn .loop .inv .1 k) (omega (arith, at-loop-test .loop-test .taken, at-octet .octet .ensures .0)) (at-if1 .if1 .left) _ (at-onward .onward .ensures (k .posed .graph))
           _ (at-octet2 .octet2 .ensures .0) _ (at-show .show .ensures (trace-child k (bytes-known (start .args .s .now) (at-shared-slice-known .shared-slice-known .given))
-          (turn .loop .inv .1 k) (omega (arith, at-loop-test .loop-test .taken, at-octet .octet .ensures .0)) (at-if1 .if1 .left) _ (at-onward .onward .ensures (k .graph)))),
+          (turn .loop .inv .1 k) (omega (arith, at-loop-test .loop-test .taken, at-octet .octet .ensures .0)) (at-if1 .if1 .left) _ (at-onward .onward .ensures (k .posed .graph)))),
     ))
     (λ c.
     let start = c .before .before .before .before .before .before .before .before in

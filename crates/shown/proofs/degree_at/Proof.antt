@@ -4,9 +4,10 @@ use Rattle.shown.proofs.degree_at.Tie as tie
 use Prim.Native.Nat.{ℕ}
 use native.Mathlib.Omega.{arith}
 use lib.ListN.{length-replicate}
+use Rattle.fields.proofs.Known.{bytes-known}
 use Rattle.graph.proofs.Empty.{zero-at}
 use Rattle.folds.proofs.Noting.{clear-none}
-use Rattle.shown.proofs.Alone.{rows-of, graded-of}
+use Rattle.shown.proofs.Alone.{sizes-fit, rows-of, graded-of}
 
 pub degree-at-spec : {M : Type 1} → statement M
 degree-at-spec =
@@ -14,17 +15,10 @@ degree-at-spec =
     (tie.spec
     (λ c. search needs)
     (λ c κs.
-    let start = c .before .before in (
-      record { register = start .pre .0 .register; read = start .pre .0 .read; holds = (start .pre .0 .items-are, start .pre .0 .links-are) },
-      (
-        omega (
-          arith,
-          length-replicate {A = ℕ} 513 0,
-          start .pre .0 .most,
-        ),
-        zero-at 513,
-      ),
-    ))
+    let at-shared-slice-known = c .before in
+    let start = at-shared-slice-known .before in
+    let few = sizes-fit (start .pre .0 .posed .graph) (bytes-known (start .args .s .now) (at-shared-slice-known .shared-slice-known .given)) .0 in
+    (start .pre .0 .posed .graph, (omega (arith, length-replicate {A = ℕ} 513 0, few), zero-at 513)))
     (λ c. search needs)
     (λ c. search needs)
     (λ c. search needs)

@@ -23,7 +23,7 @@ graded-spec =
       (
         (at-include .include .kept .0, alone-among _ (at-include .include .last .0) (at-include .include .ensures) _ (start .pre .1 .0)),
         start .pre .1 .1,
-        room-start _ _ (length-replicate {A = ℕ} 3072 0) (omega (arith, start .pre .0 .few)),
+        room-start _ _ (length-replicate {A = ℕ} 3072 0) (omega (arith, start .pre .0 .posed .few)),
       ),
     ))
     (λ c. search needs)
