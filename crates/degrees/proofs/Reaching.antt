@@ -14,13 +14,14 @@ use Rattle.meaning.specs.Degree.{best}
 use Rattle.meaning.specs.InPlace.{degreeIn}
 use Rattle.meaning.specs.Shown.{pick}
 use Rattle.meaning.specs.Rows.{HoldsF}
-use Rattle.meaning.proofs.Rows.{Opened, opened}
+use Rattle.meaning.proofs.Rows.{opened, holds-one}
 use Rattle.register.specs.Image.{Asked}
 use Rattle.graph.specs.Judged.{Judged}
 use Rattle.graph.specs.Sets.{Spread}
+use Rattle.graph.proofs.Use.{one-register}
 use Rattle.graph.proofs.Same.{best-same, pick-same}
 use Rattle.degrees.specs.Gradable.{Gradable, Member, Items}
-use Rattle.degrees.specs.Room.{Room}
+use Rattle.degrees.specs.Room.{Lent}
 use Rattle.degrees.specs.Notes.{Note, Noted, Outside}
 use Rattle.degrees.specs.Heavy.{Written}
 use Rattle.degrees.specs.Given.{rowAt, Worked, Done, Below}
@@ -47,11 +48,20 @@ module _ {s : List ℕ} {items : ℕ} {index names roles ends marks : List ℕ} 
   pub items-named : (set : List ℕ) → Items items set → Items (length (k .posed .graph .register .names)) set
   items-named set w = (w .0, λ x m. omega (arith, w .1 x m, k .posed .graph .items-are))
 
-  pub asked-items : (set : List ℕ) → Items items set → Asked s (λ g. Items (length (g .names)) set)
-  asked-items set w = record { register = k .posed .graph .register; read = k .posed .graph .read; holds = items-named set w }
+  -- enough is lent for a node alone
+  pub lent-here : {set notes numbers : List ℕ} {at : ℕ} → Lent items set notes numbers ends node at → Asked s (λ g. Items (length (g .names)) set) × (at + 512 ≤ length numbers)
+  lent-here {set} w = (
+    record { register = k .posed .graph .register; read = k .posed .graph .read; holds = items-named set (w .members) },
+    room-one (w .room) (omega (arith, here .2)),
+  )
 
-  pub room-here : (size at : ℕ) → Room size at (getD ends node 0 - node) → at + 512 ≤ size
-  room-here size at room = room-one room (omega (arith, here .2))
+  -- what is done is so for all that is asked there
+  pub done-for : {X : ℕ → Type 0} {at scale : ℕ} {notes mid numbers ys : List ℕ} → Done k X at scale notes mid numbers ys
+      → (j : Gradable (Judged s items index) names roles ends marks node left) → Done j X at scale notes mid numbers ys
+  done-for d j =
+      let g = one-register (k .posed .graph) (j .posed .graph .register) (j .posed .graph .read) in
+      let t = holds-one names roles ends (k .tree) (j .tree) left left node (getD ends node 0) (getD ends node 0) (k .posed .held) (j .posed .held) in
+      record { worked = rw (← g, ← t) (d .worked); noted = λ x m. rw (← g, ← t) (d .noted x m); outside = d .outside; kept = d .kept }
 
   -- what is done at a set that has all that another reaches, is done where that reaches
   pub reach-done : (set in′ : List ℕ) (role at scale : ℕ) (notes mid numbers ys : List ℕ) → role ≡ getD roles node 0 → Spread graph items set role in′

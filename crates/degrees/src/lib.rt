@@ -9,8 +9,7 @@ ghost use lib.ListN.{length, getD};
 ghost use Rattle.meaning.specs.Register.{judged};
 ghost use Rattle.graph.specs.Judged.{Judged};
 ghost use Rattle.degrees.specs.Gradable.{Gradable, Member, Items};
-ghost use Rattle.degrees.specs.Room.{Room};
-ghost use Rattle.degrees.specs.Notes.{Clear};
+ghost use Rattle.degrees.specs.Room.{Lent};
 ghost use Rattle.degrees.specs.Heavy.{Written, Heavy, Headed};
 ghost use Rattle.degrees.specs.Given.{Worked, Done, Below};
 
@@ -78,7 +77,7 @@ pub fn work(
     numbers: &mut [u32],
 ) -> u64
     requires { ⌜ Gradable (Judged (now s) items (now index)) (now names) (now roles) (now ends) (now marks) node left ⌝ }
-    requires { ⌜ Items items (now set) × Clear (now notes) (node + 1) (getD (now ends) node 0) × Room (length (now numbers)) at (getD (now ends) node 0 - node) ⌝ }
+    requires { ⌜ Lent items (now set) (now notes) (now numbers) (now ends) node at ⌝ }
     ensures { λ r. ⌜ ((k : Gradable (Judged (now (s .entry)) items (now (index .entry))) (now (names .entry)) (now (roles .entry)) (now (ends .entry)) (now (marks .entry)) node left)
         → Done k (Member (now (set .entry))) at r (now (notes .entry)) (now (notes .exit)) (now (numbers .entry)) (now (numbers .exit))) ⌝ }
 {
@@ -153,7 +152,7 @@ fn reach(
     numbers: &mut [u32],
 ) -> u64
     requires { ⌜ Gradable (Judged (now s) items (now index)) (now names) (now roles) (now ends) (now marks) node left ⌝ }
-    requires { ⌜ Items items (now set) × Clear (now notes) (node + 1) (getD (now ends) node 0) × Room (length (now numbers)) at (getD (now ends) node 0 - node) ⌝ }
+    requires { ⌜ Lent items (now set) (now notes) (now numbers) (now ends) node at ⌝ }
     ensures { λ r. ⌜ ((k : Gradable (Judged (now (s .entry)) items (now (index .entry))) (now (names .entry)) (now (roles .entry)) (now (ends .entry)) (now (marks .entry)) node left)
         → Done k (Below (judged (k .posed .graph .register)) (now (set .entry)) (getD (now (roles .entry)) node 0)) at r
         (now (notes .entry)) (now (notes .exit)) (now (numbers .entry)) (now (numbers .exit))) ⌝ }
@@ -196,10 +195,7 @@ fn others(
     notes: &mut [u64],
     numbers: &mut [u32],
 ) -> u64
-    requires { ⌜ Gradable (Judged (now s) items (now index)) (now names) (now roles) (now ends) (now marks) node left ⌝ }
-    requires { ⌜ Items items (now set) × Room (length (now numbers)) at (getD (now ends) node 0 - node) ⌝ }
-    requires { ⌜ ((k : Gradable (Judged (now s) items (now index)) (now names) (now roles) (now ends) (now marks) node left)
-        → Headed k (Member (now set)) heavy at first (now notes) (now numbers)) ⌝ }
+    requires { ⌜ Headed (now s) items (now index) (now names) (now roles) (now ends) (now marks) node left (now set) heavy at first (now notes) (now numbers) ⌝ }
     ensures { λ r. ⌜ ((k : Gradable (Judged (now (s .entry)) items (now (index .entry))) (now (names .entry)) (now (roles .entry)) (now (ends .entry)) (now (marks .entry)) node left)
         → Done k (Member (now (set .entry))) at r (now (notes .entry)) (now (notes .exit)) (now (numbers .entry)) (now (numbers .exit))) ⌝ }
 {

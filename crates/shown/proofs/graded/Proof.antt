@@ -20,11 +20,11 @@ graded-spec =
     let at-include = c .before .before .before .before in
     let start = at-include .before .before .before .before .before in (
       start .pre .0,
-      (
-        (at-include .include .kept .0, alone-among _ (at-include .include .last .0) (at-include .include .ensures) _ (start .pre .1 .0)),
-        start .pre .1 .1,
-        room-start _ _ (length-replicate {A = ℕ} 3072 0) (omega (arith, start .pre .0 .posed .few)),
-      ),
+      record {
+        members = (at-include .include .kept .0, alone-among _ (at-include .include .last .0) (at-include .include .ensures) _ (start .pre .1 .0));
+        clear = start .pre .1 .1;
+        room = room-start _ _ (length-replicate {A = ℕ} 3072 0) (omega (arith, start .pre .0 .posed .few));
+      },
     ))
     (λ c. search needs)
     (λ c. search needs)
