@@ -19,8 +19,8 @@ use Rattle.meaning.specs.Rows.{Holds, HoldsF, mark, Marked, MarkedF}
 use Rattle.meaning.proofs.Scale.{scale-pos}
 use Rattle.meaning.proofs.InPlace.{scale-in}
 use Rattle.meaning.proofs.Rows.{opened}
-use Rattle.degrees.specs.Heavy.{Stands}
-use Rattle.degrees.proofs.Stands.{stands-place}
+use Rattle.heaviest.specs.Heavy.{Stands}
+use Rattle.heaviest.proofs.Stands.{stands-place}
 
 -- a mark says whether the node is dropped
 pub mark-zero : (d : Bool) → mark d ≡ 0 → d ≡ true

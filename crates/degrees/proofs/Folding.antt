@@ -22,8 +22,8 @@ use Rattle.meaning.proofs.Names.{common-le}
 use Rattle.meaning.proofs.Scale.{scaleF-pos, degree-le, degreeF-le}
 use Rattle.meaning.proofs.InPlace.{count-in, scale-in, scaleF-in, degree-in, degreeF-in}
 use Rattle.meaning.proofs.Rows.{first, ran-out}
-use Rattle.degrees.specs.Heavy.{Stands}
-use Rattle.degrees.proofs.Stands.{Place, stands-place}
+use Rattle.heaviest.specs.Heavy.{Stands}
+use Rattle.heaviest.proofs.Stands.{Place, stands-place}
 pub use Rattle.degrees.proofs.But.{mark-zero, mark-other, scale-in-pos}
 use Rattle.degrees.proofs.But.{stands-marked, countBut, scaleBut, degreeBut, but-pos, but-one}
 

@@ -20,10 +20,11 @@ use Rattle.graph.specs.Judged.{Judged}
 use Rattle.degrees.specs.Gradable.{Gradable, Member, Items}
 use Rattle.degrees.specs.Room.{Room, Lent}
 use Rattle.degrees.specs.Notes.{flag}
-use Rattle.degrees.specs.Heavy.{Stands, Headed}
+use Rattle.heaviest.specs.Heavy.{Stands}
+use Rattle.degrees.specs.Headed.{Headed}
 use Rattle.degrees.specs.Given.{rowAt, Kept, Done, Below, sumWith, Folding, Folded}
 use Rattle.degrees.proofs.Room.{room-two, room-next}
-use Rattle.degrees.proofs.Stands.{Place, stands-place, stands-apart}
+use Rattle.heaviest.proofs.Stands.{Place, stands-place, stands-apart}
 use Rattle.degrees.proofs.Folding.{Rest, Child, head, given, rest-at, rest-skip, rest-pass, rest-child, rest-next, whole-fits, whole-other}
 use Rattle.degrees.proofs.Noted.{Entered, entered-start, entered-pass, entered-clear, entered-next, entered-end, noted-node}
 use Rattle.degrees.proofs.Reaching.{graph, rows, done-for, reach-best, reach-one}

@@ -22,10 +22,11 @@ use Rattle.graph.specs.Judged.{Judged}
 use Rattle.degrees.specs.Gradable.{Gradable, Member, Items}
 use Rattle.degrees.specs.Room.{Lent}
 use Rattle.degrees.specs.Notes.{Outside}
-use Rattle.degrees.specs.Heavy.{Stands, Heavy, Headed}
+use Rattle.heaviest.specs.Heavy.{Stands, Heavy}
+use Rattle.degrees.specs.Headed.{Headed}
 use Rattle.degrees.specs.Given.{rowAt, Kept, Done, Below, Folding, Folded}
 use Rattle.degrees.proofs.Room.{room-two, room-fewer}
-use Rattle.degrees.proofs.Stands.{Place}
+use Rattle.heaviest.proofs.Stands.{Place}
 use Rattle.degrees.proofs.But.{mark-zero}
 use Rattle.degrees.proofs.Folding.{Head, head, given}
 use Rattle.degrees.proofs.Noted.{outside-then, noted-node}

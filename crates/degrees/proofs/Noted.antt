@@ -18,8 +18,9 @@ use Rattle.meaning.specs.Shown.{pick}
 use Rattle.meaning.specs.Rows.{Holds, HoldsF}
 use Rattle.meaning.proofs.Rows.{opened, holds-one}
 use Rattle.degrees.specs.Notes.{flag, Note, Noted, NotedF, Outside}
-use Rattle.degrees.specs.Heavy.{Stands, One}
-use Rattle.degrees.proofs.Stands.{Place, stands-place, stands-apart, stands-first, stands-next}
+use Rattle.heaviest.specs.Heavy.{Stands}
+use Rattle.degrees.specs.Headed.{One}
+use Rattle.heaviest.proofs.Stands.{Place, stands-place, stands-apart, stands-first, stands-next}
 
 -- ---- rows that stay
 

@@ -23,10 +23,10 @@ use Rattle.graph.proofs.Same.{best-same, pick-same}
 use Rattle.degrees.specs.Gradable.{Gradable, Member, Items}
 use Rattle.degrees.specs.Room.{Lent}
 use Rattle.degrees.specs.Notes.{Note, Noted, Outside}
-use Rattle.degrees.specs.Heavy.{Written}
+use Rattle.heaviest.specs.Heavy.{Written}
 use Rattle.degrees.specs.Given.{rowAt, Worked, Done, Below}
 use Rattle.degrees.proofs.Room.{room-one}
-use Rattle.degrees.proofs.Stands.{below}
+use Rattle.heaviest.proofs.Stands.{below}
 use Rattle.degrees.proofs.Folding.{given}
 use Rattle.degrees.proofs.Noted.{noted-same}
 

@@ -13,9 +13,9 @@ use Rattle.degrees.proofs.work.Kinds as work-kinds
 use Rattle.degrees.proofs.+others+reach+work.Lts-work as work-lts
 use Rattle.folds.proofs.alone.Reads as alone-reads
 use Rattle.folds.proofs.fold.Reads as fold-reads
-use Rattle.degrees.proofs.heaviest.Reads as heaviest-reads
+use Rattle.heaviest.proofs.heaviest.Reads as heaviest-reads
 use Rattle.folds.proofs.own.Reads as own-reads
-use Rattle.degrees.proofs.passed.Reads as passed-reads
+use Rattle.heaviest.proofs.passed.Reads as passed-reads
 use Rattle.fields.proofs.octet.Reads as octet-reads
 use Rattle.fields.proofs.quad.Reads as quad-reads
 use Rattle.graph.proofs.spread.Reads as spread-reads
@@ -25,7 +25,7 @@ use mathlib.Core.Path.{refl, sym, subst, _∙_}
 use Prim.Native.Nat.{_+_, _-_, _*_}
 use native.Mathlib.Omega.{arith}
 use Rattle.graph.proofs.Empty.{among-none}
-use Rattle.degrees.specs.Heavy.{Heavy}
+use Rattle.heaviest.specs.Heavy.{Heavy}
 use Rattle.degrees.proofs.Reaching.{written, here, lent-here, reach-done}
 use Rattle.degrees.proofs.Head.{alone-done, First, first-low, first-asked, first-lent, first-two, first-folding, first-own, first-headed, first-done}
 use Rattle.degrees.proofs.Going.{Going, going-start, going-low, going-less, going-pass, going-fits, going-done}

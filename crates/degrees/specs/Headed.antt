@@ -1,4 +1,4 @@
--- A node's children by their rows, and the one that is folded in before the others.
+-- The child of a node that is folded in before the others.
 -- Assumes nothing.
 use mathlib.Core.Path.{_≡_}
 use mathlib.Core.Bool.{false}
@@ -6,42 +6,17 @@ use mathlib.Core.Logic.{_⊎_}
 use mathlib.Core.List.{List, List·Memᴰ}
 use Prim.Native.Nat.{ℕ, _+_, _-_, _*_, _≤_, _<_}
 use lib.ListN.{length, getD}
-use Rattle.meaning.specs.Bounds.{mostNodes}
 use Rattle.meaning.specs.Names.{common}
-use Rattle.meaning.specs.Tree.{Forest, none, more, Concept, children}
+use Rattle.meaning.specs.Tree.{Concept, children}
 use Rattle.meaning.specs.Register.{Register, judged}
 use Rattle.meaning.specs.Degree.{best}
 use Rattle.meaning.specs.InPlace.{scaleIn, degreeIn}
 use Rattle.meaning.specs.Shown.{pick}
-use Rattle.meaning.specs.Rows.{Holds}
+use Rattle.heaviest.specs.Heavy.{Stands, Most}
 use Rattle.graph.specs.Judged.{Judged}
 use Rattle.degrees.specs.Gradable.{Gradable, Member, Items}
 use Rattle.degrees.specs.Room.{Room}
 use Rattle.degrees.specs.Notes.{flag, Note, Noted}
-
--- of the trees f, which stand from row i on, the one at row c is t
-unfoldable pub Stands : List ℕ → Forest ℕ → ℕ → ℕ → Concept → Type 0
-Stands ends none i c t = ⊥
-Stands ends (more r u f) i c t = ((i ≡ c) × (u ≡ t)) ⊎ Stands ends f (getD ends i 0) c t
-
--- rows with these ends hold a tree at a row
-pub record Written (ends : List ℕ) (node : ℕ) : Type 0 where
-  pub names : List ℕ
-  pub roles : List ℕ
-  pub left : ℕ
-  pub tree : Concept
-  pub held : Holds names roles ends tree left node (getD ends node 0)
-  pub few : getD ends node 0 ≤ mostNodes
-
--- no kept child has more rows than the one at row h
-abbrev pub Most : List ℕ → List ℕ → Concept → ℕ → ℕ → Type 0
-Most ends marks t node h = (c : ℕ) (u : Concept) → Stands ends (children t) (node + 1) c u → (getD marks c 0 ≡ 0 → ⊥) → getD ends c 0 - c ≤ getD ends h 0 - h
-
--- a kept child of the tree at a row, of which none has more rows; or, where no child is kept, the row behind it
-pub record Heavy (ends marks : List ℕ) (t : Concept) (node h : ℕ) : Type 0 where
-  pub none : h ≡ getD ends node 0 → (c : ℕ) (u : Concept) → Stands ends (children t) (node + 1) c u → getD marks c 0 ≡ 0
-  pub some : (h ≡ getD ends node 0 → ⊥) → (getD marks h 0 ≡ 0 → ⊥) × ((u : Concept) × Stands ends (children t) (node + 1) h u)
-  pub most : (h ≡ getD ends node 0 → ⊥) → Most ends marks t node h
 
 -- For each x of X: where the child u at row c goes from x is noted, and where all below it go.
 abbrev pub One : List ℕ → List ℕ → List ℕ → Register → (ℕ → Type 0) → List ℕ → ℕ → Concept → Type 0
