@@ -18,7 +18,7 @@ use Rattle.meaning.specs.InPlace.{scaleIn}
 use Rattle.meaning.proofs.Tests.{true-false}
 use Rattle.graph.specs.Judged.{Judged}
 use Rattle.degrees.specs.Gradable.{Gradable, Member, Items}
-use Rattle.degrees.specs.Room.{Room, Lent}
+use Rattle.degrees.specs.Room.{Lent}
 use Rattle.degrees.specs.Notes.{flag}
 use Rattle.heaviest.specs.Heavy.{Stands}
 use Rattle.degrees.specs.Headed.{Headed}

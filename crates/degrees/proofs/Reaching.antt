@@ -1,8 +1,8 @@
 -- What is asked at a node, from what is asked at its parent; and what its numbers, which are worked out where its parent's items reach, do to
 -- those of the parent.
 -- Assumes nothing.
-use mathlib.Core.Path.{_≡_, refl, sym, ap, subst, _∙_}
-use mathlib.Core.Logic.{inl, inr}
+use mathlib.Core.Path.{_≡_}
+use mathlib.Core.Logic.{inr}
 use mathlib.Core.List.{List, List·Memᴰ}
 use Prim.Native.Nat.{ℕ, _+_, _-_, _≤_, _<_}
 use native.Mathlib.Omega.{arith}
@@ -24,7 +24,7 @@ use Rattle.degrees.specs.Gradable.{Gradable, Member, Items}
 use Rattle.degrees.specs.Room.{Lent}
 use Rattle.degrees.specs.Notes.{Note, Noted, Outside}
 use Rattle.heaviest.specs.Heavy.{Written}
-use Rattle.degrees.specs.Given.{rowAt, Worked, Done, Below}
+use Rattle.degrees.specs.Given.{rowAt, Done, Below}
 use Rattle.degrees.proofs.Room.{room-one}
 use Rattle.heaviest.proofs.Stands.{below}
 use Rattle.degrees.proofs.Folding.{given}

@@ -2,7 +2,7 @@
 // the tree's scale. A node is worked out only at the items that its parent's items reach.
 use folds::ROW;
 ghost use mathlib.Core.Path.{_≡_};
-ghost use Prim.Native.Nat.{ℕ, _+_, _-_};
+ghost use Prim.Native.Nat.{_+_, _-_};
 ghost use lib.ListN.{length, getD};
 ghost use Rattle.meaning.specs.Register.{judged};
 ghost use Rattle.graph.specs.Judged.{Judged};

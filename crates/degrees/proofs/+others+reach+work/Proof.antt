@@ -1,7 +1,6 @@
 use Prim.Native.Nat.{ℕ, _<_}
 use borrow.Fn.Kinds.{In}
 use borrow.Fn.PlainCycle.{Measures, is, falls, and}
-use Rattle.graph.specs.Judged.{Judged}
 use Rattle.degrees.proofs.others.Reads as others
 use Rattle.degrees.proofs.others.Kinds as others-kinds
 use Rattle.degrees.proofs.+others+reach+work.Lts-others as others-lts

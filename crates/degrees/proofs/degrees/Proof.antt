@@ -2,7 +2,6 @@ use borrow.Author.Needs.{needs}
 use Rattle.degrees.proofs.degrees.Statement.{statement}
 use Rattle.degrees.proofs.degrees.Tie as tie
 use native.Mathlib.Omega.{arith}
-use lib.ListN.{length}
 use Rattle.degrees.proofs.Room.{room-start}
 use Rattle.folds.proofs.Noting.{clear-none}
 

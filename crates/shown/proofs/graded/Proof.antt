@@ -3,7 +3,7 @@ use Rattle.shown.proofs.graded.Statement.{statement}
 use Rattle.shown.proofs.graded.Tie as tie
 use Prim.Native.Nat.{ℕ, _+_}
 use native.Mathlib.Omega.{arith}
-use mathlib.Core.Path.{_≡_, refl, ap, _∙_}
+use mathlib.Core.Path.{_≡_, ap, _∙_}
 use lib.ListN.{getD, length-replicate}
 use Rattle.degrees.proofs.Room.{room-start}
 use Rattle.shown.proofs.Alone.{alone-in, alone-among}
