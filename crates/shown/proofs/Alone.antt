@@ -51,36 +51,37 @@ module _ {s : List ℕ} {items links : ℕ} {names roles ends marks : List ℕ} 
   abbrev posed-of : Posed (Judged s items index) names roles ends (k .tree) node left
   posed-of = record { graph = j; held = k .posed .held; few = k .posed .few }
 
-  abbrev pub rows-of : Gradable (Judged s items index) names roles ends marks node left
-  rows-of = record { tree = k .tree; posed = posed-of; marked = k .marked; small = k .small }
+  -- the same with an index of its links
+  abbrev pub with-index : Gradable (Judged s items index) names roles ends marks node left
+  with-index = record { tree = k .tree; posed = posed-of; marked = k .marked; small = k .small }
 
-  same : j .register ≡ k .posed .graph .register
+  pub same : j .register ≡ k .posed .graph .register
   same = one-register j (k .posed .graph .register) (k .posed .graph .read)
 
-  pub graded-of : (item : ℕ) (d : Degree) → Graded (j .register) (k .tree) item d → Graded (k .posed .graph .register) (k .tree) item d
-  graded-of item d w = rw same at w
+  -- the degree of an item is worked out, and it is noted where the nodes below go
+  module _ (item : ℕ) (d : Degree) (notes : List ℕ) (done : (i : Gradable (Judged s items index) names roles ends marks node left)
+      → Graded (i .posed .graph .register) (i .tree) item d × Noted ends marks (i .posed .graph .register) notes (i .tree) node item) where
+    pub graded-of : Graded (k .posed .graph .register) (k .tree) item d
+    graded-of = let w : Graded (j .register) (k .tree) item d = done with-index .0 in rw same at w
 
-  pub all-places : (notes : List ℕ) → links ≤ length notes → length (j .register .links) ≤ length notes
-  all-places notes l = rw same (omega (arith, k .posed .graph .holds .1))
+    module _ (l : item < items) (places : links ≤ length notes) where
+      pub noted : (x : ℕ) → some item ≡ some x → Noted ends marks (j .register) notes (k .tree) node x
+      noted x e = let z : item ≡ x = cc in rw (← z) (done with-index .1)
 
-  pub noted-here : (item : ℕ) (notes : List ℕ) → Noted ends marks (j .register) notes (k .tree) node item → (x : ℕ) → some item ≡ some x
-      → Noted ends marks (j .register) notes (k .tree) node x
-  noted-here item notes noted x e = let z : item ≡ x = cc in rw (← z) noted
+      abbrev pub drawing-of : Drawing s items index ends marks notes node left item
+      drawing-of = record {
+        names = names;
+        roles = roles;
+        tree = k .tree;
+        posed = posed-of;
+        marked = k .marked;
+        places = rw same (omega (arith, k .posed .graph .holds .1));
+        to = some item;
+        inside = l;
+        same = refl;
+        noted = noted;
+      }
 
-  pub drawn-of : (item : ℕ) (old new : List ℕ) → new ≡ drawn (j .register) (k .tree) node (some item) old → new ≡ drawn (k .posed .graph .register) (k .tree) node (some item) old
-  drawn-of item old new e = e ∙ ap (λ (g : Register). drawn g (k .tree) node (some item) old) same
-
-  abbrev pub drawing-of : (item : ℕ) (notes : List ℕ) → item < items → links ≤ length notes → Noted ends marks (j .register) notes (k .tree) node item
-      → Drawing s items index ends marks notes node left item
-  drawing-of item notes l places noted = record {
-    names = names;
-    roles = roles;
-    tree = k .tree;
-    posed = posed-of;
-    marked = k .marked;
-    places = all-places notes places;
-    to = some item;
-    inside = l;
-    same = refl;
-    noted = noted-here item notes noted;
-  }
+      pub drawn-of : (old new : List ℕ) → ((i : Drawing s items index ends marks notes node left item) → new ≡ drawn (i .posed .graph .register) (i .tree) node (i .to) old)
+          → new ≡ drawn (k .posed .graph .register) (k .tree) node (some item) old
+      drawn-of old new shows = shows drawing-of ∙ ap (λ (g : Register). drawn g (k .tree) node (some item) old) same

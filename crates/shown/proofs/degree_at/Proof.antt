@@ -7,7 +7,7 @@ use lib.ListN.{length-replicate}
 use Rattle.fields.proofs.Known.{bytes-known}
 use Rattle.graph.proofs.Empty.{zero-at}
 use Rattle.folds.proofs.Noting.{clear-none}
-use Rattle.shown.proofs.Alone.{sizes-fit, rows-of, graded-of}
+use Rattle.shown.proofs.Alone.{sizes-fit, with-index, graded-of}
 
 pub degree-at-spec : {M : Type 1} → statement M
 degree-at-spec =
@@ -25,7 +25,5 @@ degree-at-spec =
     (λ c κs.
     let at-fill-index = c .before .before .before in
     let start = at-fill-index .before .before .before in
-    (rows-of (start .pre .0) (at-fill-index .fill-index .ensures), (start .pre .1, clear-none _ _)))
-    (λ c.
-    let at-fill-index = c .before .before .before .before .before in
-    λ k. graded-of k (at-fill-index .fill-index .ensures) _ _ (c .before .graded .ensures (rows-of k (at-fill-index .fill-index .ensures)) .0)))
+    (with-index (start .pre .0) (at-fill-index .fill-index .ensures), (start .pre .1, clear-none _ _)))
+    (λ c. λ k. graded-of k (c .before .before .before .before .before .fill-index .ensures) _ _ _ (c .before .graded .ensures)))
