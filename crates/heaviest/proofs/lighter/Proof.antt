@@ -1,5 +1,5 @@
-use Rattle.degrees.proofs.lighter.Statement.{statement}
-use Rattle.degrees.proofs.lighter.Tie as tie
+use Rattle.heaviest.proofs.lighter.Statement.{statement}
+use Rattle.heaviest.proofs.lighter.Tie as tie
 use mathlib.Core.Path.{_≡_, refl}
 use mathlib.Core.Bool.{Bool, true, false, not}
 use Prim.Native.Nat.{ℕ}

@@ -9,7 +9,7 @@ use lib.ListN.{getD}
 use Rattle.meaning.specs.Tree.{node, Forest, none, more, Concept, children}
 use Rattle.meaning.specs.Rows.{Holds, HoldsF}
 use Rattle.meaning.proofs.Rows.{opened}
-use Rattle.degrees.specs.Heavy.{Stands}
+use Rattle.heaviest.specs.Heavy.{Stands}
 
 module _ (names roles ends : List ℕ) where
   -- the tree at row c, one of those from row i up to e

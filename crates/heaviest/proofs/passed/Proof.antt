@@ -1,5 +1,5 @@
-use Rattle.degrees.proofs.passed.Statement.{statement}
-use Rattle.degrees.proofs.passed.Tie as tie
+use Rattle.heaviest.proofs.passed.Statement.{statement}
+use Rattle.heaviest.proofs.passed.Tie as tie
 use borrow.Author.Tests.{eq-eqb, ne-eqb}
 
 returns : tie.Need-returns

@@ -14,8 +14,8 @@ use Rattle.meaning.specs.Tree.{Concept, children}
 use Rattle.meaning.specs.Rows.{HoldsF}
 use Rattle.meaning.proofs.Tests.{true-false}
 use Rattle.meaning.proofs.Rows.{opened}
-use Rattle.degrees.specs.Heavy.{Stands, Written, Heavy}
-use Rattle.degrees.proofs.Stands.{Place, stands-place, stands-apart, stands-first, stands-next, below}
+use Rattle.heaviest.specs.Heavy.{Stands, Written, Heavy}
+use Rattle.heaviest.proofs.Stands.{Place, stands-place, stands-apart, stands-first, stands-next, below}
 
 module _ {ends : List ℕ} {node : ℕ} (k : Written ends node) (marks : List ℕ) where
   abbrev pub e : ℕ
@@ -145,3 +145,32 @@ module _ {ends : List ℕ} {node : ℕ} (k : Written ends node) (marks : List �
     some = w .some;
     most = λ z d u s n. rw (← w .size z) (w .above d u s (let p = place d u s in omega (arith, p .inside, p .within)) n);
   }
+
+-- ---- all children, one after the other
+
+-- they end at row e
+pub record Seeking (ends marks : List ℕ) (node e h most c : ℕ) : Type 0 where
+  pub asked : Written ends node
+  pub ended : e ≡ getD ends node 0
+  pub each : (k : Written ends node) → Sought k marks h most c
+
+module _ {ends marks : List ℕ} {node e h most c : ℕ} (w : Seeking ends marks node e h most c) where
+  module _ (l : c < e) where
+    among : c < getD ends node 0
+    among = omega (arith, w .ended)
+
+    pub seeking-low : c < 64
+    seeking-low = omega (arith, among, w .asked .few)
+
+    pub seeking-inside : (j : ℕ) → j ≡ getD ends c 0 → (c ≤ j) × (e - j < e - c)
+    seeking-inside j ej = let q = sought-inside (w .asked) marks (w .each (w .asked)) among in (omega (arith, q .0), omega (arith, q .0))
+
+    module _ (j : ℕ) (ej : j ≡ getD ends c 0) (r : Bool) (er : r ≡ (eqb (getD marks c 0) 0 || not (ltb most (j - c)))) where
+      pub seeking-pass : r ≡ true → Seeking ends marks node e h most j
+      seeking-pass t = record { asked = w .asked; ended = w .ended; each = λ k. sought-pass k marks (w .each k) among j ej r er t }
+
+      pub seeking-take : r ≡ false → Seeking ends marks node e c (j - c) j
+      seeking-take t = record { asked = w .asked; ended = w .ended; each = λ k. sought-take k marks (w .each k) among j ej r er t }
+
+  pub seeking-end : e ≤ c → (k : Written ends node) → Heavy ends marks (k .tree) node h
+  seeking-end l k = sought-end k marks h most c (w .each k) (omega (arith, w .ended))
