@@ -10,7 +10,7 @@ use Rattle.graph.proofs.spread.Reads as spread-reads
 use Rattle.meeting.proofs.fold.Reads as fold-reads
 use Rattle.meeting.proofs.hold.Reads as hold-reads
 use Rattle.screening.proofs.screen.Reads as screen-reads
-use Rattle.meeting.proofs.store.Reads as store-reads
+use Rattle.trails.proofs.store.Reads as store-reads
 use Rattle.meeting.proofs.+meet.{statement}
 use Rattle.meeting.proofs.+meet.Tie.{close}
 use mathlib.Core.Path.{_≡_, refl, sym, _∙_}
@@ -21,11 +21,13 @@ use lib.ListN.{length, getD}
 use Rattle.meaning.specs.Register.{judged}
 use Rattle.graph.specs.Sets.{Among}
 use Rattle.graph.proofs.Empty.{among-none}
-use Rattle.meeting.specs.Cells.{Outside}
-use Rattle.meeting.specs.Case.{Case}
+use Rattle.trails.specs.Cells.{Outside}
+use Rattle.meeting.specs.Required.{Required}
 use Rattle.screening.proofs.Sifting.{none-found, stays-among}
-use Rattle.meeting.proofs.Table.{outside-none, outside-part}
-use Rattle.meeting.proofs.Cases.{here, Left, child, child-case, next-left, left-start, left-empty, whole, asked-among, below-named, above-named, zeros-length}
+use Rattle.trails.proofs.Table.{outside-none, outside-part}
+use Rattle.trails.proofs.Down.{here, below-named, above-named}
+use Rattle.meeting.proofs.Left.{Left, child, child-required, next-left, left-start, left-empty, whole, asked-among}
+use Rattle.meeting.proofs.Settled.{zeros-length}
 use borrow.Author.Needs.{needs}
 
 abbrev μ-meet : Measures 10 meet-kinds.ps ℕ
@@ -61,7 +63,7 @@ meet-claims t = (
 abbrev meet-Inv-loop : meet-lts.InvT-loop
 meet-Inv-loop s items index message names roles ends owners firsts parts node left set₀ met₀ e c₀ set met c =
     (length set ≡ 8) × (length met ≡ 512) × (node < c) × Among items set
-    × ((k : Case s items index message names roles ends owners firsts parts node left) → Left k set₀ set met c × Outside node (getD ends node 0) met₀ met)
+    × ((k : Required s items index message names roles ends owners firsts parts node left) → Left k set₀ set met c × Outside node (getD ends node 0) met₀ met)
 
 abbrev meet-μ-loop : meet-lts.MeasureT-loop
 meet-μ-loop s items index message names roles ends owners firsts parts node left set₀ met₀ e c₀ set met c =
@@ -69,39 +71,39 @@ meet-μ-loop s items index message names roles ends owners firsts parts node lef
 
 meet-mul-hold : (t : ℕ) → meet-lts.Need-mul-hold (meet-claims t) (meet-at t) meet.Post meet-Inv-loop meet-μ-loop
 meet-mul-hold t c =
-    let h = here (c .before .before .before .before .before .pre .1 .0) in omega (arith, h .1, h .2)
+    let h = here (c .before .before .before .before .before .pre .1 .0 .posed) in omega (arith, h .1, h .2)
 
 meet-element-copy-out-hold : (t : ℕ) → meet-lts.Need-element-copy-out-hold (meet-claims t) (meet-at t) meet.Post meet-Inv-loop meet-μ-loop
 meet-element-copy-out-hold t c =
-    let h = here (c .before .before .before .before .before .pre .1 .0) in omega (arith, h .1, h .2)
+    let h = here (c .before .before .before .before .before .pre .1 .0 .posed) in omega (arith, h .1, h .2)
 
 meet-hold-requires : (t : ℕ) → meet-lts.Need-hold-requires (meet-claims t) (meet-at t) meet.Post meet-Inv-loop meet-μ-loop
 meet-hold-requires t c κs =
     let p = c .before .before .before .before .before .before .before .pre .1 in
-    (asked-among (p .0 .graph) (c .before .before .before .before .before .before .before .args .set .now) (p .1 .1), p .1 .0)
+    (asked-among (p .0 .posed .graph) (c .before .before .before .before .before .before .before .args .set .now) (p .1 .1), p .1 .0)
 
 meet-screen-requires : (t : ℕ) → meet-lts.Need-screen-requires (meet-claims t) (meet-at t) meet.Post meet-Inv-loop meet-μ-loop
 meet-screen-requires t c κs =
     let p = c .before .before .before .before .before .before .before .before .before .before .before .pre .1 in
-    let g = p .0 .graph in
+    let g = p .0 .posed .graph in
     let said = c .before .before .before .hold .ensures (g .register) (g .read) in
     (g, (p .0 .stand, (p .0 .most, c .before .before .before .hold .kept .1 .1 .0 ∙ p .1 .0, stays-among _ _ _ said _ (p .1 .1))))
 
 meet-element-copy-out-octet : (t : ℕ) → meet-lts.Need-element-copy-out-octet (meet-claims t) (meet-at t) meet.Post meet-Inv-loop meet-μ-loop
 meet-element-copy-out-octet t c =
-    let h = here (c .before .before .before .before .before .before .before .before .before .before .before .before .before .before .pre .1 .0) in omega (arith, h .1, h .2)
+    let h = here (c .before .before .before .before .before .before .before .before .before .before .before .before .before .before .pre .1 .0 .posed) in omega (arith, h .1, h .2)
 
 meet-octet-requires : (t : ℕ) → meet-lts.Need-octet-requires (meet-claims t) (meet-at t) meet.Post meet-Inv-loop meet-μ-loop
 meet-octet-requires t c κs = search needs
 
 meet-add-c : (t : ℕ) → meet-lts.Need-add-c (meet-claims t) (meet-at t) meet.Post meet-Inv-loop meet-μ-loop
 meet-add-c t c =
-    let h = here (c .before .before .before .before .before .before .before .before .before .before .before .before .before .before .before .before .pre .1 .0) in omega (arith, h .1, h .2)
+    let h = here (c .before .before .before .before .before .before .before .before .before .before .before .before .before .before .before .before .pre .1 .0 .posed) in omega (arith, h .1, h .2)
 
 meet-loop-holds : (t : ℕ) → meet-lts.Need-loop-holds (meet-claims t) (meet-at t) meet.Post meet-Inv-loop meet-μ-loop
 meet-loop-holds t c =
     let p = c .before .before .before .before .before .before .before .before .before .before .before .before .before .before .before .before .pre .1 in
-    let g = p .0 .graph in
+    let g = p .0 .posed .graph in
     let said = c .before .before .before .before .before .before .before .before .hold .ensures (g .register) (g .read) in
     let also = c .before .before .before .before .screen .ensures g (p .0 .stand) in
     let size = c .before .before .before .before .screen .kept .1 .1 .1 .1 .1 .1 .1 .1 .0 ∙ c .before .before .before .before .before .before .before .before .hold .kept .1 .1 .0 ∙ p .1 .0 in
@@ -120,14 +122,14 @@ meet-loop-again t c =
     let w = c .before .before .before .before .loop .inv in
     let e = c .before .before .before .before .before .octet .ensures .0 in
     let none = none-found _ (w .0) _ (c .before .next-in .ensures) (c .if1 .taken) in
-    (w .0, w .1, omega (arith, here (p .0) .1, e), w .3, λ k. (left-empty k (w .4 k .0) none _ e, w .4 k .1))
+    (w .0, w .1, omega (arith, here (p .0 .posed) .1, e), w .3, λ k. (left-empty k (w .4 k .0) none _ e, w .4 k .1))
 
 meet-element-copy-out-octet-2 : (t : ℕ) → meet-lts.Need-element-copy-out-octet-2 (meet-claims t) (meet-at t) meet.Post meet-Inv-loop meet-μ-loop
 meet-element-copy-out-octet-2 t c =
     let at-loop-test = c .before .before .before in
     let at-octet = at-loop-test .before .before in
     let start = at-octet .before .before .before .before .before .before .before .before .before .before .before .before .before .before .before .before in
-    let h = here (start .pre .1 .0) in omega (arith, h .2, at-loop-test .loop-test .taken, at-octet .octet .ensures .0)
+    let h = here (start .pre .1 .0 .posed) in omega (arith, h .2, at-loop-test .loop-test .taken, at-octet .octet .ensures .0)
 
 meet-octet-requires-2 : (t : ℕ) → meet-lts.Need-octet-requires-2 (meet-claims t) (meet-at t) meet.Post meet-Inv-loop meet-μ-loop
 meet-octet-requires-2 t c κs = search needs
@@ -137,7 +139,7 @@ meet-element-copy-out-octet-3 t c =
     let at-loop-test = c .before .before .before .before .before in
     let at-octet = at-loop-test .before .before in
     let start = at-octet .before .before .before .before .before .before .before .before .before .before .before .before .before .before .before .before in
-    let h = here (start .pre .1 .0) in omega (arith, h .2, at-loop-test .loop-test .taken, at-octet .octet .ensures .0)
+    let h = here (start .pre .1 .0 .posed) in omega (arith, h .2, at-loop-test .loop-test .taken, at-octet .octet .ensures .0)
 
 meet-octet-requires-3 : (t : ℕ) → meet-lts.Need-octet-requires-3 (meet-claims t) (meet-at t) meet.Post meet-Inv-loop meet-μ-loop
 meet-octet-requires-3 t c κs = search needs
@@ -150,13 +152,13 @@ meet-spread-requires t c κs =
     let at-loop = c .before .before .before .before .before .before .before .before .before .before in
     let start = at-loop .before .before .before .before .before .before .before .before .before .before .before .before .before .before .before .before .before in
     let w = at-loop .loop .inv in
-    (start .pre .1 .0 .graph, ((w .0, w .3), (zeros-length, among-none _)))
+    (start .pre .1 .0 .posed .graph, ((w .0, w .3), (zeros-length, among-none _)))
 
 meet-sub-meet : (t : ℕ) → meet-lts.Need-sub-meet (meet-claims t) (meet-at t) meet.Post meet-Inv-loop meet-μ-loop
 meet-sub-meet t c =
     let half = c .before .before .before .before .before .before .before .before .before .before .before .before .before .before in
     let start = half .before .before .before .before .before .before .before .before .before .before .before .before .before .before .before in
-    omega (arith, here (start .pre .1 .0) .0)
+    omega (arith, here (start .pre .1 .0 .posed) .0)
 
 meet-slice-aggregate-meet : (t : ℕ) → meet-lts.Need-slice-aggregate-meet (meet-claims t) (meet-at t) meet.Post meet-Inv-loop meet-μ-loop
 meet-slice-aggregate-meet t c =
@@ -172,8 +174,8 @@ meet-meet-requires t c κs =
     let k = start .pre .1 .0 in
     let w = at-loop .loop .inv in
     let l = below-named (at-octet .octet .ensures .0) (at-loop-test .loop-test .taken) in
-    let sp = at-spread .spread .ensures (k .graph) in
-    (omega (arith, here k .0, start .pre .0), (child-case k (w .4 k .0) (w .2) l, (at-spread .spread .kept .1 .1 .1 .1 .1 .0 ∙ zeros-length, sp .among, w .1)))
+    let sp = at-spread .spread .ensures (k .posed .graph) in
+    (omega (arith, here (k .posed) .0, start .pre .0), (child-required k (w .4 k .0) (w .2) l, (at-spread .spread .kept .1 .1 .1 .1 .1 .0 ∙ zeros-length, sp .among, w .1)))
 
 meet-slice-aggregate-fold : (t : ℕ) → meet-lts.Need-slice-aggregate-fold (meet-claims t) (meet-at t) meet.Post meet-Inv-loop meet-μ-loop
 meet-slice-aggregate-fold t c =
@@ -188,7 +190,7 @@ meet-fold-requires t c κs =
     let at-loop = at-spread .before .before .before .before .before .before .before .before .before .before .before in
     let start = at-loop .before .before .before .before .before .before .before .before .before .before .before .before .before .before .before .before .before in
     let w = at-loop .loop .inv in
-    (start .pre .1 .0 .graph, (at-meet .meet .kept .1 .1 .1 .1 .1 .1 .1 .1 .1 .1 .1 .1 .0 ∙ at-spread .spread .kept .1 .1 .1 .1 .1 .0 ∙ zeros-length, w .0, w .3))
+    (start .pre .1 .0 .posed .graph, (at-meet .meet .kept .1 .1 .1 .1 .1 .1 .1 .1 .1 .1 .1 .1 .0 ∙ at-spread .spread .kept .1 .1 .1 .1 .1 .0 ∙ zeros-length, w .0, w .3))
 
 meet-loop-less-2 : (t : ℕ) → meet-lts.Need-loop-less-2 (meet-claims t) (meet-at t) meet.Post meet-Inv-loop meet-μ-loop
 meet-loop-less-2 t c =
@@ -225,17 +227,17 @@ meet-loop-again-2 t c =
       at-fold .fold .kept .1 .1 .1 .1 .1 .0 ∙ w .0,
       at-meet .meet .kept .1 .1 .1 .1 .1 .1 .1 .1 .1 .1 .1 .1 .1 .0 ∙ w .1,
       omega (arith, w .2, en, one .inside),
-      stays-among _ _ _ (fd (p .graph)) _ (w .3),
+      stays-among _ _ _ (fd (p .posed .graph)) _ (w .3),
       λ k.
           let was = w .4 k in
           let c = child k (was .0) (w .2) l in
-          let done = met (child-case k (was .0) (w .2) l) in
-          (next-left k (was .0) (w .2) l _ _ _ _ _ _ er en (sp (k .graph)) done (fd (k .graph)), outside-part _ _ _ _ _ _ _ (omega (arith, w .2)) (c .within) (was .1) (done .outside)),
+          let done = met (child-required k (was .0) (w .2) l) in
+          (next-left k (was .0) (w .2) l _ _ _ _ _ _ er en (sp (k .posed .graph)) done (fd (k .posed .graph)), outside-part _ _ _ _ _ _ _ (omega (arith, w .2)) (c .within) (was .1) (done .outside)),
     )
 
 meet-store-requires : (t : ℕ) → meet-lts.Need-store-requires (meet-claims t) (meet-at t) meet.Post meet-Inv-loop meet-μ-loop
 meet-store-requires t c κs =
-    let h = here (c .before .before .before .before .before .before .before .before .before .before .before .before .before .before .before .before .before .before .before .before .pre .1 .0) in
+    let h = here (c .before .before .before .before .before .before .before .before .before .before .before .before .before .before .before .before .before .before .before .before .pre .1 .0 .posed) in
     (c .before .before .before .loop .inv .1, omega (arith, h .1, h .2), c .before .before .before .loop .inv .0)
 
 meet-same-length : (t : ℕ) → meet-lts.Need-same-length (meet-claims t) (meet-at t) meet.Post meet-Inv-loop meet-μ-loop
@@ -261,7 +263,7 @@ meet-returns t c =
     let at-hold = at-screen .before .before .before .before in
     λ k.
     let w = at-loop .loop .inv in
-    let g = k .graph in
+    let g = k .posed .graph in
     whole k _ _ _ _ _ _ _ _ (w .0) (at-hold .hold .ensures (g .register) (g .read)) (at-screen .screen .ensures g (k .stand)) (w .4 k .0)
     (above-named (at-octet .octet .ensures .0) (at-loop-test .loop-test .left)) (w .4 k .1) (at-store .store .ensures)
 

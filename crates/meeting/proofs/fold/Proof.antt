@@ -14,7 +14,7 @@ use Rattle.graph.specs.Judged.{Judged}
 use Rattle.graph.specs.Sets.{inSet}
 use Rattle.graph.proofs.Use.{next-inside}
 use Rattle.screening.proofs.Sifting.{Sifting, sifting-start, sifting-old, sifting-step, sifting-end}
-use Rattle.meeting.proofs.Search.{found-any}
+use Rattle.trails.proofs.Search.{found-any}
 use borrow.Author.Needs.{needs}
 
 abbrev Inv-loop : tie.InvT-loop

@@ -1,21 +1,21 @@
 use Prim.Native.Nat.{ℕ, _<_}
 use borrow.Fn.Kinds.{In}
 use borrow.Fn.PlainCycle.{Measures, is, falls, and}
-use Rattle.meeting.proofs.walk.Reads as walk
-use Rattle.meeting.proofs.walk.Kinds as walk-kinds
-use Rattle.meeting.proofs.+walk.Lts-walk as walk-lts
+use Rattle.trails.proofs.walk.Reads as walk
+use Rattle.trails.proofs.walk.Kinds as walk-kinds
+use Rattle.trails.proofs.+walk.Lts-walk as walk-lts
 use Rattle.fields.proofs.octet.Reads as octet-reads
-use Rattle.meeting.proofs.seek.Reads as seek-reads
-use Rattle.meeting.proofs.+walk.{statement}
-use Rattle.meeting.proofs.+walk.Tie.{close}
+use Rattle.trails.proofs.seek.Reads as seek-reads
+use Rattle.trails.proofs.+walk.{statement}
+use Rattle.trails.proofs.+walk.Tie.{close}
 use mathlib.Core.Path.{_≡_, refl, sym, _∙_}
 use Prim.Native.Nat.{_-_, _≤_, _+_}
 use native.Mathlib.Omega.{arith}
 use lib.ListN.{length, getD, set, length-set}
 use Rattle.fields.proofs.Known.{bytes-known}
-use Rattle.meeting.specs.Case.{Walk}
-use Rattle.meeting.proofs.Table.{part-length}
-use Rattle.meeting.proofs.Cases.{there, Ahead, below, ahead-start, ahead-end, next, goes, next-ahead, next-walk, below-named, above-named}
+use Rattle.trails.specs.Charted.{Charted}
+use Rattle.trails.proofs.Table.{part-length}
+use Rattle.trails.proofs.Down.{here, Ahead, below, ahead-start, ahead-end, next, goes, next-ahead, next-charted, below-named, above-named}
 use borrow.Author.Needs.{needs}
 
 abbrev μ-walk : Measures 7 walk-kinds.ps ℕ
@@ -40,7 +40,7 @@ walk-claims t = (
 
 abbrev walk-Inv-loop : walk-lts.InvT-loop
 walk-Inv-loop s items index names roles ends met node left item map₀ e c₀ map c =
-    (length map ≡ length map₀) × ((k : Walk s items index names roles ends met node left item) → Ahead k map c (below k map₀))
+    (length map ≡ length map₀) × ((k : Charted s items index names roles ends met node left item) → Ahead k map c (below k map₀))
 
 abbrev walk-μ-loop : walk-lts.MeasureT-loop
 walk-μ-loop s items index names roles ends met node left item map₀ e c₀ map c =
@@ -48,26 +48,26 @@ walk-μ-loop s items index names roles ends met node left item map₀ e c₀ map
 
 walk-cast-map : (t : ℕ) → walk-lts.Need-cast-map (walk-claims t) (walk-at t) walk.Post walk-Inv-loop walk-μ-loop
 walk-cast-map t c =
-    omega (arith, c .before .before .before .before .pre .1 .0 .inside, c .before .before .before .before .pre .1 .0 .graph .most)
+    omega (arith, c .before .before .before .before .pre .1 .0 .inside, c .before .before .before .before .pre .1 .0 .posed .graph .most)
 
 walk-mul-map : (t : ℕ) → walk-lts.Need-mul-map (walk-claims t) (walk-at t) walk.Post walk-Inv-loop walk-μ-loop
 walk-mul-map t c =
-    let h = there (c .before .before .before .before .pre .1 .0) in omega (arith, h .1, h .2)
+    let h = here (c .before .before .before .before .pre .1 .0 .posed) in omega (arith, h .1, h .2)
 
 walk-slice-write-map : (t : ℕ) → walk-lts.Need-slice-write-map (walk-claims t) (walk-at t) walk.Post walk-Inv-loop walk-μ-loop
 walk-slice-write-map t c =
-    let h = there (c .before .before .before .before .pre .1 .0) in omega (arith, h .1, c .before .before .before .before .pre .1 .1 .0)
+    let h = here (c .before .before .before .before .pre .1 .0 .posed) in omega (arith, h .1, c .before .before .before .before .pre .1 .1 .0)
 
 walk-element-copy-out-octet : (t : ℕ) → walk-lts.Need-element-copy-out-octet (walk-claims t) (walk-at t) walk.Post walk-Inv-loop walk-μ-loop
 walk-element-copy-out-octet t c =
-    let h = there (c .before .before .before .before .pre .1 .0) in omega (arith, h .1, h .2)
+    let h = here (c .before .before .before .before .pre .1 .0 .posed) in omega (arith, h .1, h .2)
 
 walk-octet-requires : (t : ℕ) → walk-lts.Need-octet-requires (walk-claims t) (walk-at t) walk.Post walk-Inv-loop walk-μ-loop
 walk-octet-requires t c κs = search needs
 
 walk-add-c : (t : ℕ) → walk-lts.Need-add-c (walk-claims t) (walk-at t) walk.Post walk-Inv-loop walk-μ-loop
 walk-add-c t c =
-    let h = there (c .before .before .before .before .before .before .pre .1 .0) in omega (arith, h .1, h .2)
+    let h = here (c .before .before .before .before .before .before .pre .1 .0 .posed) in omega (arith, h .1, h .2)
 
 walk-loop-holds : (t : ℕ) → walk-lts.Need-loop-holds (walk-claims t) (walk-at t) walk.Post walk-Inv-loop walk-μ-loop
 walk-loop-holds t c =
@@ -75,7 +75,7 @@ walk-loop-holds t c =
 
 walk-element-copy-out-octet-2 : (t : ℕ) → walk-lts.Need-element-copy-out-octet-2 (walk-claims t) (walk-at t) walk.Post walk-Inv-loop walk-μ-loop
 walk-element-copy-out-octet-2 t c =
-    let h = there (c .before .before .before .before .before .before .before .before .pre .1 .0) in omega (arith, h .2, c .loop-test .taken, c .before .before .octet .ensures .0)
+    let h = here (c .before .before .before .before .before .before .before .before .pre .1 .0 .posed) in omega (arith, h .2, c .loop-test .taken, c .before .before .octet .ensures .0)
 
 walk-octet-requires-2 : (t : ℕ) → walk-lts.Need-octet-requires-2 (walk-claims t) (walk-at t) walk.Post walk-Inv-loop walk-μ-loop
 walk-octet-requires-2 t c κs = search needs
@@ -85,21 +85,21 @@ walk-mul-row t c =
     let at-loop-test = c .before .before in
     let at-octet = at-loop-test .before .before in
     let start = at-octet .before .before .before .before .before .before in
-    let h = there (start .pre .1 .0) in omega (arith, h .2, at-loop-test .loop-test .taken, at-octet .octet .ensures .0)
+    let h = here (start .pre .1 .0 .posed) in omega (arith, h .2, at-loop-test .loop-test .taken, at-octet .octet .ensures .0)
 
 walk-add-stop : (t : ℕ) → walk-lts.Need-add-stop (walk-claims t) (walk-at t) walk.Post walk-Inv-loop walk-μ-loop
 walk-add-stop t c =
     let at-loop-test = c .before .before in
     let at-octet = at-loop-test .before .before in
     let start = at-octet .before .before .before .before .before .before in
-    let h = there (start .pre .1 .0) in omega (arith, h .2, at-loop-test .loop-test .taken, at-octet .octet .ensures .0)
+    let h = here (start .pre .1 .0 .posed) in omega (arith, h .2, at-loop-test .loop-test .taken, at-octet .octet .ensures .0)
 
 walk-element-copy-out-octet-3 : (t : ℕ) → walk-lts.Need-element-copy-out-octet-3 (walk-claims t) (walk-at t) walk.Post walk-Inv-loop walk-μ-loop
 walk-element-copy-out-octet-3 t c =
     let at-loop-test = c .before .before in
     let at-octet = at-loop-test .before .before in
     let start = at-octet .before .before .before .before .before .before in
-    let h = there (start .pre .1 .0) in omega (arith, h .2, at-loop-test .loop-test .taken, at-octet .octet .ensures .0)
+    let h = here (start .pre .1 .0 .posed) in omega (arith, h .2, at-loop-test .loop-test .taken, at-octet .octet .ensures .0)
 
 walk-octet-requires-3 : (t : ℕ) → walk-lts.Need-octet-requires-3 (walk-claims t) (walk-at t) walk.Post walk-Inv-loop walk-μ-loop
 walk-octet-requires-3 t c κs = search needs
@@ -109,7 +109,7 @@ walk-mul-seek t c =
     let at-loop-test = c .before .before .before .before in
     let at-octet = at-loop-test .before .before in
     let start = at-octet .before .before .before .before .before .before in
-    let h = there (start .pre .1 .0) in omega (arith, h .2, at-loop-test .loop-test .taken, at-octet .octet .ensures .0)
+    let h = here (start .pre .1 .0 .posed) in omega (arith, h .2, at-loop-test .loop-test .taken, at-octet .octet .ensures .0)
 
 walk-sub-seek : (t : ℕ) → walk-lts.Need-sub-seek (walk-claims t) (walk-at t) walk.Post walk-Inv-loop walk-μ-loop
 walk-sub-seek t c = search needs
@@ -122,7 +122,7 @@ walk-part-seek-end t c =
     let at-loop-test = c .before .before .before .before in
     let at-octet = at-loop-test .before .before in
     let start = at-octet .before .before .before .before .before .before in
-    let h = there (start .pre .1 .0) in omega (arith, h .2, at-loop-test .loop-test .taken, at-octet .octet .ensures .0, start .pre .1 .1 .1)
+    let h = here (start .pre .1 .0 .posed) in omega (arith, h .2, at-loop-test .loop-test .taken, at-octet .octet .ensures .0, start .pre .1 .1 .1)
 
 walk-seek-requires : (t : ℕ) → walk-lts.Need-seek-requires (walk-claims t) (walk-at t) walk.Post walk-Inv-loop walk-μ-loop
 walk-seek-requires t c κs =
@@ -130,8 +130,8 @@ walk-seek-requires t c κs =
     let at-loop = at-loop-test .before in
     let at-octet = at-loop .before in
     let start = at-octet .before .before .before .before .before .before in
-    let h = there (start .pre .1 .0) in (
-      start .pre .1 .0 .graph,
+    let h = here (start .pre .1 .0 .posed) in (
+      start .pre .1 .0 .posed .graph,
       (
         start .pre .1 .0 .inside,
         part-length _ (at-loop .loop .c) (start .pre .1 .1 .1)
@@ -141,7 +141,7 @@ walk-seek-requires t c κs =
 
 walk-sub-walk : (t : ℕ) → walk-lts.Need-sub-walk (walk-claims t) (walk-at t) walk.Post walk-Inv-loop walk-μ-loop
 walk-sub-walk t c =
-    omega (arith, there (c .before .before .before .before .before .before .before .before .before .before .before .before .before .before .pre .1 .0) .0)
+    omega (arith, here (c .before .before .before .before .before .before .before .before .before .before .before .before .before .before .pre .1 .0 .posed) .0)
 
 walk-walk-requires : (t : ℕ) → walk-lts.Need-walk-requires (walk-claims t) (walk-at t) walk.Post walk-Inv-loop walk-μ-loop
 walk-walk-requires t c κs =
@@ -156,10 +156,10 @@ walk-walk-requires t c κs =
     let b = bytes-known (start .args .s .now) (at-shared-slice-known .shared-slice-known .given) in
     let l = below-named (at-octet .octet .ensures .0) (at-loop-test .loop-test .taken) in
     let w = at-loop .loop .inv in
-    let to = goes k b (w .1 k) l _ _ (at-octet3 .octet3 .ensures .0) (at-seek .seek .ensures (k .graph)) in (
-      omega (arith, there k .0, start .pre .0),
+    let to = goes k b (w .1 k) l _ _ (at-octet3 .octet3 .ensures .0) (at-seek .seek .ensures (k .posed .graph)) in (
+      omega (arith, here (k .posed) .0, start .pre .0),
       (
-        next-walk k b (w .1 k) l _ to,
+        next-charted k b (w .1 k) l _ to,
         (omega (arith, start .pre .1 .1 .0, w .0, length-set (start .args .map .now) (start .args .node) (start .args .item), next k b (w .1 k) l .within), start .pre .1 .1 .1),
       ),
     )
@@ -197,8 +197,8 @@ walk-loop-again t c =
     let gone = at-walk .walk .ensures in (
       at-walk .walk .kept .1 .1 .1 .1 .1 .1 .1 .1 .1 .1 .0 ∙ w .0,
       λ k.
-          let to = goes k b (w .1 k) l _ _ role (sought (k .graph)) in
-          next-ahead k b (w .1 k) l _ _ _ to end (gone (next-walk k b (w .1 k) l _ to)),
+          let to = goes k b (w .1 k) l _ _ role (sought (k .posed .graph)) in
+          next-ahead k b (w .1 k) l _ _ _ to end (gone (next-charted k b (w .1 k) l _ to)),
     )
 
 walk-same-length : (t : ℕ) → walk-lts.Need-same-length (walk-claims t) (walk-at t) walk.Post walk-Inv-loop walk-μ-loop

@@ -13,7 +13,7 @@ use Rattle.meaning.specs.Whole.{any}
 use Rattle.meaning.specs.Shown.{first}
 use Rattle.graph.specs.Judged.{spanned}
 use Rattle.graph.proofs.Spans.{spanned-step, spanned-end}
-use Rattle.meeting.specs.Cells.{placeOf}
+use Rattle.graph.specs.Posed.{placeOf}
 
 module _ (p : ℕ → Bool) (f : ℕ → ℕ) where
   pub here-first : (k end : ℕ) → k < end → p (f k) ≡ true → first p (spanned f k end) ≡ some (f k)

@@ -11,7 +11,7 @@ use lib.Seq.{getD-take, getD-drop, getD-set-same, getD-set-other, length-take-le
 use Rattle.meaning.specs.Names.{has}
 use Rattle.meaning.proofs.SessionNames.{has-none}
 use Rattle.graph.specs.Sets.{inSet}
-use Rattle.meeting.specs.Cells.{rowOf, cell, Outside, Stored}
+use Rattle.trails.specs.Cells.{rowOf, cell, Outside, Stored}
 
 -- a number of a row
 word-at : (m : List ℕ) (n i : ℕ) → i < 8 → getD (rowOf m n) i 0 ≡ getD m (n * 8 + i) 0
