@@ -5,8 +5,8 @@ use mathlib.Core.Bool.{Bool, true, false, cond}
 use mathlib.Core.List.{List}
 use Prim.Native.Nat.{ℕ, _≤_, _<_}
 use native.Mathlib.Omega.{arith}
-use lib.Dec.{T, ltb, leb}
-use lib.ListN.{length, getD}
+use lib.Dec.{T}
+use lib.ListN.{length}
 use lib.Seq.{sets}
 use Rattle.fields.specs.Head.{wrongIn}
 use Rattle.meaning.specs.declared.Refusal.{Refusal}
@@ -17,9 +17,9 @@ use Rattle.meaning.specs.Register.{Register, judged, readRegisterBy, readRegist
 use Rattle.meaning.specs.Requirement.{Requirement, bare, fulfils, member}
 use Rattle.meaning.specs.Message.{Part, readRequirement}
 use Rattle.meaning.specs.Shown.{yesMap}
-use Rattle.meaning.specs.Calls.{Decision, met, unmet, memberCall, afterMember}
+use Rattle.meaning.specs.Calls.{Decision, memberCall, afterMember}
 use Rattle.meaning.specs.Calls.{decide as decision}
-use Rattle.meaning.proofs.Reading.{pass, stop, stopped, took, taken, below, at-most, not-le, good-inj}
+use Rattle.meaning.proofs.Reading.{taken, good-inj}
 use Rattle.meaning.proofs.Rows.{opened, holds-ended}
 use Rattle.meaning.proofs.Image.{whole-buffer}
 use Rattle.meaning.proofs.YesShown.{yes-shows}
@@ -36,7 +36,8 @@ use Rattle.deciding.specs.declared.Verdict.the-variants.{Yes, No, Refuse
 use Rattle.meeting.specs.Required.{Settled}
 use Rattle.deciding.specs.Answers.{yes, said, paperVerdict, refusedCall}
 use Rattle.deciding.specs.BothRead.{Imaged, BothRead}
-use Rattle.deciding.proofs.Decided.{member-answer}
+use Rattle.deciding.specs.Refusing.{DecideRow, badImage, badMessage, noItem, noRoom}
+use Rattle.deciding.proofs.Decided.{refused-inj, refuses-answer, member-answer}
 
 -- ---- what was read
 
@@ -46,9 +47,6 @@ imaged s items links r e d =
     let q = taken (readRegister s) _ (sym (sym (ap paperReading e) ∙ d)) in
     let z = good-inj (q .2) in
     record { register = q .0; read = q .1; items-are = ap (λ (c : Counts). c .items) (sym z); links-are = ap (λ (c : Counts). c .links) (sym z) }
-
-refused-inj : {A : Type 0} {x y : Refusal} → _≡_ {A = Answer A} (refused x) (refused y) → x ≡ y
-refused-inj e = cc
 
 pub image-refused : (s : List ℕ) (x : Refusal) (r : Reading) → r ≡ RefusedReading x → paperReading r ≡ counted (readRegisterBy (wrongIn false) s) → readRegister s ≡ refused x
 unfolding counted _>>=_
@@ -96,39 +94,28 @@ module _ (image message : List ℕ) (item : ℕ) (map : List ℕ) where
   abbrev pub Ends : List ℕ → Verdict → Type 0
   Ends t r = (paperVerdict r ≡ said answer) × (t ≡ afterMember map answer)
 
-  ends-refused : (x : Refusal) (r : Verdict) → r ≡ Refused x → answer ≡ refused x → Ends map r
-  ends-refused x r e d = (ap paperVerdict e ∙ sym (ap said d), sym (ap (afterMember map) d))
+  ends-refused : (x : Refusal) (r : Verdict) → r ≡ Refused x → DecideRow image message item (length map) x → Ends map r
+  ends-refused x r e row = let d = refuses-answer image message item (length map) x row in (ap paperVerdict e ∙ sym (ap said d), sym (ap (afterMember map) d))
 
   pub image-unread : (x : Refusal) → readRegister image ≡ refused x → Ends map (Refused x)
-  unfolding memberCall
-  image-unread x e = ends-refused x _ refl (stopped (readRegister image) _ x e)
+  image-unread x e = ends-refused x _ refl (badImage e)
 
   module _ {items links : ℕ} (i : Imaged image items links) where
     pub message-unread : (x : Refusal) → readRequirement message ≡ refused x → Ends map (Refused x)
-    unfolding memberCall
-    message-unread x e = ends-refused x _ refl (took (readRegister image) _ (i .register) (i .read) ∙ stopped (readRequirement message) _ x e)
+    message-unread x e = ends-refused x _ refl (badMessage (i .register) (i .read) e)
 
     module _ {B : List ℕ} {m : Message} {n parts : ℕ} (u : Understood message B m n parts) where
       abbrev q : Requirement
       q = u .requirement
 
-      abbrev few : ℕ
-      few = length (i .register .names)
-
       pub no-item : (r : Verdict) (number : ℕ) → r ≡ refusedCall number → number ≡ 15 → items ≤ item → Ends map r
-      unfolding memberCall
       no-item r number e fifteen l =
-          ends-refused (onCall 15) r (e ∙ ap refusedCall fifteen)
-          (took (readRegister image) _ (i .register) (i .read) ∙ took (readRequirement message) _ (q, u .places) (u .wanted)
-          ∙ stop (leb few item) _ _ (at-most few item (omega (arith, i .items-are))))
+          ends-refused (onCall 15) r (e ∙ ap refusedCall fifteen) (noItem (i .register) q (u .places) (i .read) (u .wanted) (omega (arith, i .items-are)) refl)
 
       pub no-room : (r : Verdict) (number : ℕ) → r ≡ refusedCall number → number ≡ 16 → item < items → length map < n → Ends map r
-      unfolding memberCall
       no-room r number e sixteen l s =
           ends-refused (onCall 16) r (e ∙ ap refusedCall sixteen)
-          (took (readRegister image) _ (i .register) (i .read) ∙ took (readRequirement message) _ (q, u .places) (u .wanted)
-          ∙ pass (leb few item) _ _ (not-le few item (omega (arith, i .items-are)))
-          ∙ stop (ltb (length map) (nodes q)) _ _ (below (length map) (nodes q) (omega (arith, u .nodes-are))))
+          (noRoom (i .register) q (u .places) (i .read) (u .wanted) (omega (arith, i .items-are)) (omega (arith, u .nodes-are)) refl)
 
       module _ (inside : item < items) (fits : n ≤ length map) where
         abbrev pub both-read : Bytes image → BothRead image items links message B parts item (length map)

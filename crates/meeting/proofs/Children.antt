@@ -4,7 +4,7 @@
 use mathlib.Core.Path.{_≡_, refl, sym, ap, ap₂, _∙_, subst}
 use mathlib.Core.Bool.{Bool, true, false, _&&_, and-true}
 use mathlib.Core.List.{List, List·Memᴰ}
-use Prim.Native.Nat.{ℕ, _+_, _*_, _-_, _≤_, _<_}
+use Prim.Native.Nat.{ℕ, _+_, _-_, _≤_, _<_}
 use native.Mathlib.Omega.{arith}
 use lib.ListN.{getD}
 use Rattle.meaning.specs.Names.{within}
@@ -15,7 +15,7 @@ use Rattle.meaning.specs.Requirement.{Label, Threshold, Requirement, fulfils, m
 use Rattle.meaning.specs.Rows.{Holds, HoldsF}
 use Rattle.meaning.proofs.Rows.{opened}
 use Rattle.meaning.proofs.Tests.{true-false}
-use Rattle.graph.specs.Sets.{inSet, Spread, Closed}
+use Rattle.graph.specs.Sets.{inSet, Closed}
 use Rattle.graph.proofs.Same.{any-same}
 use Rattle.screening.specs.Sifting.{Sifted}
 use Rattle.trails.specs.Cells.{cell, Right, RightF}

@@ -1,7 +1,6 @@
 -- At a node: the children that are left, and what is asked at the next of them, from what is asked at the node.
 -- Assumes nothing.
 use mathlib.Core.Path.{_≡_, subst}
-use mathlib.Core.Bool.{false}
 use mathlib.Core.List.{List}
 use Prim.Native.Nat.{ℕ, _-_, _+_, _≤_, _<_}
 use native.Mathlib.Nat.{le-refl}
@@ -19,7 +18,7 @@ use Rattle.screening.specs.Standing.{ruledAt}
 use Rattle.trails.specs.Cells.{Stored, Outside}
 use Rattle.trails.proofs.Table.{stored-cell, outside-part}
 use Rattle.trails.proofs.Down.{here, onward}
-use Rattle.meeting.specs.Required.{Required, Done}
+use Rattle.meeting.specs.Required.{Required, GoesOn, onNext, atEnd, Done}
 use Rattle.meeting.proofs.Children.{Rest, Child, rest-start, rest-child, rest-step, rest-empty, rest-whole, all-met}
 
 module _ {s : List ℕ} {items : ℕ} {index message names roles ends owners firsts : List ℕ} {parts node left : ℕ}
@@ -52,8 +51,10 @@ module _ {s : List ℕ} {items : ℕ} {index message names roles ends owners fir
   pub left-start : (set m : List ℕ) → Left set set m (node + 1)
   left-start set m = rest-start names roles ends G owners (k .stand .thresholds) parts (k .tree) left node (getD ends node 0) set m (k .posed .held) (k .ruled)
 
-  pub left-empty : {all set m : List ℕ} {c : ℕ} → Left all set m c → ((x : ℕ) → inSet set x ≡ false) → (e : ℕ) → e ≡ getD ends node 0 → Left all set m e
-  left-empty w h e q = rw q (rest-empty _ _ _ _ _ _ _ _ _ _ _ _ _ _ _ w h)
+  -- and from the row on with which it goes on
+  pub left-on : {all set m : List ℕ} {next end c : ℕ} → Left all set m next → GoesOn set next end c → end ≡ getD ends node 0 → Left all set m c
+  left-on w (onNext e) q = rw e w
+  left-on w (atEnd e h) q = rw (e, q) (rest-empty _ _ _ _ _ _ _ _ _ _ _ _ _ _ _ w h)
 
   -- no child is left, and the row is stored
   pub whole : (all held set left′ m₀ m new : List ℕ) (c : ℕ) → length left′ ≡ 8 → Sifted (λ x. within (getD names node 0) (G .names x)) all held
@@ -69,6 +70,10 @@ module _ {s : List ℕ} {items : ℕ} {index message names roles ends owners fir
         right = λ x h. r .1 x h new (λ j a b. st .outside .behind j a);
         outside = outside-part node (getD ends node 0) node (node + 1) m₀ m new (le-refl node) (omega (arith, here (k .posed) .1)) o (st .outside);
       }
+
+pub on-behind : {set : List ℕ} {next end c : ℕ} (n : ℕ) → GoesOn set next end c → n < next → n < end → n < c
+on-behind n (onNext e) a b = omega (arith, e)
+on-behind n (atEnd e h) a b = omega (arith, e)
 
 -- a set of items, as a graph's names are asked for
 pub asked-among : {s : List ℕ} {items : ℕ} {index : List ℕ} (j : Judged s items index) (set : List ℕ) → Among items set → Asked s (λ g. Among (length (g .names)) set)

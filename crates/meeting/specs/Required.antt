@@ -1,7 +1,7 @@
 -- What is asked of: a register, rows that hold a requirement's tree, and where its thresholds stand in the message; and what is answered.
 -- Assumes nothing.
 use mathlib.Core.Path.{_≡_}
-use mathlib.Core.Bool.{Bool, true, cond}
+use mathlib.Core.Bool.{Bool, true, false, cond}
 use mathlib.Core.List.{List}
 use Prim.Native.Nat.{ℕ, _≤_}
 use lib.ListN.{getD}
@@ -25,6 +25,11 @@ pub record Required (s : List ℕ) (items : ℕ) (index message names roles ends
   pub stand : AllStand message firsts parts
   pub most : parts ≤ mostThresholds
   pub ruled : Ruled (judged (posed .graph .register)) owners (stand .thresholds) ends parts tree node
+
+-- the row to go on with: the next one, or the end where nothing stays
+pub data GoesOn (set : List ℕ) (next end r : ℕ) : Type 0 where
+  onNext : r ≡ next → GoesOn set next end r
+  atEnd : r ≡ end → ((x : ℕ) → inSet set x ≡ false) → GoesOn set next end r
 
 -- of a set stay the items that meet the tree at a row; its row is what stays, and the rows below are right for it; no other has changed
 pub record Done (ends : List ℕ) (G : Graph ℕ) (t : Requirement) (node : ℕ) (set left m new : List ℕ) : Type 0 where

@@ -6,39 +6,34 @@ ghost use Prim.Native.Nat.{_≤_, _<_};
 ghost use lib.ListN.{length, getD};
 ghost use Rattle.meaning.specs.Names.{within};
 ghost use Rattle.meaning.specs.Register.{judged};
-ghost use Rattle.meaning.specs.Whole.{any};
 ghost use Rattle.register.specs.Image.{Asked, Image};
-ghost use Rattle.graph.specs.Judged.{Judged};
-ghost use Rattle.graph.specs.Sets.{inSet, Among};
+ghost use Rattle.graph.specs.Sets.{Among};
 ghost use Rattle.screening.specs.Sifting.{Sifted};
-ghost use Rattle.meeting.specs.Required.{Required, Done, Settled};
+ghost use Rattle.meeting.specs.Required.{Required, GoesOn, Done, Settled};
 
-// Of a set stay the items that hold these names.
-fn hold(s: &[u8], names: u64, set: &mut [u64])
+// Of a set stay the items that hold the names of a node.
+fn hold(s: &[u8], names: &[u64; 64], node: usize, set: &mut [u64])
     requires { ⌜ Asked (now s) (λ g. Among (length (g .names)) (now set)) ⌝ }
-    requires { ⌜ length (now set) ≡ 8 ⌝ }
-    ensures { λ _. ⌜ Image (now (s .entry)) (λ g. Sifted (λ x. within names (judged g .names x)) (now (set .entry)) (now (set .exit))) ⌝ }
+    requires { ⌜ (node < 64) × (length (now set) ≡ 8) ⌝ }
+    ensures { λ _. ⌜ Image (now (s .entry)) (λ g. Sifted (λ x. within (getD (now (names .entry)) node 0) (judged g .names x)) (now (set .entry)) (now (set .exit))) ⌝ }
 {
+    let wanted = names[node];
     let mut x = sets::next_in(set, 0);
     while x < meaning::MOST_ITEMS {
-        screening::retain(set, x, names & graph::names(s, x) == names);
+        screening::retain(set, x, wanted & graph::names(s, x) == wanted);
         x = sets::next_in(set, x + 1);
     }
 }
 
-// Folds one child in: of a set stay the items that have a successor under the role in the child's.
-fn fold(s: &[u8], items: usize, index: &[u16], role: usize, child: &[u64], set: &mut [u64])
-    requires { ⌜ Judged (now s) items (now index) ⌝ }
-    requires { ⌜ (length (now child) ≡ 8) × (length (now set) ≡ 8) × Among items (now set) ⌝ }
-    ensures { λ _. ⌜ ((j : Judged (now (s .entry)) items (now (index .entry)))
-        → Sifted (λ x. any (λ y. inSet (now (child .entry)) y) (judged (j .register) .next x role)) (now (set .entry)) (now (set .exit))) ⌝ }
+// The row to go on with: the next one, or the end where nothing stays.
+fn next_row(set: &[u64], next: usize, end: usize) -> usize
+    requires { ⌜ length (now set) ≡ 8 ⌝ }
+    ensures { λ r. ⌜ GoesOn (now (set .entry)) next end r ⌝ }
 {
-    let mut x = sets::next_in(set, 0);
-    while x < meaning::MOST_ITEMS {
-        let to = trails::seek(s, items, index, x, role, child);
-        screening::retain(set, x, to != meaning::NOWHERE);
-        x = sets::next_in(set, x + 1);
+    if meaning::MOST_ITEMS <= sets::next_in(set, 0) {
+        return end;
     }
+    next
 }
 
 // Of a set stay the items that meet the tree at a node, and the table notes what stays at the node and at each below it.
@@ -64,18 +59,12 @@ fn meet(
         (now (owners .entry)) (now (firsts .entry)) parts node left)
         → Done (now (ends .entry)) (judged (k .posed .graph .register)) (k .tree) node (now (set .entry)) (now (set .exit)) (now (met .entry)) (now (met .exit))) ⌝ }
 {
-    hold(s, names[node], set);
+    hold(s, names, node, set);
     screening::screen(s, items, index, message, owners, firsts, parts, node, set);
-    let e = fields::octet(ends[node]);
-    let mut c = node + 1;
+    let e = trails::entry(ends, node);
+    let mut c = next_row(set, node + 1, e);
     while c < e {
-        if meaning::MOST_ITEMS <= sets::next_in(set, 0) {
-            c = e;
-            continue;
-        }
-        let at = c;
-        c = fields::octet(ends[at]);
-        let role = fields::octet(roles[at]);
+        let role = trails::entry(roles, c);
         let mut below = [0u64; 8];
         graph::spread(s, items, index, set, role, &mut below);
         meet(
@@ -89,12 +78,13 @@ fn meet(
             owners,
             firsts,
             parts,
-            at,
+            c,
             left - 1,
             &mut below,
             met,
         );
-        fold(s, items, index, role, &below, set);
+        trails::fold(s, items, index, role, &below, set);
+        c = next_row(set, trails::entry(ends, c), e);
     }
     trails::store(met, node, set);
 }

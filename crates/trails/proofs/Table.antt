@@ -1,7 +1,6 @@
 -- The table of sets: one row of it, and a row that is written.
 -- Assumes nothing.
-use mathlib.Core.Path.{_≡_, refl, sym, ap, _∙_, subst}
-use mathlib.Core.Bool.{Bool, true, false}
+use mathlib.Core.Path.{_≡_, refl, sym, ap, _∙_}
 use mathlib.Core.List.{List}
 use Prim.Native.Nat.{ℕ, _+_, _*_, _-_, _/_, _%_, _≤_, _<_}
 use native.Mathlib.Decide.{decLt, ℕ-discrete}
@@ -9,7 +8,6 @@ use native.Mathlib.Omega.{arith}
 use lib.ListN.{length, getD, set, take, drop, length-take, length-drop, length-set, List·getD-eq-default}
 use lib.Seq.{getD-take, getD-drop, getD-set-same, getD-set-other, length-take-le}
 use Rattle.meaning.specs.Names.{has}
-use Rattle.meaning.proofs.SessionNames.{has-none}
 use Rattle.graph.specs.Sets.{inSet}
 use Rattle.trails.specs.Cells.{rowOf, cell, Outside, Stored}
 

@@ -2,10 +2,9 @@
 -- the node's children say of each successor of the item whether it meets the child, and are right for those that do.
 -- Assumes nothing.
 use mathlib.Core.Path.{_≡_}
-use mathlib.Core.Bool.{Bool, true, _&&_, _||_, not}
+use mathlib.Core.Bool.{Bool, true}
 use mathlib.Core.List.{List, List·Memᴰ}
-use Prim.Native.Nat.{ℕ, zero, suc, _+_, _*_, _≤_, _<_}
-use lib.Dec.{T, eqb}
+use Prim.Native.Nat.{ℕ, _+_, _*_, _≤_, _<_}
 use lib.ListN.{getD, take, drop}
 use Rattle.meaning.specs.Tree.{node, Forest, none, more}
 use Rattle.meaning.specs.Graph.{Graph}

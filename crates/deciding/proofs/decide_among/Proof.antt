@@ -3,7 +3,6 @@
 use borrow.Author.Needs.{needs}
 use Rattle.deciding.proofs.decide_among.Statement.{statement}
 use Rattle.deciding.proofs.decide_among.Tie as tie
-use mathlib.Core.Path.{sym, _∙_}
 use native.Mathlib.Omega.{arith}
 use Rattle.fields.proofs.Known.{bytes-known}
 use Rattle.deciding.proofs.Answered.{understood, message-refused, message-unread, no-item, no-room, both-read, answers-yes, answers-no}

@@ -4,14 +4,14 @@ use borrow.Fn.PlainCycle.{Measures, is, falls, and}
 use Rattle.trails.proofs.walk.Reads as walk
 use Rattle.trails.proofs.walk.Kinds as walk-kinds
 use Rattle.trails.proofs.+walk.Lts-walk as walk-lts
-use Rattle.fields.proofs.octet.Reads as octet-reads
+use Rattle.trails.proofs.entry.Reads as entry-reads
 use Rattle.trails.proofs.seek.Reads as seek-reads
 use Rattle.trails.proofs.+walk.{statement}
 use Rattle.trails.proofs.+walk.Tie.{close}
-use mathlib.Core.Path.{_≡_, refl, sym, _∙_}
-use Prim.Native.Nat.{_-_, _≤_, _+_}
+use mathlib.Core.Path.{_≡_, refl, _∙_}
+use Prim.Native.Nat.{_-_, _+_}
 use native.Mathlib.Omega.{arith}
-use lib.ListN.{length, getD, set, length-set}
+use lib.ListN.{length, length-set}
 use Rattle.fields.proofs.Known.{bytes-known}
 use Rattle.trails.specs.Charted.{Charted}
 use Rattle.trails.proofs.Table.{part-length}
@@ -29,14 +29,7 @@ abbrev walk-below : ℕ → In 7 walk-kinds.ps
 walk-below t = and 7 walk-kinds.ps (falls 7 walk-kinds.ps _<_ μ-walk t) walk.Pre
 
 abbrev walk-claims : ℕ → walk-lts.Claims
-walk-claims t = (
-  octet-reads.Asked,
-  octet-reads.Learnt,
-  seek-reads.Asked,
-  seek-reads.Learnt,
-  walk-below t,
-  walk.Post,
-)
+walk-claims t = (entry-reads.Asked, entry-reads.Learnt, seek-reads.Asked, seek-reads.Learnt, walk-below t, walk.Post)
 
 abbrev walk-Inv-loop : walk-lts.InvT-loop
 walk-Inv-loop s items index names roles ends met node left item map₀ e c₀ map c =
@@ -45,6 +38,12 @@ walk-Inv-loop s items index names roles ends met node left item map₀ e c₀ ma
 abbrev walk-μ-loop : walk-lts.MeasureT-loop
 walk-μ-loop s items index names roles ends met node left item map₀ e c₀ map c =
     e - c
+
+-- in a turn of the loop the row is one of the table's
+walk-row : (t : ℕ) (turn : walk-lts.In-loop (walk-claims t) (walk-at t) walk.Post walk-Inv-loop walk-μ-loop) → turn .before .loop .c < 64
+walk-row t turn =
+    let start = turn .before .before .before .before .before .before .before in
+    omega (arith, here (start .pre .1 .0 .posed) .2, turn .loop-test .taken, turn .before .before .entry .ensures)
 
 walk-cast-map : (t : ℕ) → walk-lts.Need-cast-map (walk-claims t) (walk-at t) walk.Post walk-Inv-loop walk-μ-loop
 walk-cast-map t c =
@@ -56,60 +55,31 @@ walk-mul-map t c =
 
 walk-slice-write-map : (t : ℕ) → walk-lts.Need-slice-write-map (walk-claims t) (walk-at t) walk.Post walk-Inv-loop walk-μ-loop
 walk-slice-write-map t c =
-    let h = here (c .before .before .before .before .pre .1 .0 .posed) in omega (arith, h .1, c .before .before .before .before .pre .1 .1 .0)
+    omega (arith, here (c .before .before .before .before .pre .1 .0 .posed) .1, c .before .before .before .before .pre .1 .1 .0)
 
-walk-element-copy-out-octet : (t : ℕ) → walk-lts.Need-element-copy-out-octet (walk-claims t) (walk-at t) walk.Post walk-Inv-loop walk-μ-loop
-walk-element-copy-out-octet t c =
+walk-entry-requires : (t : ℕ) → walk-lts.Need-entry-requires (walk-claims t) (walk-at t) walk.Post walk-Inv-loop walk-μ-loop
+walk-entry-requires t c κs =
     let h = here (c .before .before .before .before .pre .1 .0 .posed) in omega (arith, h .1, h .2)
-
-walk-octet-requires : (t : ℕ) → walk-lts.Need-octet-requires (walk-claims t) (walk-at t) walk.Post walk-Inv-loop walk-μ-loop
-walk-octet-requires t c κs = search needs
 
 walk-add-c : (t : ℕ) → walk-lts.Need-add-c (walk-claims t) (walk-at t) walk.Post walk-Inv-loop walk-μ-loop
 walk-add-c t c =
-    let h = here (c .before .before .before .before .before .before .pre .1 .0 .posed) in omega (arith, h .1, h .2)
+    let h = here (c .before .before .before .before .before .pre .1 .0 .posed) in omega (arith, h .1, h .2)
 
 walk-loop-holds : (t : ℕ) → walk-lts.Need-loop-holds (walk-claims t) (walk-at t) walk.Post walk-Inv-loop walk-μ-loop
 walk-loop-holds t c =
     (refl, λ k. ahead-start k _)
 
-walk-element-copy-out-octet-2 : (t : ℕ) → walk-lts.Need-element-copy-out-octet-2 (walk-claims t) (walk-at t) walk.Post walk-Inv-loop walk-μ-loop
-walk-element-copy-out-octet-2 t c =
-    let h = here (c .before .before .before .before .before .before .before .before .pre .1 .0 .posed) in omega (arith, h .2, c .loop-test .taken, c .before .before .octet .ensures .0)
-
-walk-octet-requires-2 : (t : ℕ) → walk-lts.Need-octet-requires-2 (walk-claims t) (walk-at t) walk.Post walk-Inv-loop walk-μ-loop
-walk-octet-requires-2 t c κs = search needs
-
 walk-mul-row : (t : ℕ) → walk-lts.Need-mul-row (walk-claims t) (walk-at t) walk.Post walk-Inv-loop walk-μ-loop
-walk-mul-row t c =
-    let at-loop-test = c .before .before in
-    let at-octet = at-loop-test .before .before in
-    let start = at-octet .before .before .before .before .before .before in
-    let h = here (start .pre .1 .0 .posed) in omega (arith, h .2, at-loop-test .loop-test .taken, at-octet .octet .ensures .0)
+walk-mul-row t c = omega (arith, walk-row t c)
 
 walk-add-stop : (t : ℕ) → walk-lts.Need-add-stop (walk-claims t) (walk-at t) walk.Post walk-Inv-loop walk-μ-loop
-walk-add-stop t c =
-    let at-loop-test = c .before .before in
-    let at-octet = at-loop-test .before .before in
-    let start = at-octet .before .before .before .before .before .before in
-    let h = here (start .pre .1 .0 .posed) in omega (arith, h .2, at-loop-test .loop-test .taken, at-octet .octet .ensures .0)
+walk-add-stop t c = omega (arith, walk-row t c)
 
-walk-element-copy-out-octet-3 : (t : ℕ) → walk-lts.Need-element-copy-out-octet-3 (walk-claims t) (walk-at t) walk.Post walk-Inv-loop walk-μ-loop
-walk-element-copy-out-octet-3 t c =
-    let at-loop-test = c .before .before in
-    let at-octet = at-loop-test .before .before in
-    let start = at-octet .before .before .before .before .before .before in
-    let h = here (start .pre .1 .0 .posed) in omega (arith, h .2, at-loop-test .loop-test .taken, at-octet .octet .ensures .0)
-
-walk-octet-requires-3 : (t : ℕ) → walk-lts.Need-octet-requires-3 (walk-claims t) (walk-at t) walk.Post walk-Inv-loop walk-μ-loop
-walk-octet-requires-3 t c κs = search needs
+walk-entry-requires-2 : (t : ℕ) → walk-lts.Need-entry-requires-2 (walk-claims t) (walk-at t) walk.Post walk-Inv-loop walk-μ-loop
+walk-entry-requires-2 t c κs = walk-row t c
 
 walk-mul-seek : (t : ℕ) → walk-lts.Need-mul-seek (walk-claims t) (walk-at t) walk.Post walk-Inv-loop walk-μ-loop
-walk-mul-seek t c =
-    let at-loop-test = c .before .before .before .before in
-    let at-octet = at-loop-test .before .before in
-    let start = at-octet .before .before .before .before .before .before in
-    let h = here (start .pre .1 .0 .posed) in omega (arith, h .2, at-loop-test .loop-test .taken, at-octet .octet .ensures .0)
+walk-mul-seek t c = omega (arith, walk-row t (c .before))
 
 walk-sub-seek : (t : ℕ) → walk-lts.Need-sub-seek (walk-claims t) (walk-at t) walk.Post walk-Inv-loop walk-μ-loop
 walk-sub-seek t c = search needs
@@ -119,44 +89,30 @@ walk-part-seek-start t c = search needs
 
 walk-part-seek-end : (t : ℕ) → walk-lts.Need-part-seek-end (walk-claims t) (walk-at t) walk.Post walk-Inv-loop walk-μ-loop
 walk-part-seek-end t c =
-    let at-loop-test = c .before .before .before .before in
-    let at-octet = at-loop-test .before .before in
-    let start = at-octet .before .before .before .before .before .before in
-    let h = here (start .pre .1 .0 .posed) in omega (arith, h .2, at-loop-test .loop-test .taken, at-octet .octet .ensures .0, start .pre .1 .1 .1)
+    omega (arith, walk-row t (c .before), c .before .before .before .before .before .before .before .before .pre .1 .1 .1)
 
 walk-seek-requires : (t : ℕ) → walk-lts.Need-seek-requires (walk-claims t) (walk-at t) walk.Post walk-Inv-loop walk-μ-loop
 walk-seek-requires t c κs =
-    let at-loop-test = c .before .before .before .before .before in
-    let at-loop = at-loop-test .before in
-    let at-octet = at-loop .before in
-    let start = at-octet .before .before .before .before .before .before in
-    let h = here (start .pre .1 .0 .posed) in (
-      start .pre .1 .0 .posed .graph,
-      (
-        start .pre .1 .0 .inside,
-        part-length _ (at-loop .loop .c) (start .pre .1 .1 .1)
-            (omega (arith, h .2, at-loop-test .loop-test .taken, at-octet .octet .ensures .0)),
-      ),
-    )
+    let turn = c .before .before in
+    let start = turn .before .before .before .before .before .before .before in
+    (start .pre .1 .0 .posed .graph, (start .pre .1 .0 .inside, part-length _ (turn .before .loop .c) (start .pre .1 .1 .1) (walk-row t turn)))
 
 walk-sub-walk : (t : ℕ) → walk-lts.Need-sub-walk (walk-claims t) (walk-at t) walk.Post walk-Inv-loop walk-μ-loop
 walk-sub-walk t c =
-    omega (arith, here (c .before .before .before .before .before .before .before .before .before .before .before .before .before .before .pre .1 .0 .posed) .0)
+    omega (arith, here (c .before .before .before .before .before .before .before .before .before .before .pre .1 .0 .posed) .0)
 
 walk-walk-requires : (t : ℕ) → walk-lts.Need-walk-requires (walk-claims t) (walk-at t) walk.Post walk-Inv-loop walk-μ-loop
 walk-walk-requires t c κs =
     let at-seek = c .before in
-    let at-octet3 = at-seek .before .before in
-    let at-loop-test = at-octet3 .before .before .before .before in
-    let at-loop = at-loop-test .before in
-    let at-octet = at-loop .before in
-    let at-shared-slice-known = at-octet .before .before .before .before .before in
-    let start = at-shared-slice-known .before in
+    let at-role = at-seek .before .before in
+    let turn = at-role .before in
+    let known = turn .before .before .before .before .before .before in
+    let start = known .before in
     let k = start .pre .1 .0 in
-    let b = bytes-known (start .args .s .now) (at-shared-slice-known .shared-slice-known .given) in
-    let l = below-named (at-octet .octet .ensures .0) (at-loop-test .loop-test .taken) in
-    let w = at-loop .loop .inv in
-    let to = goes k b (w .1 k) l _ _ (at-octet3 .octet3 .ensures .0) (at-seek .seek .ensures (k .posed .graph)) in (
+    let b = bytes-known (start .args .s .now) (known .shared-slice-known .given) in
+    let l = below-named (turn .before .before .entry .ensures) (turn .loop-test .taken) in
+    let w = turn .before .loop .inv in
+    let to = goes k b (w .1 k) l _ _ (at-role .entry2 .ensures) (at-seek .seek .ensures (k .posed .graph)) in (
       omega (arith, here (k .posed) .0, start .pre .0),
       (
         next-charted k b (w .1 k) l _ to,
@@ -164,36 +120,32 @@ walk-walk-requires t c κs =
       ),
     )
 
+walk-entry-requires-3 : (t : ℕ) → walk-lts.Need-entry-requires-3 (walk-claims t) (walk-at t) walk.Post walk-Inv-loop walk-μ-loop
+walk-entry-requires-3 t c κs =
+    walk-row t (c .before .before .before .before .before .before .before)
+
 walk-loop-less : (t : ℕ) → walk-lts.Need-loop-less (walk-claims t) (walk-at t) walk.Post walk-Inv-loop walk-μ-loop
 walk-loop-less t c =
-    let at-octet2 = c .before .before .before .before .before .before .before .before in
-    let at-loop-test = at-octet2 .before .before in
-    let at-loop = at-loop-test .before in
-    let at-octet = at-loop .before in
-    let at-shared-slice-known = at-octet .before .before .before .before .before in
-    let start = at-shared-slice-known .before in
-    let k = start .pre .1 .0 in
-    let b = bytes-known (start .args .s .now) (at-shared-slice-known .shared-slice-known .given) in
-    let l = below-named (at-octet .octet .ensures .0) (at-loop-test .loop-test .taken) in
-    omega (arith, at-loop-test .loop-test .taken, at-octet2 .octet2 .ensures .0, next k b (at-loop .loop .inv .1 k) l .inside)
+    let turn = c .before .before .before .before .before .before .before .before in
+    let known = turn .before .before .before .before .before .before in
+    let k = known .before .pre .1 .0 in
+    let b = bytes-known (known .before .args .s .now) (known .shared-slice-known .given) in
+    let l = below-named (turn .before .before .entry .ensures) (turn .loop-test .taken) in
+    omega (arith, turn .loop-test .taken, c .entry3 .ensures, next k b (turn .before .loop .inv .1 k) l .inside)
 
 walk-loop-again : (t : ℕ) → walk-lts.Need-loop-again (walk-claims t) (walk-at t) walk.Post walk-Inv-loop walk-μ-loop
 walk-loop-again t c =
-    let at-walk = c .before .before in
+    let at-walk = c .before .before .before in
     let at-seek = at-walk .before .before in
-    let at-octet3 = at-seek .before .before in
-    let at-octet2 = at-octet3 .before .before in
-    let at-loop-test = at-octet2 .before .before in
-    let at-loop = at-loop-test .before in
-    let at-octet = at-loop .before in
-    let at-shared-slice-known = at-octet .before .before .before .before .before in
-    let start = at-shared-slice-known .before in
-    let b = bytes-known (start .args .s .now) (at-shared-slice-known .shared-slice-known .given) in
-    let l = below-named (at-octet .octet .ensures .0) (at-loop-test .loop-test .taken) in
-    let w = at-loop .loop .inv in
-    let role = at-octet3 .octet3 .ensures .0 in
+    let at-role = at-seek .before .before in
+    let turn = at-role .before in
+    let known = turn .before .before .before .before .before .before in
+    let b = bytes-known (known .before .args .s .now) (known .shared-slice-known .given) in
+    let l = below-named (turn .before .before .entry .ensures) (turn .loop-test .taken) in
+    let w = turn .before .loop .inv in
+    let role = at-role .entry2 .ensures in
     let sought = at-seek .seek .ensures in
-    let end = at-octet2 .octet2 .ensures .0 in
+    let end = c .entry3 .ensures in
     let gone = at-walk .walk .ensures in (
       at-walk .walk .kept .1 .1 .1 .1 .1 .1 .1 .1 .1 .1 .0 ∙ w .0,
       λ k.
@@ -203,13 +155,12 @@ walk-loop-again t c =
 
 walk-same-length : (t : ℕ) → walk-lts.Need-same-length (walk-claims t) (walk-at t) walk.Post walk-Inv-loop walk-μ-loop
 walk-same-length t c =
-    let at-loop = c .before in
-    let start = at-loop .before .before .before .before .before .before .before in
-    at-loop .loop .inv .0 ∙ length-set (start .args .map .now) (start .args .node) (start .args .item)
+    let start = c .before .before .before .before .before .before .before in
+    c .before .loop .inv .0 ∙ length-set (start .args .map .now) (start .args .node) (start .args .item)
 
 walk-returns : (t : ℕ) → walk-lts.Need-returns (walk-claims t) (walk-at t) walk.Post walk-Inv-loop walk-μ-loop
 walk-returns t c =
-    λ k. ahead-end k _ _ _ (c .before .loop .inv .1 k) (above-named (c .before .before .octet .ensures .0) (c .loop-test .left))
+    λ k. ahead-end k _ _ _ (c .before .loop .inv .1 k) (above-named (c .before .before .entry .ensures) (c .loop-test .left))
 
 pub +walk-spec : {M : Type 1} → statement M
 +walk-spec = close μ-walk λ t. walk-lts.spec (walk-claims t)
@@ -220,16 +171,12 @@ pub +walk-spec : {M : Type 1} → statement M
     (walk-cast-map t)
     (walk-mul-map t)
     (walk-slice-write-map t)
-    (walk-element-copy-out-octet t)
-    (walk-octet-requires t)
+    (walk-entry-requires t)
     (walk-add-c t)
     (walk-loop-holds t)
-    (walk-element-copy-out-octet-2 t)
-    (walk-octet-requires-2 t)
     (walk-mul-row t)
     (walk-add-stop t)
-    (walk-element-copy-out-octet-3 t)
-    (walk-octet-requires-3 t)
+    (walk-entry-requires-2 t)
     (walk-mul-seek t)
     (walk-sub-seek t)
     (walk-part-seek-start t)
@@ -237,6 +184,7 @@ pub +walk-spec : {M : Type 1} → statement M
     (walk-seek-requires t)
     (walk-sub-walk t)
     (walk-walk-requires t)
+    (walk-entry-requires-3 t)
     (walk-loop-less t)
     (walk-loop-again t)
     (walk-same-length t)

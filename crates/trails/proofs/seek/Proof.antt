@@ -1,7 +1,7 @@
 use Rattle.trails.proofs.seek.Statement.{statement}
 use Rattle.trails.proofs.seek.Tie as tie
-use mathlib.Core.Path.{_≡_, refl, sym, ap, _∙_}
-use Prim.Native.Nat.{_-_, _≤_}
+use mathlib.Core.Path.{_≡_, sym, ap, _∙_}
+use Prim.Native.Nat.{_-_}
 use native.Mathlib.Omega.{arith}
 use Rattle.meaning.specs.Register.{judged}
 use Rattle.meaning.specs.Shown.{first}
