@@ -1,7 +1,6 @@
 -- The table of sets: one row of it, and a row that is written.
 -- Assumes nothing.
-use mathlib.Core.Path.{_≡_, refl, sym, ap, _∙_, subst}
-use mathlib.Core.Bool.{Bool, true, false}
+use mathlib.Core.Path.{_≡_, refl, sym, ap, _∙_}
 use mathlib.Core.List.{List}
 use Prim.Native.Nat.{ℕ, _+_, _*_, _-_, _/_, _%_, _≤_, _<_}
 use native.Mathlib.Decide.{decLt, ℕ-discrete}
@@ -9,9 +8,8 @@ use native.Mathlib.Omega.{arith}
 use lib.ListN.{length, getD, set, take, drop, length-take, length-drop, length-set, List·getD-eq-default}
 use lib.Seq.{getD-take, getD-drop, getD-set-same, getD-set-other, length-take-le}
 use Rattle.meaning.specs.Names.{has}
-use Rattle.meaning.proofs.SessionNames.{has-none}
 use Rattle.graph.specs.Sets.{inSet}
-use Rattle.meeting.specs.Cells.{rowOf, cell, Outside, Stored}
+use Rattle.trails.specs.Cells.{rowOf, cell, Outside, Stored}
 
 -- a number of a row
 word-at : (m : List ℕ) (n i : ℕ) → i < 8 → getD (rowOf m n) i 0 ≡ getD m (n * 8 + i) 0

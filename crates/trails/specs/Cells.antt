@@ -2,12 +2,9 @@
 -- the node's children say of each successor of the item whether it meets the child, and are right for those that do.
 -- Assumes nothing.
 use mathlib.Core.Path.{_≡_}
-use mathlib.Core.Bool.{Bool, true, _&&_, _||_, not}
+use mathlib.Core.Bool.{Bool, true}
 use mathlib.Core.List.{List, List·Memᴰ}
-use mathlib.Core.Option.{Option, some}
-use mathlib.Core.Option.{none as nowhere}
-use Prim.Native.Nat.{ℕ, zero, suc, _+_, _*_, _≤_, _<_}
-use lib.Dec.{T, eqb}
+use Prim.Native.Nat.{ℕ, _+_, _*_, _≤_, _<_}
 use lib.ListN.{getD, take, drop}
 use Rattle.meaning.specs.Tree.{node, Forest, none, more}
 use Rattle.meaning.specs.Graph.{Graph}
@@ -41,8 +38,3 @@ module _ (ends : List ℕ) (G : Graph ℕ) (m : List ℕ) where
     RightF none i x = Unit {0}
     RightF (more r t f) i x =
         ((y : ℕ) → List·Memᴰ y (G .next x r) → (cell m i y ≡ member G t y) × (member G t y ≡ true → Right t i y)) × RightF f (getD ends i 0) x
-
--- where a search ended: an item, or 65535
-abbrev pub placeOf : Option ℕ → ℕ
-placeOf nowhere = 65535
-placeOf (some x) = x

@@ -1,15 +1,15 @@
-use Rattle.meeting.proofs.seek.Statement.{statement}
-use Rattle.meeting.proofs.seek.Tie as tie
-use mathlib.Core.Path.{_≡_, refl, sym, ap, _∙_}
-use Prim.Native.Nat.{_-_, _≤_}
+use Rattle.trails.proofs.seek.Statement.{statement}
+use Rattle.trails.proofs.seek.Tie as tie
+use mathlib.Core.Path.{_≡_, sym, ap, _∙_}
+use Prim.Native.Nat.{_-_}
 use native.Mathlib.Omega.{arith}
 use Rattle.meaning.specs.Register.{judged}
 use Rattle.meaning.specs.Shown.{first}
 use Rattle.graph.specs.Judged.{Judged, endNo, spanned}
 use Rattle.graph.specs.Sets.{inSet}
 use Rattle.graph.proofs.Use.{asked-end}
-use Rattle.meeting.specs.Cells.{placeOf}
-use Rattle.meeting.proofs.Search.{here-first, passed-first, none-first}
+use Rattle.graph.specs.Posed.{placeOf}
+use Rattle.trails.proofs.Search.{here-first, passed-first, none-first}
 use borrow.Author.Needs.{needs}
 
 abbrev Inv-loop : tie.InvT-loop

@@ -10,7 +10,7 @@ use native.Mathlib.Omega.{arith}
 use lib.Dec.{T}
 use lib.ListN.{length, getD, set}
 use lib.Seq.{sets}
-use Rattle.meaning.specs.Tree.{node, Forest, none, more, children, relabel, nodes, nodesF}
+use Rattle.meaning.specs.Tree.{node, Forest, none, more, children, relabel, relabelF, nodes, nodesF}
 use Rattle.meaning.specs.Graph.{Graph}
 use Rattle.meaning.specs.Whole.{any, meetsBy, meetsByF}
 use Rattle.meaning.specs.Requirement.{Label, Requirement, fulfils, member, bare}
@@ -21,8 +21,11 @@ use Rattle.meaning.proofs.Rows.{opened}
 use Rattle.meaning.proofs.Stores.{sets-append}
 use Rattle.meaning.proofs.YesShown.{yes-shows}
 use Rattle.graph.proofs.Same.{first-same}
-use Rattle.meeting.specs.Cells.{cell, Right, RightF}
-use Rattle.meeting.proofs.Children.{bareF}
+use Rattle.trails.specs.Cells.{cell, Right, RightF}
+
+-- a requirement's children without their thresholds
+abbrev pub bareF : Forest Label → Forest ℕ
+bareF = relabelF (λ a. a .names)
 
 module _ (names roles ends : List ℕ) where
   -- rows from i up to e hold as many nodes as are written

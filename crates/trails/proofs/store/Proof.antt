@@ -1,8 +1,8 @@
-use Rattle.meeting.proofs.store.Statement.{statement}
-use Rattle.meeting.proofs.store.Tie as tie
+use Rattle.trails.proofs.store.Statement.{statement}
+use Rattle.trails.proofs.store.Tie as tie
 use Prim.Native.Nat.{_-_, _≤_}
 use native.Mathlib.Omega.{arith}
-use Rattle.meeting.proofs.Table.{Storing, storing-none, storing-more, storing-all}
+use Rattle.trails.proofs.Table.{Storing, storing-none, storing-more, storing-all}
 use borrow.Author.Needs.{needs}
 
 abbrev Inv-loop : tie.InvT-loop

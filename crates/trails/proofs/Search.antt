@@ -1,9 +1,9 @@
 -- The first of an item's successors that is in a set.
 -- Assumes nothing.
-use mathlib.Core.Path.{_≡_, refl, sym, ap, _∙_}
+use mathlib.Core.Path.{_≡_, refl}
 use mathlib.Core.Bool.{Bool, true, false, _||_, not, cond}
 use mathlib.Core.List.{List, [], _∷_, List·Memᴰ, List·Memᴰ·head, List·Memᴰ·tail}
-use mathlib.Core.Option.{Option, some}
+use mathlib.Core.Option.{some}
 use mathlib.Core.Option.{none as nowhere}
 use Prim.Native.Nat.{ℕ, _+_, _≤_, _<_}
 use native.Mathlib.Omega.{arith}
@@ -13,7 +13,7 @@ use Rattle.meaning.specs.Whole.{any}
 use Rattle.meaning.specs.Shown.{first}
 use Rattle.graph.specs.Judged.{spanned}
 use Rattle.graph.proofs.Spans.{spanned-step, spanned-end}
-use Rattle.meeting.specs.Cells.{placeOf}
+use Rattle.graph.specs.Posed.{placeOf}
 
 module _ (p : ℕ → Bool) (f : ℕ → ℕ) where
   pub here-first : (k end : ℕ) → k < end → p (f k) ≡ true → first p (spanned f k end) ≡ some (f k)
