@@ -6,7 +6,7 @@ use Rattle.meeting.proofs.meet.Kinds as meet-kinds
 use Rattle.meeting.proofs.+meet.Lts-meet as meet-lts
 use Rattle.graph.proofs.spread.Reads as spread-reads
 use Rattle.trails.proofs.fold.Reads as fold-reads
-use Rattle.meeting.proofs.hold.Reads as hold-reads
+use Rattle.trails.proofs.hold.Reads as hold-reads
 use Rattle.screening.proofs.screen.Reads as screen-reads
 use Rattle.meeting.proofs.next_row.Reads as next-row-reads
 use Rattle.trails.proofs.entry.Reads as entry-reads
