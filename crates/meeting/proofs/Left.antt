@@ -30,7 +30,10 @@ module _ {s : List ℕ} {items : ℕ} {index message names roles ends owners fir
   abbrev pub Left : List ℕ → List ℕ → List ℕ → ℕ → Type 0
   Left all set m c = Rest names roles ends G owners (k .stand .thresholds) parts (k .tree) (left - 1) node (getD ends node 0) all set m c
 
-  module _ {all set m : List ℕ} {c : ℕ} (w : Left all set m c) (d : node < c) (l : c < getD ends node 0) where
+  module _ {all set m : List ℕ} {c e : ℕ} (w : Left all set m c) (d : node < c) (eq : e ≡ getD ends node 0) (u : c < e) where
+    abbrev l : c < getD ends node 0
+    l = subst (λ (z : ℕ). c < z) eq u
+
     abbrev pub child : Child names roles ends G owners (k .stand .thresholds) parts (k .tree) (left - 1) node (getD ends node 0) all set m c
     child = rest-child names roles ends G owners (k .stand .thresholds) parts (k .tree) (left - 1) node (getD ends node 0) all set m c w d l
 
@@ -57,16 +60,16 @@ module _ {s : List ℕ} {items : ℕ} {index message names roles ends owners fir
   left-on w (atEnd e h) q = rw (e, q) (rest-empty _ _ _ _ _ _ _ _ _ _ _ _ _ _ _ w h)
 
   -- no child is left, and the row is stored
-  pub whole : (all held set left′ m₀ m new : List ℕ) (c : ℕ) → length left′ ≡ 8 → Sifted (λ x. within (getD names node 0) (G .names x)) all held
+  pub whole : (all held set left′ m₀ m new : List ℕ) (c e : ℕ) → length left′ ≡ 8 → Sifted (λ x. within (getD names node 0) (G .names x)) all held
       → Sifted (λ x. ruledAt G owners (k .stand .thresholds) parts node x) held set
-      → Left set left′ m c → getD ends node 0 ≤ c → Outside node (getD ends node 0) m₀ m → Stored node left′ m new
+      → Left set left′ m c → e ≡ getD ends node 0 → e ≤ c → Outside node (getD ends node 0) m₀ m → Stored node left′ m new
       → Done ends G (k .tree) node all left′ m₀ new
-  whole all held set left′ m₀ m new c e p q w l o st =
-      let r = rest-whole _ _ _ _ _ _ _ _ _ _ _ _ _ _ _ w l in
+  whole all held set left′ m₀ m new c e size p q w eq l o st =
+      let r = rest-whole _ _ _ _ _ _ _ _ _ _ _ _ _ _ _ w (subst (λ (z : ℕ). z ≤ c) eq l) in
       record {
         sifted = all-met names roles ends G owners (k .stand .thresholds) parts (k .tree) left node (getD ends node 0)
             all held set left′ (k .posed .held) (k .ruled) p q (r .0);
-        stored = stored-cell node left′ m new e st;
+        stored = stored-cell node left′ m new size st;
         right = λ x h. r .1 x h new (λ j a b. st .outside .behind j a);
         outside = outside-part node (getD ends node 0) node (node + 1) m₀ m new (le-refl node) (omega (arith, here (k .posed) .1)) o (st .outside);
       }

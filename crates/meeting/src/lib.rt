@@ -4,26 +4,9 @@ use graph::sets;
 ghost use mathlib.Core.Path.{_≡_};
 ghost use Prim.Native.Nat.{_≤_, _<_};
 ghost use lib.ListN.{length, getD};
-ghost use Rattle.meaning.specs.Names.{within};
 ghost use Rattle.meaning.specs.Register.{judged};
-ghost use Rattle.register.specs.Image.{Asked, Image};
 ghost use Rattle.graph.specs.Sets.{Among};
-ghost use Rattle.screening.specs.Sifting.{Sifted};
 ghost use Rattle.meeting.specs.Required.{Required, GoesOn, Done, Settled};
-
-// Of a set stay the items that hold the names of a node.
-fn hold(s: &[u8], names: &[u64; 64], node: usize, set: &mut [u64])
-    requires { ⌜ Asked (now s) (λ g. Among (length (g .names)) (now set)) ⌝ }
-    requires { ⌜ (node < 64) × (length (now set) ≡ 8) ⌝ }
-    ensures { λ _. ⌜ Image (now (s .entry)) (λ g. Sifted (λ x. within (getD (now (names .entry)) node 0) (judged g .names x)) (now (set .entry)) (now (set .exit))) ⌝ }
-{
-    let wanted = names[node];
-    let mut x = sets::next_in(set, 0);
-    while x < meaning::MOST_ITEMS {
-        screening::retain(set, x, wanted & graph::names(s, x) == wanted);
-        x = sets::next_in(set, x + 1);
-    }
-}
 
 // The row to go on with: the next one, or the end where nothing stays.
 fn next_row(set: &[u64], next: usize, end: usize) -> usize
@@ -59,7 +42,7 @@ fn meet(
         (now (owners .entry)) (now (firsts .entry)) parts node left)
         → Done (now (ends .entry)) (judged (k .posed .graph .register)) (k .tree) node (now (set .entry)) (now (set .exit)) (now (met .entry)) (now (met .exit))) ⌝ }
 {
-    hold(s, names, node, set);
+    trails::hold(s, names, node, set);
     screening::screen(s, items, index, message, owners, firsts, parts, node, set);
     let e = trails::entry(ends, node);
     let mut c = next_row(set, node + 1, e);

@@ -31,13 +31,6 @@ module _ {R : Type 0} {names roles ends : List ℕ} {t : Concept} {node left : �
       → Posed R names roles ends u c (left - 1)
   onward h l = record { graph = p .graph; held = h; few = le-trans l (p .few) }
 
--- a bound that is known by another name
-pub below-named : {a b c : ℕ} → b ≡ c → a < b → a < c
-below-named {a} e l = subst (λ (z : ℕ). a < z) e l
-
-pub above-named : {a b c : ℕ} → b ≡ c → b ≤ a → c ≤ a
-above-named {a} e l = subst (λ (z : ℕ). z ≤ a) e l
-
 module _ {s : List ℕ} {items : ℕ} {index names roles ends met : List ℕ} {node left item : ℕ}
     (k : Charted s items index names roles ends met node left item) where
   abbrev G : Graph ℕ
@@ -54,27 +47,28 @@ module _ {s : List ℕ} {items : ℕ} {index names roles ends met : List ℕ} {n
   pub ahead-start : (map : List ℕ) → Ahead map (node + 1) (below map)
   ahead-start map = trail-start names roles ends G met (k .tree) left node (getD ends node 0) item map (k .posed .held) (k .right) (k .yes)
 
-  pub ahead-end : (old map : List ℕ) (c : ℕ) → Ahead map c (below (set old node item)) → getD ends node 0 ≤ c → map ≡ sets old node (yesMap G (k .tree) item)
-  ahead-end old map c w l = trail-end _ _ _ _ _ _ _ _ _ _ _ w l ∙ whole-map G (k .tree) node item old
+  pub ahead-end : (old map : List ℕ) (c e : ℕ) → Ahead map c (below (set old node item)) → e ≡ getD ends node 0 → e ≤ c
+      → map ≡ sets old node (yesMap G (k .tree) item)
+  ahead-end old map c e w q l = trail-end _ _ _ _ _ _ _ _ _ _ _ w (subst (λ (z : ℕ). z ≤ c) q l) ∙ whole-map G (k .tree) node item old
 
-  module _ (b : Bytes s) {map : List ℕ} {c : ℕ} {goal : List ℕ} (w : Ahead map c goal) (l : c < getD ends node 0) where
+  module _ (b : Bytes s) {map : List ℕ} {c e : ℕ} {goal : List ℕ} (w : Ahead map c goal) (q : e ≡ getD ends node 0) (l : c < e) where
     abbrev pub next : Next names roles ends G met (left - 1) (getD ends node 0) item map c goal
-    next = trail-next names roles ends G met (left - 1) (getD ends node 0) item map c goal w l
+    next = trail-next names roles ends G met (left - 1) (getD ends node 0) item map c goal w (subst (λ (z : ℕ). c < z) q l)
 
     pub goes : (to role : ℕ) → role ≡ getD roles c 0 → to ≡ placeOf (first (λ y. inSet (take (c * 8 + 8 - c * 8) (drop (c * 8) met)) y) (G .next item role))
         → to ≡ next .to
-    goes to role e q =
-        q ∙ ap (λ (l : List ℕ). placeOf (first (λ y. inSet l y) (G .next item role))) (part-row met c)
-        ∙ ap (λ (z : ℕ). placeOf (first (λ y. cell met c y) (G .next item z))) e ∙ ap placeOf (next .found)
+    goes to role f h =
+        h ∙ ap (λ (l : List ℕ). placeOf (first (λ y. inSet l y) (G .next item role))) (part-row met c)
+        ∙ ap (λ (z : ℕ). placeOf (first (λ y. cell met c y) (G .next item z))) f ∙ ap placeOf (next .found)
 
     pub next-ahead : (later : List ℕ) (to d : ℕ) → to ≡ next .to → d ≡ getD ends c 0 → later ≡ sets map c (yesMap G (next .tree) to) → Ahead later d goal
-    next-ahead later to d e f q = rw f (next .then later (q ∙ ap (λ (z : ℕ). sets map c (yesMap G (next .tree) z)) e))
+    next-ahead later to d f g h = rw g (next .then later (h ∙ ap (λ (z : ℕ). sets map c (yesMap G (next .tree) z)) f))
 
     abbrev pub next-charted : (to : ℕ) → to ≡ next .to → Charted s items index names roles ends met c (left - 1) to
-    next-charted to e = record {
+    next-charted to f = record {
       tree = next .tree;
       posed = onward (k .posed) (next .held) (next .within);
-      right = rw e (next .right);
-      inside = rw e (next-inside (k .posed .graph) b item (getD roles c 0) (next .to) (next .next));
-      yes = rw e (next .yes);
+      right = rw f (next .right);
+      inside = rw f (next-inside (k .posed .graph) b item (getD roles c 0) (next .to) (next .next));
+      yes = rw f (next .yes);
     }

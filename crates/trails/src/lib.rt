@@ -1,19 +1,35 @@
-// The table of which items meet which written node, a set for each node: how a child's set narrows its parent's, and the map of a yes that is
-// read off the table.
+// The sets of items that meet the written nodes: how one is narrowed by a node's names and by the set of a child, the table of them all, and the map
+// of a yes that is read off it.
 use graph::sets;
 ghost use mathlib.Core.Path.{_≡_};
 ghost use Prim.Native.Nat.{_≤_, _<_};
 ghost use lib.ListN.{length, getD};
 ghost use lib.Seq.{sets};
+ghost use Rattle.meaning.specs.Names.{within};
 ghost use Rattle.meaning.specs.Register.{judged};
 ghost use Rattle.meaning.specs.Shown.{first, yesMap};
 ghost use Rattle.meaning.specs.Whole.{any};
+ghost use Rattle.register.specs.Image.{Asked, Image};
 ghost use Rattle.graph.specs.Judged.{Judged};
 ghost use Rattle.graph.specs.Posed.{placeOf};
 ghost use Rattle.graph.specs.Sets.{inSet, Among};
 ghost use Rattle.screening.specs.Sifting.{Sifted};
 ghost use Rattle.trails.specs.Cells.{Stored};
 ghost use Rattle.trails.specs.Charted.{Charted};
+
+// Of a set stay the items that hold the names of a node.
+pub fn hold(s: &[u8], names: &[u64; 64], node: usize, set: &mut [u64])
+    requires { ⌜ Asked (now s) (λ g. Among (length (g .names)) (now set)) ⌝ }
+    requires { ⌜ (node < 64) × (length (now set) ≡ 8) ⌝ }
+    ensures { λ _. ⌜ Image (now (s .entry)) (λ g. Sifted (λ x. within (getD (now (names .entry)) node 0) (judged g .names x)) (now (set .entry)) (now (set .exit))) ⌝ }
+{
+    let wanted = names[node];
+    let mut x = sets::next_in(set, 0);
+    while x < meaning::MOST_ITEMS {
+        screening::retain(set, x, wanted & graph::names(s, x) == wanted);
+        x = sets::next_in(set, x + 1);
+    }
+}
 
 // The first successor of an item under a role that is in a set, or 65535.
 pub fn seek(s: &[u8], items: usize, index: &[u16], item: usize, role: usize, set: &[u64]) -> usize

@@ -49,8 +49,11 @@ decide-read-requires c κs =
     let known = at-read-message .before .before .before .before in
     let start = known .before in
     let b = bytes-known (start .args .image .now) (known .shared-slice-known .given) in
-    let u = understood (at-read-message .read-message .ensures) (at-m .m .given .1) in
-    (both-read _ _ (start .args .item) (start .args .map .now) (start .pre) u (omega (arith, at-if2 .before .if1 .left)) (omega (arith, at-if2 .if2 .left)) b, omega (arith, at-read-message .read-message .kept .1 .0))
+    let u = understood (at-read-message .read-message .ensures) (at-m .m .given .1) in (
+      both-read _ _ (start .args .item) (start .args .map .now) (start .pre) u (omega (arith, at-if2 .before .if1 .left))
+          (omega (arith, at-if2 .if2 .left)) b,
+      omega (arith, at-read-message .read-message .kept .1 .0),
+    )
 
 same-length : tie.Need-same-length
 same-length c = search needs
@@ -65,7 +68,8 @@ returns-3 c =
     let start = known .before in
     let b = bytes-known (start .args .image .now) (known .shared-slice-known .given) in
     let u = understood (at-read-message .read-message .ensures) (at-m .m .given .1) in
-    answers-yes _ _ (start .args .item) (start .args .map .now) (start .pre) u (omega (arith, at-if2 .before .if1 .left)) (omega (arith, at-if2 .if2 .left)) b _ _ (at-decide-read .decide-read .ensures) (c .if3 .taken)
+    answers-yes _ _ (start .args .item) (start .args .map .now) (start .pre) u (omega (arith, at-if2 .before .if1 .left))
+    (omega (arith, at-if2 .if2 .left)) b _ _ (at-decide-read .decide-read .ensures) (c .if3 .taken)
 
 enum-known-m-2 : tie.Need-enum-known-m-2
 enum-known-m-2 c = search needs
@@ -83,7 +87,8 @@ returns-4 c =
     let start = known .before in
     let b = bytes-known (start .args .image .now) (known .shared-slice-known .given) in
     let u = understood (at-read-message .read-message .ensures) (at-m .m .given .1) in
-    answers-no _ _ (start .args .item) (start .args .map .now) (start .pre) u (omega (arith, at-if2 .before .if1 .left)) (omega (arith, at-if2 .if2 .left)) b _ _ (at-decide-read .decide-read .ensures) (c .if3 .left)
+    answers-no _ _ (start .args .item) (start .args .map .now) (start .pre) u (omega (arith, at-if2 .before .if1 .left))
+    (omega (arith, at-if2 .if2 .left)) b _ _ (at-decide-read .decide-read .ensures) (c .if3 .left)
 
 returns-5 : tie.Need-returns-5
 returns-5 c =

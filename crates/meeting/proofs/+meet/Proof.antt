@@ -6,7 +6,7 @@ use Rattle.meeting.proofs.meet.Kinds as meet-kinds
 use Rattle.meeting.proofs.+meet.Lts-meet as meet-lts
 use Rattle.graph.proofs.spread.Reads as spread-reads
 use Rattle.trails.proofs.fold.Reads as fold-reads
-use Rattle.meeting.proofs.hold.Reads as hold-reads
+use Rattle.trails.proofs.hold.Reads as hold-reads
 use Rattle.screening.proofs.screen.Reads as screen-reads
 use Rattle.meeting.proofs.next_row.Reads as next-row-reads
 use Rattle.trails.proofs.entry.Reads as entry-reads
@@ -23,7 +23,7 @@ use Rattle.trails.specs.Cells.{Outside}
 use Rattle.meeting.specs.Required.{Required}
 use Rattle.screening.proofs.Sifting.{stays-among}
 use Rattle.trails.proofs.Table.{outside-none, outside-part}
-use Rattle.trails.proofs.Down.{here, below-named, above-named}
+use Rattle.trails.proofs.Down.{here}
 use Rattle.meeting.proofs.Left.{Left, child, child-required, next-left, left-start, left-on, whole, on-behind, asked-among}
 use Rattle.meeting.proofs.Settled.{zeros-length}
 use borrow.Author.Needs.{needs}
@@ -129,8 +129,9 @@ meet-slice-aggregate-spread t c = search needs
 meet-spread-requires : (t : ℕ) → meet-lts.Need-spread-requires (meet-claims t) (meet-at t) meet.Post meet-Inv-loop meet-μ-loop
 meet-spread-requires t c κs =
     let at-loop = c .before .before .before .before in
+    let start = at-loop .before .before .before .before .before .before .before .before .before .before .before .before .before .before .before .before .before in
     let w = at-loop .loop .inv in
-    (at-loop .before .before .before .before .before .before .before .before .before .before .before .before .before .before .before .before .before .pre .1 .0 .posed .graph, ((w .0, w .3), (zeros-length, among-none _)))
+    (start .pre .1 .0 .posed .graph, ((w .0, w .3), (zeros-length, among-none _)))
 
 meet-sub-meet : (t : ℕ) → meet-lts.Need-sub-meet (meet-claims t) (meet-at t) meet.Post meet-Inv-loop meet-μ-loop
 meet-sub-meet t c =
@@ -149,9 +150,10 @@ meet-meet-requires t c κs =
     let start = at-entry .before .before .before .before .before .before .before .before .before .before .before .before .before .before in
     let k = start .pre .1 .0 in
     let w = turn .before .loop .inv in
-    let l = below-named (at-entry .entry .ensures) (turn .loop-test .taken) in (
+    let e = at-entry .entry .ensures in
+    let l = turn .loop-test .taken in (
       omega (arith, here (k .posed) .0, start .pre .0),
-      (child-required k (w .4 k .0) (w .2) l, (at-spread .spread .kept .1 .1 .1 .1 .1 .0 ∙ zeros-length, at-spread .spread .ensures (k .posed .graph) .among, w .1)),
+      (child-required k (w .4 k .0) (w .2) e l, (at-spread .spread .kept .1 .1 .1 .1 .1 .0 ∙ zeros-length, at-spread .spread .ensures (k .posed .graph) .among, w .1)),
     )
 
 meet-slice-aggregate-fold : (t : ℕ) → meet-lts.Need-slice-aggregate-fold (meet-claims t) (meet-at t) meet.Post meet-Inv-loop meet-μ-loop
@@ -186,9 +188,8 @@ meet-loop-less t c =
     let at-entry = turn .before .before .before .before in
     let k = at-entry .before .before .before .before .before .before .before .before .before .before .before .before .before .before .pre .1 .0 in
     let w = turn .before .loop .inv in
-    let l = below-named (at-entry .entry .ensures) (turn .loop-test .taken) in
-    let on = on-behind _ (c .next-row2 .ensures) (omega (arith, c .before .entry3 .ensures, child k (w .4 k .0) (w .2) l .inside)) (turn .loop-test .taken) in
-    omega (arith, turn .loop-test .taken, on)
+    let l = turn .loop-test .taken in
+    omega (arith, l, on-behind _ (c .next-row2 .ensures) (omega (arith, c .before .entry3 .ensures, child k (w .4 k .0) (w .2) (at-entry .entry .ensures) l .inside)) l)
 
 meet-loop-again : (t : ℕ) → meet-lts.Need-loop-again (meet-claims t) (meet-at t) meet.Post meet-Inv-loop meet-μ-loop
 meet-loop-again t c =
@@ -201,7 +202,7 @@ meet-loop-again t c =
     let p = at-entry .before .before .before .before .before .before .before .before .before .before .before .before .before .before .pre .1 .0 in
     let w = turn .before .loop .inv in
     let e = at-entry .entry .ensures in
-    let l = below-named e (turn .loop-test .taken) in
+    let l = turn .loop-test .taken in
     let sp = at-spread .spread .ensures in
     let met = at-meet .meet .ensures in
     let fd = at-fold .fold .ensures in
@@ -210,13 +211,13 @@ meet-loop-again t c =
     let er = at-role .entry2 .ensures in (
       at-fold .fold .kept .1 .1 .1 .1 .1 .0 ∙ w .0,
       at-meet .meet .kept .1 .1 .1 .1 .1 .1 .1 .1 .1 .1 .1 .1 .1 .0 ∙ w .1,
-      on-behind _ on (omega (arith, w .2, en, child p (w .4 p .0) (w .2) l .inside)) (omega (arith, w .2, turn .loop-test .taken)),
+      on-behind _ on (omega (arith, w .2, en, child p (w .4 p .0) (w .2) e l .inside)) (omega (arith, w .2, l)),
       stays-among _ _ _ (fd (p .posed .graph)) _ (w .3),
       λ k.
           let was = w .4 k in
-          let done = met (child-required k (was .0) (w .2) l) in (
-            left-on k (next-left k (was .0) (w .2) l _ _ _ _ _ _ er en (sp (k .posed .graph)) done (fd (k .posed .graph))) on e,
-            outside-part _ _ _ _ _ _ _ (omega (arith, w .2)) (child k (was .0) (w .2) l .within) (was .1) (done .outside),
+          let done = met (child-required k (was .0) (w .2) e l) in (
+            left-on k (next-left k (was .0) (w .2) e l _ _ _ _ _ _ er en (sp (k .posed .graph)) done (fd (k .posed .graph))) on e,
+            outside-part _ _ _ _ _ _ _ (omega (arith, w .2)) (child k (was .0) (w .2) e l .within) (was .1) (done .outside),
           ),
     )
 
@@ -235,7 +236,8 @@ meet-same-length-2 : (t : ℕ) → meet-lts.Need-same-length-2 (meet-claims t) (
 meet-same-length-2 t c =
     let at-store = c .before .before in
     let at-loop = at-store .before .before .before .before in
-    at-store .store .kept .0 ∙ at-loop .loop .inv .1 ∙ sym (at-loop .before .before .before .before .before .before .before .before .before .before .before .before .before .before .before .before .before .pre .1 .1 .2)
+    let start = at-loop .before .before .before .before .before .before .before .before .before .before .before .before .before .before .before .before .before in
+    at-store .store .kept .0 ∙ at-loop .loop .inv .1 ∙ sym (start .pre .1 .1 .2)
 
 meet-returns : (t : ℕ) → meet-lts.Need-returns (meet-claims t) (meet-at t) meet.Post meet-Inv-loop meet-μ-loop
 meet-returns t c =
@@ -248,8 +250,8 @@ meet-returns t c =
     λ k.
     let w = at-loop .loop .inv in
     let g = k .posed .graph in
-    whole k _ _ _ _ _ _ _ _ (w .0) (at-hold .hold .ensures (g .register) (g .read)) (at-screen .screen .ensures g (k .stand)) (w .4 k .0)
-    (above-named (at-entry .entry .ensures) (at-loop-test .loop-test .left)) (w .4 k .1) (at-store .store .ensures)
+    whole k _ _ _ _ _ _ _ _ _ (w .0) (at-hold .hold .ensures (g .register) (g .read)) (at-screen .screen .ensures g (k .stand)) (w .4 k .0)
+    (at-entry .entry .ensures) (at-loop-test .loop-test .left) (w .4 k .1) (at-store .store .ensures)
 
 pub +meet-spec : {M : Type 1} → statement M
 +meet-spec = close μ-meet λ t. meet-lts.spec (meet-claims t)

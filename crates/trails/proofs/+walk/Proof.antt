@@ -15,7 +15,7 @@ use lib.ListN.{length, length-set}
 use Rattle.fields.proofs.Known.{bytes-known}
 use Rattle.trails.specs.Charted.{Charted}
 use Rattle.trails.proofs.Table.{part-length}
-use Rattle.trails.proofs.Down.{here, Ahead, below, ahead-start, ahead-end, next, goes, next-ahead, next-charted, below-named, above-named}
+use Rattle.trails.proofs.Down.{here, Ahead, below, ahead-start, ahead-end, next, goes, next-ahead, next-charted}
 use borrow.Author.Needs.{needs}
 
 abbrev μ-walk : Measures 7 walk-kinds.ps ℕ
@@ -110,13 +110,14 @@ walk-walk-requires t c κs =
     let start = known .before in
     let k = start .pre .1 .0 in
     let b = bytes-known (start .args .s .now) (known .shared-slice-known .given) in
-    let l = below-named (turn .before .before .entry .ensures) (turn .loop-test .taken) in
     let w = turn .before .loop .inv in
-    let to = goes k b (w .1 k) l _ _ (at-role .entry2 .ensures) (at-seek .seek .ensures (k .posed .graph)) in (
+    let e = turn .before .before .entry .ensures in
+    let l = turn .loop-test .taken in
+    let to = goes k b (w .1 k) e l _ _ (at-role .entry2 .ensures) (at-seek .seek .ensures (k .posed .graph)) in (
       omega (arith, here (k .posed) .0, start .pre .0),
       (
-        next-charted k b (w .1 k) l _ to,
-        (omega (arith, start .pre .1 .1 .0, w .0, length-set (start .args .map .now) (start .args .node) (start .args .item), next k b (w .1 k) l .within), start .pre .1 .1 .1),
+        next-charted k b (w .1 k) e l _ to,
+        (omega (arith, start .pre .1 .1 .0, w .0, length-set (start .args .map .now) (start .args .node) (start .args .item), next k b (w .1 k) e l .within), start .pre .1 .1 .1),
       ),
     )
 
@@ -130,8 +131,7 @@ walk-loop-less t c =
     let known = turn .before .before .before .before .before .before in
     let k = known .before .pre .1 .0 in
     let b = bytes-known (known .before .args .s .now) (known .shared-slice-known .given) in
-    let l = below-named (turn .before .before .entry .ensures) (turn .loop-test .taken) in
-    omega (arith, turn .loop-test .taken, c .entry3 .ensures, next k b (turn .before .loop .inv .1 k) l .inside)
+    omega (arith, c .entry3 .ensures, next k b (turn .before .loop .inv .1 k) (turn .before .before .entry .ensures) (turn .loop-test .taken) .inside, turn .loop-test .taken)
 
 walk-loop-again : (t : ℕ) → walk-lts.Need-loop-again (walk-claims t) (walk-at t) walk.Post walk-Inv-loop walk-μ-loop
 walk-loop-again t c =
@@ -141,16 +141,17 @@ walk-loop-again t c =
     let turn = at-role .before in
     let known = turn .before .before .before .before .before .before in
     let b = bytes-known (known .before .args .s .now) (known .shared-slice-known .given) in
-    let l = below-named (turn .before .before .entry .ensures) (turn .loop-test .taken) in
     let w = turn .before .loop .inv in
+    let e = turn .before .before .entry .ensures in
+    let l = turn .loop-test .taken in
     let role = at-role .entry2 .ensures in
     let sought = at-seek .seek .ensures in
     let end = c .entry3 .ensures in
     let gone = at-walk .walk .ensures in (
       at-walk .walk .kept .1 .1 .1 .1 .1 .1 .1 .1 .1 .1 .0 ∙ w .0,
       λ k.
-          let to = goes k b (w .1 k) l _ _ role (sought (k .posed .graph)) in
-          next-ahead k b (w .1 k) l _ _ _ to end (gone (next-charted k b (w .1 k) l _ to)),
+          let to = goes k b (w .1 k) e l _ _ role (sought (k .posed .graph)) in
+          next-ahead k b (w .1 k) e l _ _ _ to end (gone (next-charted k b (w .1 k) e l _ to)),
     )
 
 walk-same-length : (t : ℕ) → walk-lts.Need-same-length (walk-claims t) (walk-at t) walk.Post walk-Inv-loop walk-μ-loop
@@ -160,7 +161,7 @@ walk-same-length t c =
 
 walk-returns : (t : ℕ) → walk-lts.Need-returns (walk-claims t) (walk-at t) walk.Post walk-Inv-loop walk-μ-loop
 walk-returns t c =
-    λ k. ahead-end k _ _ _ (c .before .loop .inv .1 k) (above-named (c .before .before .entry .ensures) (c .loop-test .left))
+    λ k. ahead-end k _ _ _ _ (c .before .loop .inv .1 k) (c .before .before .entry .ensures) (c .loop-test .left)
 
 pub +walk-spec : {M : Type 1} → statement M
 +walk-spec = close μ-walk λ t. walk-lts.spec (walk-claims t)

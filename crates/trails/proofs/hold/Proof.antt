@@ -1,5 +1,5 @@
-use Rattle.meeting.proofs.hold.Statement.{statement}
-use Rattle.meeting.proofs.hold.Tie as tie
+use Rattle.trails.proofs.hold.Statement.{statement}
+use Rattle.trails.proofs.hold.Tie as tie
 use mathlib.Core.Path.{_≡_, sym, ap, _∙_}
 use Prim.Native.Nat.{ℕ, _-_}
 use native.Mathlib.Omega.{arith}
