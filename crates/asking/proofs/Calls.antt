@@ -128,9 +128,10 @@ module _ (image message : List ℕ) (item : ℕ) where
         pub items : n ≡ length (register .names)
         pub links : m ≡ length (register .links)
         pub written : k ≡ nodes tree
+        pub bytes : Bytes image
 
-      pub known : Known
-      known = go (readBoth image message) refl done
+      pub known : Bytes image → Known
+      known by = go (readBoth image message) refl done
         where
           go : (a : Answer (Register × Concept)) → readBoth image message ≡ a → BothOutcome image A a b → Known
           go (good x) d o =
@@ -138,98 +139,99 @@ module _ (image message : List ℕ) (item : ℕ) where
               let i : n ≡ length (x .0 .names) = cc in
               let l : m ≡ length (x .0 .links) = cc in
               let w : k ≡ nodes (x .1) = cc in
-              record { register = x .0; tree = x .1; both = d; held = o; items = i; links = l; written = w }
+              record { register = x .0; tree = x .1; both = d; held = o; items = i; links = l; written = w; bytes = by }
           go (refused q) d o = let z : RefusedBoth q ≡ GoodBoth n m k = sym o ∙ e in let y : _≡_ {A = ℕ} 0 1 = cc in absurd (omega arith)
 
-      -- the rows end where the written nodes do
-      pub ended : getD (A .ends) 0 0 ≡ nodes (known .tree)
-      ended = omega (arith, holds-nodes (A .names) (A .roles) (A .ends) (known .tree) 17 0 _ (known .held .held .posed .held))
+  module _ {A : Rows} {b : Both} {done : BothDone image message A b} {n m k : ℕ} {e : b ≡ GoodBoth n m k} (w : Known A b done n m k e) where
+    -- the rows end where the written nodes do
+    pub ended : getD (A .ends) 0 0 ≡ nodes (w .tree)
+    ended = omega (arith, holds-nodes (A .names) (A .roles) (A .ends) (w .tree) 17 0 _ (w .held .held .posed .held))
 
-      abbrev pub gradable : Bytes image → Gradable (OfSize image n m) (A .names) (A .roles) (A .ends) (A .marks) 0 17
-      gradable bytes =
-          let h = known .held .held in
-          gradable-of (known .register) (known .tree) (whole-buffer image (known .register) bytes (h .posed .graph)) (known .items) (known .links)
-          (h .posed .held) (h .marked) (h .posed .few) (h .small)
+    abbrev pub gradable : Gradable (OfSize image n m) (A .names) (A .roles) (A .ends) (A .marks) 0 17
+    gradable =
+        let h = w .held .held in
+        gradable-of (w .register) (w .tree) (whole-buffer image (w .register) (w .bytes) (h .posed .graph)) (w .items) (w .links)
+        (h .posed .held) (h .marked) (h .posed .few) (h .small)
 
-      pub room : {long : ℕ} → k ≤ long → getD (A .ends) 0 0 ≤ long
-      room l = omega (arith, ended, known .written)
+    pub room : {long : ℕ} → k ≤ long → getD (A .ends) 0 0 ≤ long
+    room l = omega (arith, ended, w .written)
 
-      -- ---- the degree
+    -- ---- the degree
 
-      degree-then : (room : ℕ) → degreeCall image message item room ≡ degreeNext item room (known .register) (known .tree)
-      degree-then room = degree-both room ∙ took (readBoth image message) _ _ (known .both)
+    degree-then : (room : ℕ) → degreeCall image message item room ≡ degreeNext item room (w .register) (w .tree)
+    degree-then room = degree-both room ∙ took (readBoth image message) _ _ (w .both)
 
-      -- 15
-      pub degree-no-item : n ≤ item → (old : List ℕ) (r : Answered) → r ≡ degreeRefused 15 → DegreeDone r old old
-      degree-no-item l old r is =
-          degree-no old _ r (degree-then (length old) ∙ stop (leb (length (known .register .names)) item) _ _ (at-most _ item (omega (arith, known .items)))) is
+    -- 15
+    pub degree-no-item : n ≤ item → (old : List ℕ) (r : Answered) → r ≡ degreeRefused 15 → DegreeDone r old old
+    degree-no-item l old r is =
+        degree-no old _ r (degree-then (length old) ∙ stop (leb (length (w .register .names)) item) _ _ (at-most _ item (omega (arith, w .items)))) is
 
-      in-range : {C : Type 0} (next : Answer C) → item < n → (inRange (known .register) item >> next) ≡ next
-      in-range next l = pass (leb (length (known .register .names)) item) _ next (not-le _ item (omega (arith, known .items)))
+    in-range : {C : Type 0} (next : Answer C) → item < n → (inRange (w .register) item >> next) ≡ next
+    in-range next l = pass (leb (length (w .register .names)) item) _ next (not-le _ item (omega (arith, w .items)))
 
-      -- 16
-      pub degree-no-room : item < n → (old : List ℕ) → length old < k → (r : Answered) → r ≡ degreeRefused 16 → DegreeDone r old old
-      degree-no-room i old l r is =
-          degree-no old _ r
-          (degree-then (length old) ∙ in-range _ i ∙ stop (ltb (length old) (nodes (known .tree))) _ _ (below (length old) _ (omega (arith, known .written)))) is
+    -- 16
+    pub degree-no-room : item < n → (old : List ℕ) → length old < k → (r : Answered) → r ≡ degreeRefused 16 → DegreeDone r old old
+    degree-no-room i old l r is =
+        degree-no old _ r
+        (degree-then (length old) ∙ in-range _ i ∙ stop (ltb (length old) (nodes (w .tree))) _ _ (below (length old) _ (omega (arith, w .written)))) is
 
-      -- what was worked out, in lowest terms, is what is answered
-      lowest-answer : (d : Degree) (f : Fraction) → Graded (known .register) (known .tree) item d
-          → (f .num ≡ lowest (d .number // d .scale) .num) × (f .den ≡ lowest (d .number // d .scale) .den)
-          → (f .num // f .den) ≡ answered (judged (known .register)) (known .tree) item
-      lowest-answer d f h l = ap₂ _//_ (l .0) (l .1) ∙ graded-answer (known .register) (known .tree) item d h
+    -- what was worked out, in lowest terms, is what is answered
+    lowest-answer : (d : Degree) (f : Fraction) → Graded (w .register) (w .tree) item d
+        → (f .num ≡ lowest (d .number // d .scale) .num) × (f .den ≡ lowest (d .number // d .scale) .den)
+        → (f .num // f .den) ≡ answered (judged (w .register)) (w .tree) item
+    lowest-answer d f h l = ap₂ _//_ (l .0) (l .1) ∙ graded-answer (w .register) (w .tree) item d h
 
-      pub degree-answer : item < n → (old new : List ℕ) → k ≤ length old → (d : Degree) (f : Fraction) → Graded (known .register) (known .tree) item d
-          → (f .num ≡ lowest (d .number // d .scale) .num) × (f .den ≡ lowest (d .number // d .scale) .den)
-          → new ≡ drawn (known .register) (known .tree) 0 (some item) old → DegreeDone (GoodDegree (f .num) (f .den) k) old new
-      unfolding told _>>=_
-      degree-answer i old new l d f h low is =
-          let t = known .tree in
-          let G = judged (known .register) in
-          let found : Found = record { degree = answered G t item; map = degreeMap G t item } in
-          let c : degreeCall image message item (length old) ≡ good found =
-          degree-then (length old) ∙ in-range _ i ∙ pass (ltb (length old) (nodes t)) _ _ (not-below (length old) _ (omega (arith, known .written))) in
-          let places : k ≡ length (degreeMap G t item) = known .written ∙ sym (length-map (shown G t (some item)) markNumber ∙ shown-length G t (some item)) in
-          let answer : _≡_ {A = Told} (record { degree = f .num // f .den; places = k }) (record { degree = answered G t item; places = length (degreeMap G t item) }) =
-          ap₂ (λ (x : Frac) (y : ℕ). record { degree = x; places = y }) (lowest-answer d f h low) places in
-          (ap good answer ∙ sym (ap told c), is ∙ sym (ap (afterDegree old) c))
+    pub degree-answer : item < n → (old new : List ℕ) → k ≤ length old → (d : Degree) (f : Fraction) → Graded (w .register) (w .tree) item d
+        → (f .num ≡ lowest (d .number // d .scale) .num) × (f .den ≡ lowest (d .number // d .scale) .den)
+        → new ≡ drawn (w .register) (w .tree) 0 (some item) old → DegreeDone (GoodDegree (f .num) (f .den) k) old new
+    unfolding told _>>=_
+    degree-answer i old new l d f h low is =
+        let t = w .tree in
+        let G = judged (w .register) in
+        let found : Found = record { degree = answered G t item; map = degreeMap G t item } in
+        let c : degreeCall image message item (length old) ≡ good found =
+        degree-then (length old) ∙ in-range _ i ∙ pass (ltb (length old) (nodes t)) _ _ (not-below (length old) _ (omega (arith, w .written))) in
+        let places : k ≡ length (degreeMap G t item) = w .written ∙ sym (length-map (shown G t (some item)) markNumber ∙ shown-length G t (some item)) in
+        let answer : _≡_ {A = Told} (record { degree = f .num // f .den; places = k }) (record { degree = answered G t item; places = length (degreeMap G t item) }) =
+        ap₂ (λ (x : Frac) (y : ℕ). record { degree = x; places = y }) (lowest-answer d f h low) places in
+        (ap good answer ∙ sym (ap told c), is ∙ sym (ap (afterDegree old) c))
 
-      -- ---- the margin
+    -- ---- the margin
 
-      margin-then : (p q : ℕ) → marginCall image message item p q ≡ marginNext item p q (known .register) (known .tree)
-      margin-then p q = margin-both p q ∙ took (readBoth image message) _ _ (known .both)
+    margin-then : (p q : ℕ) → marginCall image message item p q ≡ marginNext item p q (w .register) (w .tree)
+    margin-then p q = margin-both p q ∙ took (readBoth image message) _ _ (w .both)
 
-      -- 15
-      pub margin-no-item : n ≤ item → (p q : ℕ) (r : Margin) → r ≡ marginRefused 15 → MarginDone p q r
-      margin-no-item l p q r is =
-          ap paperMargin is ∙ sym (margin-then p q ∙ stop (leb (length (known .register .names)) item) _ _ (at-most _ item (omega (arith, known .items))))
+    -- 15
+    pub margin-no-item : n ≤ item → (p q : ℕ) (r : Margin) → r ≡ marginRefused 15 → MarginDone p q r
+    margin-no-item l p q r is =
+        ap paperMargin is ∙ sym (margin-then p q ∙ stop (leb (length (w .register .names)) item) _ _ (at-most _ item (omega (arith, w .items))))
 
-      -- 13
-      pub margin-no-threshold : item < n → (p q : ℕ) (test : Bool) → test ≡ not (lawful p q) → test ≡ true → (r : Margin) → r ≡ marginRefused 13 → MarginDone p q r
-      margin-no-threshold i p q test says l r is =
-          ap paperMargin is ∙ sym (margin-then p q ∙ in-range _ i ∙ stop (not (lawful p q)) _ _ (sym says ∙ l))
+    -- 13
+    pub margin-no-threshold : item < n → (p q : ℕ) (test : Bool) → test ≡ not (lawful p q) → test ≡ true → (r : Margin) → r ≡ marginRefused 13 → MarginDone p q r
+    margin-no-threshold i p q test says l r is =
+        ap paperMargin is ∙ sym (margin-then p q ∙ in-range _ i ∙ stop (not (lawful p q)) _ _ (sym says ∙ l))
 
-      module _ (p q : ℕ) (test : Bool) (says : test ≡ not (lawful p q)) (left : test ≡ false) (d : Degree) (f : Fraction)
-          (h : Graded (known .register) (known .tree) item d)
-          (low : (f .num ≡ lowest (d .number // d .scale) .num) × (f .den ≡ lowest (d .number // d .scale) .den)) where
-        ok : not (lawful p q) ≡ false
-        ok = sym says ∙ left
+    module _ (p q : ℕ) (test : Bool) (says : test ≡ not (lawful p q)) (left : test ≡ false) (d : Degree) (f : Fraction)
+        (h : Graded (w .register) (w .tree) item d)
+        (low : (f .num ≡ lowest (d .number // d .scale) .num) × (f .den ≡ lowest (d .number // d .scale) .den)) where
+      ok : not (lawful p q) ≡ false
+      ok = sym says ∙ left
 
-        -- the two numbers of the degree and of the threshold are small
-        pub margin-small : (f .num ≤ f .den) × (f .den ≤ mostScale) × (p ≤ q) × (q ≤ mostQ)
-        margin-small =
-            let G = judged (known .register) in
-            let t = known .tree in
-            let same = lowest-answer d f h low in
-            let num : f .num ≡ answered G t item .num = ap (λ (z : Frac). z .num) same in
-            let den : f .den ≡ answered G t item .den = ap (λ (z : Frac). z .den) same in
-            let small = scale-small t (known .held .held .small) in
-            let fit = lawful-open p q (of-not (lawful p q) ok) in
-            (omega (arith, answered-at-most-one G t item), omega (arith, lowest-le (degreeOf G t item) .1, scale-in t), fit .1, fit .0)
+      -- the two numbers of the degree and of the threshold are small
+      pub margin-small : (f .num ≤ f .den) × (f .den ≤ mostScale) × (p ≤ q) × (q ≤ mostQ)
+      margin-small =
+          let G = judged (w .register) in
+          let t = w .tree in
+          let same = lowest-answer d f h low in
+          let num : f .num ≡ answered G t item .num = ap (λ (z : Frac). z .num) same in
+          let den : f .den ≡ answered G t item .den = ap (λ (z : Frac). z .den) same in
+          let small = scale-small t (w .held .held .small) in
+          let fit = lawful-open p q (of-not (lawful p q) ok) in
+          (omega (arith, answered-at-most-one G t item), omega (arith, lowest-le (degreeOf G t item) .1, scale-in t), fit .1, fit .0)
 
-        pub margin-answer : item < n → (m : Signed) → (m .num ≡ margin (f .num // f .den) (p // q)) × (m .den ≡ marginOver (f .num // f .den) (p // q))
-            → SFits w64 (m .num) → MarginDone p q (GoodMargin (toZ w64 (ofZ w64 (m .num))) (m .den))
-        margin-answer i m is fits =
-            ap₂ (λ (x : ℤ) (y : ℕ). paperMargin (GoodMargin x y)) (toZ-ofZ fits ∙ is .0) (is .1)
-            ∙ ap (λ (z : Frac). paperMargin (GoodMargin (margin z (p // q)) (marginOver z (p // q)))) (lowest-answer d f h low)
-            ∙ sym (margin-then p q ∙ in-range _ i ∙ pass (not (lawful p q)) _ _ ok)
+      pub margin-answer : item < n → (m : Signed) → (m .num ≡ margin (f .num // f .den) (p // q)) × (m .den ≡ marginOver (f .num // f .den) (p // q))
+          → SFits w64 (m .num) → MarginDone p q (GoodMargin (toZ w64 (ofZ w64 (m .num))) (m .den))
+      margin-answer i m is fits =
+          ap₂ (λ (x : ℤ) (y : ℕ). paperMargin (GoodMargin x y)) (toZ-ofZ fits ∙ is .0) (is .1)
+          ∙ ap (λ (z : Frac). paperMargin (GoodMargin (margin z (p // q)) (marginOver z (p // q)))) (lowest-answer d f h low)
+          ∙ sym (margin-then p q ∙ in-range _ i ∙ pass (not (lawful p q)) _ _ ok)

@@ -6,7 +6,12 @@ use Rattle.asking.proofs.margin_of.Tie as tie
 use native.Mathlib.Omega.{arith}
 use Rattle.fields.proofs.Known.{bytes-known}
 use Rattle.shown.proofs.Entry.{graded-fits}
-use Rattle.asking.proofs.Calls.{margin-stopped, gradable, margin-no-item, margin-no-threshold, margin-small, margin-answer}
+use Rattle.asking.proofs.Calls.{margin-stopped, Known, known, gradable, margin-no-item, margin-no-threshold, margin-small, margin-answer}
+
+-- a register and a requirement that were read
+read : (c : tie.After-b) → Known (c .before .before .before .before .before .before .before .before .before .args .image .now) (c .before .before .before .before .before .before .before .before .before .args .message .now) (c .before .before .before .before .before .before .before .before .before .args .item)
+    _ _ (c .before .before .read-both .ensures) _ _ _ (c .b .given .1)
+read c = known _ _ _ _ _ _ _ _ _ _ (bytes-known (c .before .before .before .before .before .before .before .before .before .args .image .now) (c .before .before .before .before .before .before .before .before .shared-slice-known .given))
 
 read-both-requires : tie.Need-read-both-requires
 read-both-requires c κs = search needs
@@ -19,15 +24,7 @@ margin-refused-requires c κs = search needs
 
 returns : tie.Need-returns
 returns c =
-    let at-b = c .before .before .before in
-    let at-read-both = at-b .before .before in
-    let start = at-read-both .before .before .before .before .before .before .before in
-    let image = start .args .image .now in
-    let message = start .args .message .now in
-    let item = start .args .item in
-    let done = at-read-both .read-both .ensures in
-    let told = at-b .b .given .1 in
-    margin-no-item image message item _ _ done _ _ _ told (omega (arith, c .before .if1 .taken)) _ _ (c .margin-refused .result) (search needs)
+    margin-no-item _ _ _ (read (c .before .before .before)) (omega (arith, c .before .if1 .taken)) _ _ (c .margin-refused .result) (search needs)
 
 wrong-requires : tie.Need-wrong-requires
 wrong-requires c κs = search needs
@@ -38,61 +35,25 @@ margin-refused-requires-2 c κs = search needs
 returns-2 : tie.Need-returns-2
 returns-2 c =
     let at-if1 = c .before .before .before in
-    let at-b = at-if1 .before .before in
-    let at-read-both = at-b .before .before in
-    let start = at-read-both .before .before .before .before .before .before .before in
-    let image = start .args .image .now in
-    let message = start .args .message .now in
-    let item = start .args .item in
-    let done = at-read-both .read-both .ensures in
-    let told = at-b .b .given .1 in
-    margin-no-threshold image message item _ _ done _ _ _ told (omega (arith, at-if1 .if1 .left)) (start .args .p) (start .args .q) _ (c .before .before .wrong .ensures)
-    (c .before .if2 .taken) (c .margin-refused2 .result) (search needs)
+    margin-no-threshold _ _ _ (read (at-if1 .before .before)) (omega (arith, at-if1 .if1 .left)) _ _ _ (c .before .before .wrong .ensures) (c .before .if2 .taken)
+    (c .margin-refused2 .result) (search needs)
 
 degree-at-requires : tie.Need-degree-at-requires
 degree-at-requires c κs =
     let at-if1 = c .before .before .before .before .before .before in
-    let at-b = at-if1 .before .before in
-    let at-read-both = at-b .before .before in
-    let at-shared-slice-known = at-read-both .before .before .before .before .before .before in
-    let start = at-shared-slice-known .before in
-    let image = start .args .image .now in
-    let message = start .args .message .now in
-    let item = start .args .item in
-    let done = at-read-both .read-both .ensures in
-    let told = at-b .b .given .1 in
-    let k = gradable image message item _ _ done _ _ _ told (bytes-known image (at-shared-slice-known .shared-slice-known .given)) in
-    (k, omega (arith, at-if1 .if1 .left))
+    (gradable _ _ _ (read (at-if1 .before .before)), omega (arith, at-if1 .if1 .left))
 
 lowest-requires : tie.Need-lowest-requires
 lowest-requires c κs =
-    let at-b = c .before .before .before .before .before .before .before .before .before in
-    let at-read-both = at-b .before .before in
-    let at-shared-slice-known = at-read-both .before .before .before .before .before .before in
-    let start = at-shared-slice-known .before in
-    let image = start .args .image .now in
-    let message = start .args .message .now in
-    let item = start .args .item in
-    let done = at-read-both .read-both .ensures in
-    let told = at-b .b .given .1 in
-    let k = gradable image message item _ _ done _ _ _ told (bytes-known image (at-shared-slice-known .shared-slice-known .given)) in
-    graded-fits (k .posed .graph .register) (k .tree) item _ (c .degree-at .ensures k) .0
+    let k = gradable _ _ _ (read (c .before .before .before .before .before .before .before .before .before)) in
+    graded-fits (k .posed .graph .register) (k .tree) _ _ (c .degree-at .ensures k) .0
 
 against-requires : tie.Need-against-requires
 against-requires c κs =
     let at-if2 = c .before .before .before .before .before .before in
     let at-wrong = at-if2 .before in
-    let at-b = at-wrong .before .before .before in
-    let at-read-both = at-b .before .before in
-    let at-shared-slice-known = at-read-both .before .before .before .before .before .before in
-    let start = at-shared-slice-known .before in
-    let image = start .args .image .now in
-    let message = start .args .message .now in
-    let item = start .args .item in
-    let done = at-read-both .read-both .ensures in
-    let told = at-b .b .given .1 in
-    let k = gradable image message item _ _ done _ _ _ told (bytes-known image (at-shared-slice-known .shared-slice-known .given)) in
-    margin-small image message item _ _ done _ _ _ told _ _ _ (at-wrong .wrong .ensures) (at-if2 .if2 .left) _ _ (c .before .degree-at .ensures k) (c .lowest .ensures)
+    let w = read (at-wrong .before .before .before) in
+    margin-small _ _ _ w _ _ _ (at-wrong .wrong .ensures) (at-if2 .if2 .left) _ _ (c .before .degree-at .ensures (gradable _ _ _ w)) (c .lowest .ensures)
 
 enum-known-b-2 : tie.Need-enum-known-b-2
 enum-known-b-2 c = search needs
@@ -103,32 +64,14 @@ returns-3 c =
     let at-if2 = at-degree-at .before .before .before .before .before in
     let at-wrong = at-if2 .before in
     let at-if1 = at-wrong .before in
-    let at-b = at-if1 .before .before in
-    let at-read-both = at-b .before .before in
-    let at-shared-slice-known = at-read-both .before .before .before .before .before .before in
-    let start = at-shared-slice-known .before in
-    let image = start .args .image .now in
-    let message = start .args .message .now in
-    let item = start .args .item in
-    let done = at-read-both .read-both .ensures in
-    let told = at-b .b .given .1 in
-    let k = gradable image message item _ _ done _ _ _ told (bytes-known image (at-shared-slice-known .shared-slice-known .given)) in
-    let rule = at-wrong .wrong .ensures in
-    let graded = at-degree-at .degree-at .ensures k in
-    let low = c .before .before .lowest .ensures in
-    margin-answer image message item _ _ done _ _ _ told _ _ _ rule (at-if2 .if2 .left) _ _ graded low (omega (arith, at-if1 .if1 .left))
+    let w = read (at-if1 .before .before) in
+    let graded = at-degree-at .degree-at .ensures (gradable _ _ _ w) in
+    margin-answer _ _ _ w _ _ _ (at-wrong .wrong .ensures) (at-if2 .if2 .left) _ _ graded (c .before .before .lowest .ensures) (omega (arith, at-if1 .if1 .left))
     _ (c .before .against .ensures .0) (c .before .against .ensures .1)
 
 returns-4 : tie.Need-returns-4
 returns-4 c =
-    let at-read-both = c .before .before .before in
-    let start = at-read-both .before .before .before .before .before .before .before in
-    let image = start .args .image .now in
-    let message = start .args .message .now in
-    let item = start .args .item in
-    let done = at-read-both .read-both .ensures in
-    let told = c .before .b2 .given .1 in
-    margin-stopped image message item _ _ done _ _ _ told
+    margin-stopped _ _ _ _ _ (c .before .before .before .read-both .ensures) _ _ _ (c .before .b2 .given .1)
 
 pub margin-of-spec : {M : Type 1} → statement M
 margin-of-spec =
