@@ -1,7 +1,5 @@
 use Rattle.folds.proofs.alone.Statement.{statement}
 use Rattle.folds.proofs.alone.Tie as tie
-use Rattle.fields.proofs.Known.{bytes-known}
-use Rattle.meaning.proofs.Image.{image-fits}
 use Prim.Native.Nat.{_≤_, _<_, _-_, ℕ, max}
 use native.Mathlib.Omega.{arith}
 use mathlib.Core.Path.{_≡_, refl, ap, _∙_}
@@ -12,7 +10,7 @@ use Rattle.meaning.specs.Register.{judged}
 use Rattle.meaning.specs.Degree.{orOne}
 use Rattle.meaning.proofs.Tests.{true-false}
 use Rattle.register.specs.Image.{Image}
-use Rattle.register.proofs.Begins.{asked-image}
+use Rattle.graph.proofs.Members.{member-few}
 use Rattle.folds.specs.Members.{Member}
 use Rattle.folds.proofs.Fill.{Filled, filled-none, filled-more, filled-kept}
 use borrow.Author.Needs.{needs}
@@ -63,18 +61,10 @@ alone-spec =
     (λ c.
     let at-loop-test = c .before .before in
     let turn = at-loop-test .before in
-    let at-shared-slice-known = turn .before .before .before .before in
-    let start = at-shared-slice-known .before in (
+    let start = turn .before .before .before .before .before in (
       c .at-least-one .ensures ∙ ap (max 1) (c .before .quad .ensures .0),
       (
-        λ g h x m. turn .loop .inv .3 g h .done x (omega (
-          arith,
-          at-loop-test .loop-test .left,
-          turn .loop .inv .0,
-          image-fits _ g (bytes-known (start .args .s .now) (at-shared-slice-known .shared-slice-known .given)) h .0 .items,
-          asked-image (start .pre .0)
-              g h .1 x m,
-        )) m,
+        λ g h x m. turn .loop .inv .3 g h .done x (omega (arith, at-loop-test .loop-test .left, member-few (start .args .set .now) (start .pre .0 .holds .0) x m)) m,
         filled-kept _ _ _ _ _ _ (turn .loop .inv .3 (start .pre .0 .register) (start .pre .0 .read)),
       ),
     )))

@@ -1,7 +1,5 @@
 use Rattle.folds.proofs.own.Statement.{statement}
 use Rattle.folds.proofs.own.Tie as tie
-use Rattle.fields.proofs.Known.{bytes-known}
-use Rattle.meaning.proofs.Image.{image-fits}
 use Prim.Native.Nat.{_≤_, _<_, _-_, _+_, _*_, ℕ}
 use native.Mathlib.Omega.{arith}
 use mathlib.Core.Path.{_≡_, refl, ap, _∙_}
@@ -11,7 +9,7 @@ use Rattle.meaning.specs.Names.{common}
 use Rattle.meaning.specs.Register.{judged}
 use Rattle.meaning.proofs.Tests.{true-false}
 use Rattle.register.specs.Image.{Image}
-use Rattle.register.proofs.Begins.{asked-image}
+use Rattle.graph.proofs.Members.{member-few}
 use Rattle.folds.specs.Members.{Member}
 use Rattle.folds.specs.Folded.{rowAt}
 use Rattle.folds.proofs.Fill.{Filled, filled-none, filled-more, filled-kept, filled-apart, sum-fits, sum-is, times-one}
@@ -70,16 +68,7 @@ own-spec =
     ))
     (λ c. c .before .loop .inv .2)
     (λ c.
-    let at-shared-slice-known = c .before .before .before .before .before in
-    let start = at-shared-slice-known .before in (
-      λ g h x m. c .before .loop .inv .3 g h .done x (omega (
-        arith,
-        c .loop-test .left,
-        c .before .loop .inv .0,
-        image-fits _ g (bytes-known (start .args .s .now)
-            (at-shared-slice-known .shared-slice-known .given)) h .0 .items,
-        asked-image (start .pre .0) g h .0 .1 x m,
-      )) m,
-      filled-kept _ _ _ _ _ _ (c .before .loop .inv .3
-          (start .pre .0 .register) (start .pre .0 .read)),
+    let start = c .before .before .before .before .before .before in (
+      λ g h x m. c .before .loop .inv .3 g h .done x (omega (arith, c .loop-test .left, member-few (start .args .set .now) (start .pre .0 .holds .0 .0) x m)) m,
+      filled-kept _ _ _ _ _ _ (c .before .loop .inv .3 (start .pre .0 .register) (start .pre .0 .read)),
     )))
