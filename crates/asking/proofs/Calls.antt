@@ -26,7 +26,7 @@ use Rattle.meaning.proofs.Tests.{of-not}
 use Rattle.meaning.proofs.MessageLabel.{lawful-open}
 use Rattle.meaning.proofs.Reading.{took, stopped, pass, stop, below, not-below, at-most, not-le}
 use Rattle.meaning.proofs.Image.{whole-buffer}
-use Rattle.meaning.proofs.Rows.{opened, holds-ended}
+use Rattle.meaning.proofs.Rows.{holds-nodes}
 use Rattle.meaning.proofs.Lowest.{lowest-le}
 use Rattle.meaning.proofs.Degree.{answered-at-most-one}
 use Rattle.meaning.proofs.InPlace.{scale-in}
@@ -40,13 +40,14 @@ use Rattle.asking.specs.declared.Answered.{Answered}
 use Rattle.asking.specs.declared.Answered.the-variants.{Good as GoodDegree, Refused as RefusedDegree}
 use Rattle.asking.specs.declared.Margin.{Margin}
 use Rattle.asking.specs.declared.Margin.the-variants.{Good as GoodMargin, Refused as RefusedMargin}
-use Rattle.shown.specs.Case.{Case}
+use Rattle.register.specs.Image.{OfSize}
+use Rattle.degrees.specs.Gradable.{Gradable}
 use Rattle.meaning.specs.Bounds.{mostScale, mostQ}
 use Rattle.shown.specs.Given.{drawn, Graded}
 use Rattle.plain.specs.Reading.{Rows, readBoth, BothGood, BothOutcome, BothDone}
 use Rattle.asking.specs.Answers.{Told, paperDegree, told, degreeRefused, paperMargin, marginRefused}
 use Rattle.asking.specs.Refusing.{DegreePromise, MarginPromise}
-use Rattle.shown.proofs.Entry.{case-of, scale-small, graded-answer}
+use Rattle.shown.proofs.Entry.{gradable-of, scale-small, graded-answer}
 
 abbrev bothOf : Register → Concept → Answer (Register × Concept)
 bothOf g t = good (g, t)
@@ -142,13 +143,13 @@ module _ (image message : List ℕ) (item : ℕ) where
 
       -- the rows end where the written nodes do
       pub ended : getD (A .ends) 0 0 ≡ nodes (known .tree)
-      ended = opened (A .names) (A .roles) (A .ends) (known .tree) 17 0 _ (known .held .held .tree) .ended
+      ended = omega (arith, holds-nodes (A .names) (A .roles) (A .ends) (known .tree) 17 0 _ (known .held .held .posed .held))
 
-      abbrev pub case : Bytes image → Case image n m (A .names) (A .roles) (A .ends) (A .marks) 0 17
-      case bytes =
+      abbrev pub gradable : Bytes image → Gradable (OfSize image n m) (A .names) (A .roles) (A .ends) (A .marks) 0 17
+      gradable bytes =
           let h = known .held .held in
-          case-of (known .register) (known .tree) bytes (whole-buffer image (known .register) bytes (known .held .read)) (known .items) (known .links)
-          (holds-ended (A .names) (A .roles) (A .ends) (known .tree) 17 0 _ (h .tree)) (h .marked) (omega (arith, h .few, ended)) (h .small)
+          gradable-of (known .register) (known .tree) (whole-buffer image (known .register) bytes (h .posed .graph)) (known .items) (known .links)
+          (h .posed .held) (h .marked) (h .posed .few) (h .small)
 
       pub room : {long : ℕ} → k ≤ long → getD (A .ends) 0 0 ≤ long
       room l = omega (arith, ended, known .written)

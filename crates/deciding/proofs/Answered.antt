@@ -5,8 +5,8 @@ use mathlib.Core.Bool.{Bool, true, false, cond}
 use mathlib.Core.List.{List}
 use Prim.Native.Nat.{ℕ, _≤_, _<_}
 use native.Mathlib.Omega.{arith}
-use lib.Dec.{T, ltb, leb}
-use lib.ListN.{length, getD}
+use lib.Dec.{T}
+use lib.ListN.{length}
 use lib.Seq.{sets}
 use Rattle.fields.specs.Head.{wrongIn}
 use Rattle.meaning.specs.declared.Refusal.{Refusal}
@@ -16,11 +16,11 @@ use Rattle.meaning.specs.Tree.{nodes}
 use Rattle.meaning.specs.Register.{Register, judged, readRegisterBy, readRegister}
 use Rattle.meaning.specs.Requirement.{Requirement, bare, fulfils, member}
 use Rattle.meaning.specs.Message.{Part, readRequirement}
-use Rattle.meaning.specs.Rows.{Holds}
 use Rattle.meaning.specs.Shown.{yesMap}
-use Rattle.meaning.specs.Calls.{Decision, met, unmet, memberCall, afterMember}
+use Rattle.meaning.specs.Calls.{Decision, memberCall, afterMember}
 use Rattle.meaning.specs.Calls.{decide as decision}
-use Rattle.meaning.proofs.Reading.{pass, stop, stopped, took, taken, below, at-most, not-le, good-inj}
+use Rattle.meaning.proofs.Reading.{taken, good-inj}
+use Rattle.meaning.proofs.Rows.{opened, holds-ended}
 use Rattle.meaning.proofs.Image.{whole-buffer}
 use Rattle.meaning.proofs.YesShown.{yes-shows}
 use Rattle.register.specs.declared.Reading.{Reading}
@@ -29,15 +29,15 @@ use Rattle.register.specs.Reading.{Counts, counted}
 use Rattle.register.specs.Reading.{paperReading}
 use Rattle.requirement.specs.declared.Message.{Message}
 use Rattle.requirement.specs.declared.Message.the-variants.{Good as GoodMessage, Refused as RefusedMessage}
-use Rattle.rows.specs.Packed.{namesIn, rolesIn, endsIn, ownersIn, firstsIn}
+use Rattle.rows.specs.Packed.{namesIn, rolesIn, endsIn}
 use Rattle.requirement.specs.Message.{MessageGood, MessageOutcome, MessageDone}
-use Rattle.readers.proofs.Places.{same-rows}
 use Rattle.deciding.specs.declared.Verdict.{Verdict}
 use Rattle.deciding.specs.declared.Verdict.the-variants.{Yes, No, Refused}
-use Rattle.meeting.specs.Case.{Settled}
+use Rattle.meeting.specs.Required.{Settled}
 use Rattle.deciding.specs.Answers.{yes, said, paperVerdict, refusedCall}
 use Rattle.deciding.specs.BothRead.{Imaged, BothRead}
-use Rattle.deciding.proofs.Decided.{member-answer}
+use Rattle.deciding.specs.Refusing.{DecideRow, badImage, badMessage, noItem, noRoom}
+use Rattle.deciding.proofs.Decided.{refused-inj, refuses-answer, member-answer}
 
 -- ---- what was read
 
@@ -47,9 +47,6 @@ imaged s items links r e d =
     let q = taken (readRegister s) _ (sym (sym (ap paperReading e) ∙ d)) in
     let z = good-inj (q .2) in
     record { register = q .0; read = q .1; items-are = ap (λ (c : Counts). c .items) (sym z); links-are = ap (λ (c : Counts). c .links) (sym z) }
-
-refused-inj : {A : Type 0} {x y : Refusal} → _≡_ {A = Answer A} (refused x) (refused y) → x ≡ y
-refused-inj e = cc
 
 pub image-refused : (s : List ℕ) (x : Refusal) (r : Reading) → r ≡ RefusedReading x → paperReading r ≡ counted (readRegisterBy (wrongIn false) s) → readRegister s ≡ refused x
 unfolding counted _>>=_
@@ -68,8 +65,8 @@ pub record Understood (s B : List ℕ) (r : Message) (n parts : ℕ) : Type 0 wh
   pub parts-are : parts ≡ length places
   pub rows : MessageGood B requirement places r
 
-pub understood : (s B : List ℕ) (r : Message) (n parts : ℕ) → MessageDone s B r → r ≡ GoodMessage n parts → Understood s B r n parts
-understood s B r n parts h e = go (readRequirement s) refl h
+pub understood : {s B : List ℕ} {r : Message} {n parts : ℕ} → MessageDone s B r → r ≡ GoodMessage n parts → Understood s B r n parts
+understood {s} {B} {r} {n} {parts} h e = go (readRequirement s) refl h
   where
     go : (a : Answer (Requirement × List Part)) → readRequirement s ≡ a → MessageOutcome B a r → Understood s B r n parts
     go (good x) d m =
@@ -79,8 +76,8 @@ understood s B r n parts h e = go (readRequirement s) refl h
         record { requirement = x .0; places = x .1; wanted = d; nodes-are = en; parts-are = ep; rows = m }
     go (refused f) d m = let z : RefusedMessage f ≡ GoodMessage n parts = sym m ∙ e in let y : _≡_ {A = ℕ} 0 1 = cc in absurd (omega arith)
 
-pub message-refused : (s B : List ℕ) (r : Message) (x : Refusal) → MessageDone s B r → r ≡ RefusedMessage x → readRequirement s ≡ refused x
-message-refused s B r x h e = go (readRequirement s) refl h
+pub message-refused : (s B : List ℕ) {r : Message} {x : Refusal} → MessageDone s B r → r ≡ RefusedMessage x → readRequirement s ≡ refused x
+message-refused s B {r} {x} h e = go (readRequirement s) refl h
   where
     go : (a : Answer (Requirement × List Part)) → readRequirement s ≡ a → MessageOutcome B a r → readRequirement s ≡ refused x
     go (good y) d m =
@@ -97,85 +94,69 @@ module _ (image message : List ℕ) (item : ℕ) (map : List ℕ) where
   abbrev pub Ends : List ℕ → Verdict → Type 0
   Ends t r = (paperVerdict r ≡ said answer) × (t ≡ afterMember map answer)
 
-  ends-refused : (x : Refusal) (r : Verdict) → r ≡ Refused x → answer ≡ refused x → Ends map r
-  ends-refused x r e d = (ap paperVerdict e ∙ sym (ap said d), sym (ap (afterMember map) d))
+  ends-refused : (x : Refusal) (r : Verdict) → r ≡ Refused x → DecideRow image message item (length map) x → Ends map r
+  ends-refused x r e row = let d = refuses-answer image message item (length map) x row in (ap paperVerdict e ∙ sym (ap said d), sym (ap (afterMember map) d))
 
   pub image-unread : (x : Refusal) → readRegister image ≡ refused x → Ends map (Refused x)
-  unfolding memberCall
-  image-unread x e = ends-refused x _ refl (stopped (readRegister image) _ x e)
+  image-unread x e = ends-refused x _ refl (badImage e)
 
   module _ {items links : ℕ} (i : Imaged image items links) where
     pub message-unread : (x : Refusal) → readRequirement message ≡ refused x → Ends map (Refused x)
-    unfolding memberCall
-    message-unread x e = ends-refused x _ refl (took (readRegister image) _ (i .register) (i .read) ∙ stopped (readRequirement message) _ x e)
+    message-unread x e = ends-refused x _ refl (badMessage (i .register) (i .read) e)
 
     module _ {B : List ℕ} {m : Message} {n parts : ℕ} (u : Understood message B m n parts) where
       abbrev q : Requirement
       q = u .requirement
 
-      abbrev few : ℕ
-      few = length (i .register .names)
-
       pub no-item : (r : Verdict) (number : ℕ) → r ≡ refusedCall number → number ≡ 15 → items ≤ item → Ends map r
-      unfolding memberCall
       no-item r number e fifteen l =
-          ends-refused (onCall 15) r (e ∙ ap refusedCall fifteen)
-          (took (readRegister image) _ (i .register) (i .read) ∙ took (readRequirement message) _ (q, u .places) (u .wanted)
-          ∙ stop (leb few item) _ _ (at-most few item (omega (arith, i .items-are))))
+          ends-refused (onCall 15) r (e ∙ ap refusedCall fifteen) (noItem (i .register) q (u .places) (i .read) (u .wanted) (omega (arith, i .items-are)) refl)
 
       pub no-room : (r : Verdict) (number : ℕ) → r ≡ refusedCall number → number ≡ 16 → item < items → length map < n → Ends map r
-      unfolding memberCall
       no-room r number e sixteen l s =
           ends-refused (onCall 16) r (e ∙ ap refusedCall sixteen)
-          (took (readRegister image) _ (i .register) (i .read) ∙ took (readRequirement message) _ (q, u .places) (u .wanted)
-          ∙ pass (leb few item) _ _ (not-le few item (omega (arith, i .items-are)))
-          ∙ stop (ltb (length map) (nodes q)) _ _ (below (length map) (nodes q) (omega (arith, u .nodes-are))))
+          (noRoom (i .register) q (u .places) (i .read) (u .wanted) (omega (arith, i .items-are)) (omega (arith, u .nodes-are)) refl)
 
       module _ (inside : item < items) (fits : n ≤ length map) where
-        -- with the arrays that stand in the rows
-        abbrev pub both-read : Bytes image → {names roles ends owners firsts : List ℕ} → names ≡ namesIn B → roles ≡ rolesIn B → ends ≡ endsIn B
-            → owners ≡ ownersIn B → firsts ≡ firstsIn B → BothRead image items links message names roles ends owners firsts parts item (length map)
-        both-read b en er ee eo ef = record {
-          register = i .register;
-          read = whole-buffer image (i .register) b (i .read);
-          items-are = i .items-are;
-          links-are = i .links-are;
-          requirement = u .requirement;
-          places = u .places;
-          wanted = u .wanted;
-          parts-are = u .parts-are;
-          most = omega (arith, u .parts-are, u .rows .room);
-          tree = same-rows (λ n r e. Holds n r e (bare q) 17 0 (nodes q)) (sym en) (sym er) (sym ee) (u .rows .tree);
-          few = u .rows .few;
-          held = record {
-            owner = λ k l. ap (λ (z : List ℕ). getD z k 0) eo ∙ u .rows .parted .owner k l;
-            first = λ k l. ap (λ (z : List ℕ). getD z k 0) ef ∙ u .rows .parted .first k l;
-          };
-          inside = inside;
-          room-enough = omega (arith, u .nodes-are);
-        }
+        abbrev pub both-read : Bytes image → BothRead image items links message B parts item (length map)
+        both-read b =
+            let ended = opened (namesIn B) (rolesIn B) (endsIn B) (bare q) 17 0 (nodes q) (u .rows .tree) .ended in
+            record {
+              requirement = q;
+              posed = record {
+                graph = record { register = i .register; read = whole-buffer image (i .register) b (i .read); holds = (i .items-are, i .links-are) };
+                held = holds-ended (namesIn B) (rolesIn B) (endsIn B) (bare q) 17 0 (nodes q) (u .rows .tree);
+                few = omega (arith, ended, u .rows .few);
+              };
+              places = u .places;
+              wanted = u .wanted;
+              parts-are = u .parts-are;
+              most = omega (arith, u .parts-are, u .rows .room);
+              parted = u .rows .parted;
+              inside = inside;
+              room-enough = omega (arith, ended, u .nodes-are);
+            }
 
         decided : answer ≡ good (decision (member (judged (i .register)) q item) (yesMap (judged (i .register)) q item))
         decided =
             member-answer image message item (length map) (i .register) q (u .places) (i .read) (u .wanted) (omega (arith, i .items-are)) (omega (arith, u .nodes-are))
 
-        module _ (t : List ℕ) (r : Bool) (s : Settled (i .register) q item map t r) where
+        module _ (b : Bytes image) (t : List ℕ) (r : Bool)
+            (s : (k : BothRead image items links message B parts item (length map)) → Settled (k .posed .graph .register) (k .requirement) item map t r) where
           abbrev shown : List ℕ
           shown = yesMap (judged (i .register)) q item
 
+          says : (c : Bool) → r ≡ c → answer ≡ good (decision c shown)
+          says c e = decided ∙ ap (λ (z : Bool). good (decision z shown)) (sym (s (both-read b) .answer) ∙ e)
+
+          after : (c : Bool) → r ≡ c → t ≡ cond c (sets map 0 shown) map
+          after c e = s (both-read b) .map ∙ ap (λ (z : Bool). cond z (sets map 0 shown) map) e
+
           pub answers-yes : r ≡ true → Ends t (Yes n)
           answers-yes e =
-              let b : member (judged (i .register)) q item ≡ true = sym (s .answer) ∙ e in
-              let a : answer ≡ good (met shown) = decided ∙ ap (λ (z : Bool). good (decision z shown)) b in
-              let long : length shown ≡ nodes q = yes-shows (fulfils (judged (i .register))) (judged (i .register)) q item (subst T (sym b) tt) .long in (
-                ap (λ (z : ℕ). good (yes z)) (u .nodes-are ∙ sym long) ∙ sym (ap said a),
-                s .map ∙ ap (λ (z : Bool). cond z (sets map 0 shown) map) e ∙ sym (ap (afterMember map) a),
-              )
+              let G = judged (i .register) in
+              let long = yes-shows (fulfils G) G q item (subst T (sym (sym (s (both-read b) .answer) ∙ e)) tt) .long in
+              (ap (λ (z : ℕ). good (yes z)) (u .nodes-are ∙ sym long) ∙ sym (ap said (says true e)), after true e ∙ sym (ap (afterMember map) (says true e)))
 
           pub answers-no : r ≡ false → Ends t No
-          answers-no e =
-              let b : member (judged (i .register)) q item ≡ false = sym (s .answer) ∙ e in
-              let a : answer ≡ good unmet = decided ∙ ap (λ (z : Bool). good (decision z shown)) b in (
-                sym (ap said a),
-                s .map ∙ ap (λ (z : Bool). cond z (sets map 0 shown) map) e ∙ sym (ap (afterMember map) a),
-              )
+          answers-no e = (sym (ap said (says false e)), after false e ∙ sym (ap (afterMember map) (says false e)))

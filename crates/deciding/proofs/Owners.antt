@@ -14,8 +14,7 @@ use Rattle.meaning.specs.Requirement.{Threshold, Label, Requirement, every, pas
 use Rattle.meaning.specs.Rows.{Holds, HoldsF}
 use Rattle.screening.specs.Standing.{noThreshold, ruledAt, Ruled, RuledF}
 use Rattle.screening.proofs.Through.{and-assoc}
-use Rattle.meeting.proofs.Children.{bareF}
-use Rattle.meeting.proofs.Trail.{holds-nodes}
+use Rattle.trails.proofs.Trail.{bareF, holds-nodes}
 
 -- how many thresholds a tree has
 unfoldable mutual

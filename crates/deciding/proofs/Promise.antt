@@ -29,7 +29,7 @@ use Rattle.meaning.specs.Shown.{yesMap}
 use Rattle.meaning.specs.Calls.{Decision, met, unmet, memberCall, afterMember}
 use Rattle.meaning.specs.Calls.{decide as decision}
 use Rattle.meaning.proofs.Tests.{is-true, is-false}
-use Rattle.meaning.proofs.Reading.{pass, stop, stopped, took, below, at-most, not-le, lt-of-not-le, le-of-not-below, good-inj}
+use Rattle.meaning.proofs.Reading.{pass, stop, stopped, took, not-le, lt-of-not-le, le-of-not-below, good-inj, not-good}
 use Rattle.meaning.proofs.Image.{read-image}
 use Rattle.meaning.proofs.Degree.{answered-lowest}
 use Rattle.meaning.proofs.Rising.{LowestOf}
@@ -40,15 +40,9 @@ use Rattle.deciding.specs.declared.Verdict.{Verdict}
 use Rattle.deciding.specs.declared.Verdict.the-variants.{Yes, No, Refused}
 use Rattle.deciding.specs.Answers.{Said, yes, no, said, paperVerdict}
 use Rattle.deciding.specs.Refusing.{DecidePromise, DecideRow, badImage, badMessage, noItem, noRoom}
-use Rattle.deciding.proofs.Decided.{member-answer, yes-one}
+use Rattle.deciding.proofs.Decided.{refused-inj, refuses-answer, member-answer, plain-one}
 
 -- ---- one result
-
-differ : {A : Type 0} {x : Refusal} {a : A} → _≡_ {A = Answer A} (refused x) (good a) → ⊥
-differ e = let y : _≡_ {A = ℕ} 0 1 = cc in omega arith
-
-refused-inj : {A : Type 0} {x y : Refusal} → _≡_ {A = Answer A} (refused x) (refused y) → x ≡ y
-refused-inj e = cc
 
 abbrev back : Answer Said → Verdict
 back (good (yes n)) = Yes n
@@ -72,26 +66,11 @@ decide-one image message item old new new′ r r′ = once-left paperVerdict ver
 -- ---- refusals
 
 said-refused : (a : Answer Decision) (x : Refusal) → said a ≡ refused x → a ≡ refused x
-said-refused (good d) x e = absurd (differ (sym e))
+said-refused (good d) x e = absurd (not-good (sym e))
 said-refused (refused y) x e = ap refused (refused-inj e)
 
 module _ (image message : List ℕ) (item room : ℕ) (x : Refusal) where
-  abbrev answer : Answer Decision
-  answer = memberCall image message item room
-
-  refuses-answer : DecideRow image message item room x → answer ≡ refused x
-  unfolding memberCall
-  refuses-answer (badImage e) = stopped (readRegister image) _ x e
-  refuses-answer (badMessage g eg e) = took (readRegister image) _ g eg ∙ stopped (readRequirement message) _ x e
-  refuses-answer (noItem g q ps eg em l ex) =
-      took (readRegister image) _ g eg ∙ took (readRequirement message) _ (q, ps) em
-      ∙ stop (leb (length (g .names)) item) _ _ (at-most (length (g .names)) item l) ∙ ap refused (sym ex)
-  refuses-answer (noRoom g q ps eg em l s ex) =
-      took (readRegister image) _ g eg ∙ took (readRequirement message) _ (q, ps) em
-      ∙ pass (leb (length (g .names)) item) _ _ (not-le (length (g .names)) item l)
-      ∙ stop (ltb room (nodes q)) _ _ (below room (nodes q) s) ∙ ap refused (sym ex)
-
-  answer-refuses : answer ≡ refused x → DecideRow image message item room x
+  answer-refuses : memberCall image message item room ≡ refused x → DecideRow image message item room x
   unfolding memberCall
   answer-refuses e = image-read (readRegister image) refl
     where
@@ -102,7 +81,7 @@ module _ (image message : List ℕ) (item room : ℕ) (x : Refusal) where
           ∙ pass (leb (length (g .names)) item) _ _ (not-le (length (g .names)) item l) ∙ stop (ltb room (nodes q)) _ _ d in
           noRoom g q ps eg em l (ltb-true room (nodes q) d) (refused-inj (sym e ∙ w))
       room-tested g q ps eg em l false d =
-          absurd (differ (sym e ∙ member-answer image message item room g q ps eg em l (le-of-not-below room (nodes q) d)))
+          absurd (not-good (sym e ∙ member-answer image message item room g q ps eg em l (le-of-not-below room (nodes q) d)))
 
       item-tested : (g : Register) (q : Requirement) (ps : List Part) → readRegister image ≡ good g → readRequirement message ≡ good (q, ps)
           → (b : Bool) → leb (length (g .names)) item ≡ b → DecideRow image message item room x
@@ -203,20 +182,11 @@ module _ (image message : List ℕ) (item : ℕ) (old new : List ℕ) (r : Verdi
   -- "for a plain requirement yes exactly when the degree is 1/1"
   pub decide-plain : thresholdsOf q ≡ [] → (r ≡ Yes (nodes q)) ↔ (answered G (bare q) item ≡ 1 // 1)
   decide-plain plain =
-      let one = yes-one image message item (length old) g q ps eg em inside fits plain in (
-        (λ e. whole (answered-lowest G (bare q) item) (one .0 (when-met (yes-met e)))),
-        (λ d. met-yes (met-of (one .1 (ap (λ (f : Frac). f .num) d ∙ sym (ap (λ (f : Frac). f .den) d))))),
+      let one = plain-one G q item plain in (
+        (λ e. whole (answered-lowest G (bare q) item) (one .0 (yes-met e))),
+        (λ d. met-yes (one .1 (ap (λ (f : Frac). f .num) d ∙ sym (ap (λ (f : Frac). f .den) d)))),
       )
     where
-      met-of : memberCall image message item (length old) ≡ good (met (yesMap G q item)) → T (member G q item)
-      met-of e = go (member G q item) refl
-        where
-          go : (b : Bool) → member G q item ≡ b → T b
-          go true d = tt
-          go false d =
-              let z : unmet ≡ met (yesMap G q item) = good-inj (sym (when-unmet (λ t. subst T d t)) ∙ e) in
-              let y : _≡_ {A = ℕ} 0 1 = cc in absurd (omega arith)
-
       whole : {p : Frac} → Lowest p (answered G (bare q) item) → answered G (bare q) item .num ≡ answered G (bare q) item .den → answered G (bare q) item ≡ 1 // 1
       whole low e =
           let d = answered G (bare q) item .den in

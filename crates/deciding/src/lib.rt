@@ -4,8 +4,9 @@ use meaning::Side;
 use register::Reading;
 use requirement::Message;
 ghost use mathlib.Core.Path.{_≡_};
+ghost use Prim.Native.Nat.{_≤_};
 ghost use lib.ListN.{length};
-ghost use Rattle.meeting.specs.Case.{Settled};
+ghost use Rattle.meeting.specs.Required.{Settled};
 ghost use Rattle.deciding.specs.Answers.{refusedCall};
 ghost use Rattle.deciding.specs.BothRead.{Imaged, BothRead};
 ghost use Rattle.deciding.specs.Refusing.{DecidePromise};
@@ -50,25 +51,7 @@ fn decide_among(
             if map.len() < nodes {
                 return refused(16);
             }
-            let names = rows::names(&packed);
-            let roles = rows::roles(&packed);
-            let ends = rows::ends(&packed);
-            let owners = rows::owners(&packed);
-            let firsts = rows::firsts(&packed);
-            if decide_read(
-                image,
-                items,
-                links,
-                message,
-                &names,
-                &roles,
-                &ends,
-                &owners,
-                &firsts,
-                parts,
-                item,
-                map,
-            ) {
+            if decide_read(image, items, links, message, &packed, parts, item, map) {
                 return Verdict::Yes { nodes };
             }
             Verdict::No
@@ -96,20 +79,21 @@ fn decide_read(
     items: usize,
     links: usize,
     message: &[u8],
-    names: &[u64; 64],
-    roles: &[u8; 64],
-    ends: &[u8; 64],
-    owners: &[u8; 16],
-    firsts: &[u16; 16],
+    packed: &[u64],
     parts: usize,
     item: usize,
     map: &mut [u16],
 ) -> bool
-    requires { ⌜ BothRead (now image) items links (now message) (now names) (now roles) (now ends) (now owners) (now firsts) parts item (length (now map)) ⌝ }
-    ensures { λ r. ⌜ ((k : BothRead (now (image .entry)) items links (now (message .entry)) (now (names .entry)) (now (roles .entry)) (now (ends .entry))
-        (now (owners .entry)) (now (firsts .entry)) parts item (length (now (map .entry))))
-        → Settled (k .register) (k .requirement) item (now (map .entry)) (now (map .exit)) r) ⌝ }
+    requires { ⌜ BothRead (now image) items links (now message) (now packed) parts item (length (now map)) ⌝ }
+    requires { ⌜ 144 ≤ length (now packed) ⌝ }
+    ensures { λ r. ⌜ ((k : BothRead (now (image .entry)) items links (now (message .entry)) (now (packed .entry)) parts item (length (now (map .entry))))
+        → Settled (k .posed .graph .register) (k .requirement) item (now (map .entry)) (now (map .exit)) r) ⌝ }
 {
+    let names = rows::names(packed);
+    let roles = rows::roles(packed);
+    let ends = rows::ends(packed);
+    let owners = rows::owners(packed);
+    let firsts = rows::firsts(packed);
     let mut index = [0u16; 513];
     graph::fill_index(image, items, links, &mut index);
     meeting::settle(
@@ -117,11 +101,11 @@ fn decide_read(
         items,
         &index,
         message,
-        names,
-        roles,
-        ends,
-        owners,
-        firsts,
+        &names,
+        &roles,
+        &ends,
+        &owners,
+        &firsts,
         parts,
         item,
         map,

@@ -1,10 +1,10 @@
 -- All kept children of a node but the one at a row: what they count, their scale, their part of the sum. With the one they make up all.
 -- Assumes nothing.
 use mathlib.Core.Path.{_≡_, refl, sym, ap, subst, _∙_}
-use mathlib.Core.Bool.{Bool, true, false, _||_, cond}
+use mathlib.Core.Bool.{Bool, true, false, _||_, cond, or-false, or-true}
 use mathlib.Core.Logic.{_⊎_, inl, inr}
 use mathlib.Core.List.{List}
-use Prim.Native.Nat.{ℕ, _+_, _-_, _*_, _≤_, _<_}
+use Prim.Native.Nat.{ℕ, _+_, _*_, _≤_, _<_}
 use native.Mathlib.Nat.{mul-le-mul-left}
 use native.Mathlib.Omega.{arith}
 use lib.Dec.{eqb}
@@ -19,8 +19,8 @@ use Rattle.meaning.specs.Rows.{Holds, HoldsF, mark, Marked, MarkedF}
 use Rattle.meaning.proofs.Scale.{scale-pos}
 use Rattle.meaning.proofs.InPlace.{scale-in}
 use Rattle.meaning.proofs.Rows.{opened}
-use Rattle.degrees.specs.Heavy.{Stands}
-use Rattle.degrees.proofs.Stands.{stands-place}
+use Rattle.heaviest.specs.Heavy.{Stands}
+use Rattle.heaviest.proofs.Stands.{stands-place}
 
 -- a mark says whether the node is dropped
 pub mark-zero : (d : Bool) → mark d ≡ 0 → d ≡ true
@@ -46,6 +46,19 @@ stands-marked ends marks (more r t f) b i c u m s k = go s (λ q. stands-marked 
 
 pub scale-in-pos : (t : Concept) → 0 < scaleIn t
 scale-in-pos t = rw (← scale-in t) (scale-pos (reduce t))
+
+-- a child that is left out is turned past one that is dropped or not
+count-turned : (d : Bool) (a : ℕ) → cond d (1 + a) (1 + (1 + a)) ≡ 1 + cond d a (1 + a)
+count-turned true a = refl
+count-turned false a = refl
+
+scale-turned : (d : Bool) (a c k : ℕ) → cond d (c * k) (a * (c * k)) ≡ c * cond d k (a * k)
+scale-turned true a c k = refl
+scale-turned false a c k = omega arith
+
+sum-turned : (d : Bool) (v a w c k s : ℕ) → cond d (w * k + c * s) (v * (c * k) + a * (w * k + c * s)) ≡ w * cond d k (a * k) + c * cond d s (v * k + a * s)
+sum-turned true v a w c k s = refl
+sum-turned false v a w c k s = omega arith
 
 -- The children f stand from row i on, and before them the children b are written; the one at row h is left out.
 module _ (ends : List ℕ) (h : ℕ) where
@@ -100,28 +113,9 @@ module _ (ends : List ℕ) (h : ℕ) where
         let o : i < getD ends i 0 = opened names roles ends t left i (getD ends i 0) (w .2) .inside in
         let l : getD ends i 0 ≤ e = w .1 in
         let q = but-all f (more r t b) left (getD ends i 0) e (w .3) (λ j p m. n j (omega arith) m) in
-        let here = go (dropped (under r b) t (under r f)) (eqb i h) (ne-eqb i h (n i (omega arith) (omega arith))) q in
-        record { count = here .0; scale = here .1; sum = here .2 }
-      where
-        go : (d c : Bool) → c ≡ false → All f (more r t b) (getD ends i 0)
-            → (cond d (countIn f (more r t b)) (1 + countIn f (more r t b)) ≡ cond (d || c) (countBut f (more r t b) (getD ends i 0)) (1 + countBut f (more r t b) (getD ends i 0)))
-            × (cond d (scaleInF f (more r t b)) (scaleIn t * scaleInF f (more r t b))
-            ≡ cond (d || c) (scaleBut f (more r t b) (getD ends i 0)) (scaleIn t * scaleBut f (more r t b) (getD ends i 0)))
-            × ((x : ℕ) → cond d (degreeInF G f (more r t b) x) (best (λ y. degreeIn G t y) (G .next x r) * scaleInF f (more r t b) + scaleIn t * degreeInF G f (more r t b) x)
-            ≡ cond (d || c) (degreeBut G f (more r t b) (getD ends i 0) x)
-            (best (λ y. degreeIn G t y) (G .next x r) * scaleBut f (more r t b) (getD ends i 0) + scaleIn t * degreeBut G f (more r t b) (getD ends i 0) x))
-        go true c e q = (q .count, q .scale, q .sum)
-        go false c e q = (
-          rw (e, q .count),
-          rw (e, q .scale),
-          λ x. rw (e, q .scale, q .sum x),
-        )
-
-    scales-turned : (a c k : ℕ) → a * (c * k) ≡ c * (a * k)
-    scales-turned a c k = omega arith
-
-    sums-turned : (v a w c k d : ℕ) → v * (c * k) + a * (w * k + c * d) ≡ w * (a * k) + c * (v * k + a * d)
-    sums-turned v a w c k d = omega arith
+        let same : (dropped (under r b) t (under r f) || eqb i h) ≡ dropped (under r b) t (under r f) =
+        rw (ne-eqb i h (n i (omega arith) (omega arith))) (or-false (dropped (under r b) t (under r f))) in
+        record { count = rw (same, q .count); scale = rw (same, q .scale); sum = λ x. rw (same, q .scale, q .sum x) }
 
     -- the child at the row is kept
     pub but-one : (f b : Forest ℕ) (left i e : ℕ) (u : Concept) → HoldsF names roles ends f left i e → MarkedF ends marks f b i → Stands ends f i h u
@@ -134,41 +128,24 @@ module _ (ends : List ℕ) (h : ℕ) where
         ends-behind : i < getD ends i 0
         ends-behind = opened names roles ends t left i (getD ends i 0) (w .2) .inside
 
-        this : (d c : Bool) → d ≡ false → c ≡ true → i ≡ h → t ≡ u → All f (more r t b) (getD ends i 0)
-            → (cond d (countIn f (more r t b)) (1 + countIn f (more r t b)) ≡ 1 + cond (d || c) (countBut f (more r t b) (getD ends i 0)) (1 + countBut f (more r t b) (getD ends i 0)))
-            × (cond d (scaleInF f (more r t b)) (scaleIn t * scaleInF f (more r t b))
-            ≡ scaleIn u * cond (d || c) (scaleBut f (more r t b) (getD ends i 0)) (scaleIn t * scaleBut f (more r t b) (getD ends i 0)))
-            × ((x : ℕ) → cond d (degreeInF G f (more r t b) x) (best (λ y. degreeIn G t y) (G .next x r) * scaleInF f (more r t b) + scaleIn t * degreeInF G f (more r t b) x)
-            ≡ best (λ y. degreeIn G u y) (G .next x (getD roles h 0)) * cond (d || c) (scaleBut f (more r t b) (getD ends i 0)) (scaleIn t * scaleBut f (more r t b) (getD ends i 0))
-            + scaleIn u * cond (d || c) (degreeBut G f (more r t b) (getD ends i 0) x)
-            (best (λ y. degreeIn G t y) (G .next x r) * scaleBut f (more r t b) (getD ends i 0) + scaleIn t * degreeBut G f (more r t b) (getD ends i 0) x))
-        this d c ed ec ei et q =
-            let role : getD roles h 0 ≡ r = ap (λ (z : ℕ). getD roles z 0) (sym ei) ∙ w .0 in
-            rw (ed, ec, role, ← et, q .count, q .scale) (refl, refl, λ x. rw (q .sum x))
-
-        other : (d c : Bool) → c ≡ false → One f (more r t b) (getD ends i 0) u
-            → (cond d (countIn f (more r t b)) (1 + countIn f (more r t b)) ≡ 1 + cond (d || c) (countBut f (more r t b) (getD ends i 0)) (1 + countBut f (more r t b) (getD ends i 0)))
-            × (cond d (scaleInF f (more r t b)) (scaleIn t * scaleInF f (more r t b))
-            ≡ scaleIn u * cond (d || c) (scaleBut f (more r t b) (getD ends i 0)) (scaleIn t * scaleBut f (more r t b) (getD ends i 0)))
-            × ((x : ℕ) → cond d (degreeInF G f (more r t b) x) (best (λ y. degreeIn G t y) (G .next x r) * scaleInF f (more r t b) + scaleIn t * degreeInF G f (more r t b) x)
-            ≡ best (λ y. degreeIn G u y) (G .next x (getD roles h 0)) * cond (d || c) (scaleBut f (more r t b) (getD ends i 0)) (scaleIn t * scaleBut f (more r t b) (getD ends i 0))
-            + scaleIn u * cond (d || c) (degreeBut G f (more r t b) (getD ends i 0) x)
-            (best (λ y. degreeIn G t y) (G .next x r) * scaleBut f (more r t b) (getD ends i 0) + scaleIn t * degreeBut G f (more r t b) (getD ends i 0) x))
-        other true c ec q = (q .count, q .scale, q .sum)
-        other false c ec q = (
-          rw (ec, q .count),
-          rw (ec, q .scale) (scales-turned (scaleIn t) (scaleIn u) (scaleBut f (more r t b) (getD ends i 0))),
-          λ x. rw (ec, q .scale, q .sum x) (sums-turned (best (λ y. degreeIn G t y) (G .next x r)) (scaleIn t)
-              (best (λ y. degreeIn G u y) (G .next x (getD roles h 0))) (scaleIn u) (scaleBut f (more r t b) (getD ends i 0)) (degreeBut G f (more r t b) (getD ends i 0) x)),
-        )
-
         go : ((i ≡ h) × (t ≡ u)) ⊎ Stands ends f (getD ends i 0) h u → (Stands ends f (getD ends i 0) h u → One f (more r t b) (getD ends i 0) u) → One (more r t f) b i u
         go (inl q) next =
             let kept : dropped (under r b) t (under r f) ≡ false = mark-other _ (λ z. k (ap (λ (y : ℕ). getD marks y 0) (sym (q .0)) ∙ m .0 ∙ z)) in
+            let over : (dropped (under r b) t (under r f) || eqb i h) ≡ true = rw (eq-eqb i h (q .0)) (or-true (dropped (under r b) t (under r f))) in
+            let role : getD roles h 0 ≡ r = ap (λ (z : ℕ). getD roles z 0) (sym (q .0)) ∙ w .0 in
             let rest = but-all f (more r t b) left (getD ends i 0) e (w .3) (λ j p l z. let y : j ≡ h = z in let x : i ≡ h = q .0 in omega (arith, ends-behind)) in
-            let here = this (dropped (under r b) t (under r f)) (eqb i h) kept (eq-eqb i h (q .0)) (q .0) (q .1) rest in
-            record { count = here .0; scale = here .1; sum = here .2 }
+            record {
+              count = rw (over, kept, rest .count);
+              scale = rw (over, kept, ← q .1, rest .scale);
+              sum = λ x. rw (over, kept, role, ← q .1, rest .scale, rest .sum x);
+            }
         go (inr q) next =
             let p = stands-place names roles ends f left (getD ends i 0) e h u (w .3) q in
-            let here = other (dropped (under r b) t (under r f)) (eqb i h) (ne-eqb i h (λ z. let y : i ≡ h = z in omega (arith, ends-behind, p .behind))) (next q) in
-            record { count = here .0; scale = here .1; sum = here .2 }
+            let same : (dropped (under r b) t (under r f) || eqb i h) ≡ dropped (under r b) t (under r f) =
+            rw (ne-eqb i h (λ z. let y : i ≡ h = z in omega (arith, ends-behind, p .behind))) (or-false (dropped (under r b) t (under r f))) in
+            let rest = next q in
+            record {
+              count = rw (same, rest .count) (count-turned (dropped (under r b) t (under r f)) _);
+              scale = rw (same, rest .scale) (scale-turned (dropped (under r b) t (under r f)) _ _ _);
+              sum = λ x. rw (same, rest .scale, rest .sum x) (sum-turned (dropped (under r b) t (under r f)) _ _ _ _ _ _);
+            }

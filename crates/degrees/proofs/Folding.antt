@@ -2,7 +2,7 @@
 -- folded in before the others.
 -- Assumes nothing.
 use mathlib.Core.Path.{_≡_, refl, sym, ap, subst, _∙_}
-use mathlib.Core.Bool.{Bool, true, false, _||_}
+use mathlib.Core.Bool.{Bool, true, false, _||_, or-true}
 use mathlib.Core.List.{List}
 use Prim.Native.Nat.{ℕ, zero, suc, _+_, _-_, _*_, _≤_, _<_, max}
 use native.Mathlib.Nat.{le-trans, mul-le-mul-left, mul-le-mul-right, zero-lt-suc}
@@ -22,8 +22,8 @@ use Rattle.meaning.proofs.Names.{common-le}
 use Rattle.meaning.proofs.Scale.{scaleF-pos, degree-le, degreeF-le}
 use Rattle.meaning.proofs.InPlace.{count-in, scale-in, scaleF-in, degree-in, degreeF-in}
 use Rattle.meaning.proofs.Rows.{first, ran-out}
-use Rattle.degrees.specs.Heavy.{Stands}
-use Rattle.degrees.proofs.Stands.{Place, stands-place}
+use Rattle.heaviest.specs.Heavy.{Stands}
+use Rattle.heaviest.proofs.Stands.{Place, stands-place}
 pub use Rattle.degrees.proofs.But.{mark-zero, mark-other, scale-in-pos}
 use Rattle.degrees.proofs.But.{stands-marked, countBut, scaleBut, degreeBut, but-pos, but-one}
 
@@ -143,11 +143,7 @@ module _ {names roles ends marks : List ℕ} {G : Graph ℕ} {t : Concept} {left
 
   -- since it was folded in
   pub rest-pass : c < e → c ≡ h → Rest names roles ends marks G t left e h (getD ends c 0) n p acc X
-  rest-pass l m = over l (λ d o. rw (eq-eqb c h m) (go d))
-    where
-      go : (d : Bool) → (d || true) ≡ true
-      go true = refl
-      go false = refl
+  rest-pass l m = over l (λ d o. rw (eq-eqb c h m) (or-true d))
 
   pub rest-child : c < e → (getD marks c 0 ≡ 0 → ⊥) → (c ≡ h → ⊥) → Child names roles ends marks G t left e h c n p acc X
   unfolding Holds Marked countBut scaleBut degreeBut

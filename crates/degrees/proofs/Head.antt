@@ -1,8 +1,8 @@
 -- A node with no kept child, and the heaviest child, which is folded in before the others.
 -- Assumes nothing.
 use mathlib.Core.Path.{_≡_, refl, sym, ap, _∙_}
-use mathlib.Core.Bool.{true, false}
-use mathlib.Core.Logic.{_⊎_, inl, inr}
+use mathlib.Core.Bool.{true}
+use mathlib.Core.Logic.{inl, inr}
 use mathlib.Core.List.{List}
 use Prim.Native.Nat.{ℕ, _+_, _-_, _*_, _≤_, _<_, max}
 use native.Mathlib.Nat.{le-trans}
@@ -14,21 +14,25 @@ use Rattle.meaning.specs.Tree.{Forest, none, more, Concept, children, under}
 use Rattle.meaning.specs.Tree.{node as rooted}
 use Rattle.meaning.specs.Register.{judged}
 use Rattle.meaning.specs.Reduce.{dropped}
-use Rattle.meaning.specs.Degree.{orOne}
+use Rattle.meaning.specs.Degree.{orOne, best}
 use Rattle.meaning.specs.InPlace.{countIn, scaleIn, scaleInF, degreeIn, degreeInF}
 use Rattle.meaning.specs.Rows.{Holds, Marked, MarkedF}
-use Rattle.register.specs.Image.{Asked}
-use Rattle.degrees.specs.Case.{Case, Member, Items, Room}
-use Rattle.degrees.specs.Notes.{flag, Clear, Outside}
-use Rattle.degrees.specs.Heavy.{Stands, Heavy, Headed}
+use Rattle.register.specs.Image.{Asked, Image}
+use Rattle.graph.specs.Judged.{Judged}
+use Rattle.degrees.specs.Gradable.{Gradable, Member, Items}
+use Rattle.degrees.specs.Room.{Lent}
+use Rattle.degrees.specs.Notes.{Outside}
+use Rattle.heaviest.specs.Heavy.{Stands, Heavy}
+use Rattle.degrees.specs.Headed.{Headed}
 use Rattle.degrees.specs.Given.{rowAt, Kept, Done, Below, Folding, Folded}
 use Rattle.degrees.proofs.Room.{room-two, room-fewer}
+use Rattle.heaviest.proofs.Stands.{Place}
 use Rattle.degrees.proofs.But.{mark-zero}
 use Rattle.degrees.proofs.Folding.{Head, head, given}
 use Rattle.degrees.proofs.Noted.{outside-then, noted-node}
-use Rattle.degrees.proofs.Reaching.{graph, items-named, reach-best, reach-one}
+use Rattle.degrees.proofs.Reaching.{graph, items-named, done-for, reach-best, reach-one}
 
-module _ {s : List ℕ} {items : ℕ} {index names roles ends marks : List ℕ} {node left : ℕ} (k : Case s items index names roles ends marks node left) where
+module _ {s : List ℕ} {items : ℕ} {index names roles ends marks : List ℕ} {node left : ℕ} (k : Gradable (Judged s items index) names roles ends marks node left) where
   -- ---- no child is kept
 
   module _ (h : Heavy ends marks (k .tree) node (getD ends node 0)) where
@@ -52,114 +56,141 @@ module _ {s : List ℕ} {items : ℕ} {index names roles ends marks : List ℕ} 
         let z : many a + 0 ≡ many a = omega arith in
         rw (same, q .0, q .1, z) (omega arith, λ x. rw (q .2 x) (ap (orOne (many a)) (omega arith)))
 
-    pub alone-done : (X : ℕ → Type 0) (at scale : ℕ) (notes numbers out : List ℕ) → scale ≡ max 1 (many (getD names node 0))
-        → ((x : ℕ) → X x → rowAt out at x ≡ orOne (many (getD names node 0)) (common (getD names node 0) (graph k .names x)))
-        → Kept at numbers out → Done k X at scale notes notes numbers out
-    alone-done X at scale notes numbers out es eo kept =
-        let q = alone-is (k .tree) (k .held) (k .marked) (h .none refl) in
-        record {
-          worked = record { scaled = es ∙ q .0; each = λ x m. eo x m ∙ q .1 x };
-          noted = noted-node names roles ends marks (k .graph .register) X notes (k .tree) left node (getD ends node 0) (k .held) (λ c u s m. absurd (m (h .none refl c u s)));
+    pub alone-done : (set : List ℕ) (at scale : ℕ) (notes numbers out : List ℕ) → scale ≡ max 1 (many (getD names node 0))
+        → Image s (λ g. (x : ℕ) → Member set x → rowAt out at x ≡ orOne (many (getD names node 0)) (common (getD names node 0) (judged g .names x)))
+        → Kept at numbers out → (j : Gradable (Judged s items index) names roles ends marks node left) → Done j (Member set) at scale notes notes numbers out
+    alone-done set at scale notes numbers out es eo kept =
+        let q = alone-is (k .tree) (k .posed .held) (k .marked) (h .none refl) in
+        done-for k (record {
+          worked = record { scaled = es ∙ q .0; each = λ x m. eo (k .posed .graph .register) (k .posed .graph .read) x m ∙ q .1 x };
+          noted = noted-node names roles ends marks (k .posed .graph .register) (Member set) notes (k .tree) left node (getD ends node 0) (k .posed .held)
+              (λ c u s m. absurd (m (h .none refl c u s)));
           outside = λ j l o. refl;
           kept = kept;
-        }
+        })
 
-  -- ---- the heaviest child
+  -- ---- the heaviest child, where one is kept
 
-  module _ (heavy : ℕ) (h : Heavy ends marks (k .tree) node heavy) (some : heavy ≡ getD ends node 0 → ⊥) (set : List ℕ) where
-    abbrev pub heavy-tree : Concept
-    heavy-tree = h .some some .1 .0
+  module _ {set notes numbers : List ℕ} {at : ℕ} (lent : Lent items set notes numbers ends node at) where
+    pub record First (heavy : ℕ) : Type 0 where
+      pub heaviest : Heavy ends marks (k .tree) node heavy
+      pub some : heavy ≡ getD ends node 0 → ⊥
 
-    pub heavy-stands : Stands ends (children (k .tree)) (node + 1) heavy heavy-tree
-    heavy-stands = h .some some .1 .1
+    module _ {heavy : ℕ} (f : First heavy) where
+      abbrev pub child : Concept
+      child = f .heaviest .some (f .some) .1 .0
 
-    pub heavy-head : Head names roles ends marks (graph k) left (getD ends node 0) node heavy heavy-tree (Member set) (k .tree)
-    heavy-head = head names roles ends marks (graph k) left (getD ends node 0) node heavy heavy-tree (Member set)
-        (k .tree) (k .held) (k .marked) heavy-stands (h .some some .0)
+      pub stands : Stands ends (children (k .tree)) (node + 1) heavy child
+      stands = f .heaviest .some (f .some) .1 .1
 
-    pub heavy-inside : (node < heavy) × (heavy < getD ends heavy 0) × (getD ends heavy 0 ≤ getD ends node 0)
-    heavy-inside = let p = heavy-head .place in (omega (arith, p .behind), p .inside, p .within)
+      pub top : Head names roles ends marks (graph k) left (getD ends node 0) node heavy child (λ x. ⊥) (k .tree)
+      top = head names roles ends marks (graph k) left (getD ends node 0) node heavy child (λ x. ⊥) (k .tree) (k .posed .held) (k .marked) stands (f .heaviest .some (f .some) .0)
 
-    pub heavy-low : heavy < 64
-    heavy-low = let l = k .few in omega (arith, heavy-inside .1, heavy-inside .2)
+      pub place : Place names roles ends (left - 1) (node + 1) (getD ends node 0) heavy child
+      place = top .place
 
-    abbrev pub heavy-case : Case s items index names roles ends marks heavy (left - 1)
-    heavy-case = record {
-      graph = k .graph;
-      tree = heavy-tree;
-      held = heavy-head .place .held;
-      marked = heavy-head .marked;
-      few = le-trans (heavy-inside .2) (k .few);
-      small = le-trans (heavy-head .small) (k .small);
-    }
+      pub first-low : heavy < 64
+      first-low = omega (arith, place .inside, place .within, k .posed .few)
 
-    pub heavy-clear : (notes : List ℕ) → Clear notes (node + 1) (getD ends node 0) → Clear notes (heavy + 1) (getD ends heavy 0)
-    heavy-clear notes w j l a b = w j l (omega (arith, heavy-inside .0)) (omega (arith, heavy-inside .2))
-
-    pub heavy-room : (size at : ℕ) → Room size at (getD ends node 0 - node) → Room size at (getD ends heavy 0 - heavy)
-    heavy-room size at room = room-fewer room (getD ends heavy 0 - heavy) (omega (arith, heavy-inside .0, heavy-inside .2))
-
-    pub heavy-two : (size at : ℕ) → Room size at (getD ends node 0 - node) → at + 512 + 512 ≤ size
-    heavy-two size at room = room-two room (omega (arith, heavy-inside .0, heavy-inside .1, heavy-inside .2))
-
-    -- it is worked out
-    module _ (role at scale : ℕ) (notes mid numbers ys : List ℕ) (er : role ≡ getD roles heavy 0)
-        (d : Done heavy-case (Below (graph k) set (getD roles heavy 0)) at scale notes mid numbers ys)
-        (clear : Clear notes (node + 1) (getD ends node 0)) where
-      abbrev shared : ℕ → ℕ
-      shared x = common (getD names node 0) (graph k .names x)
-
-      fits : (x : ℕ) → shared x * scale + given roles (graph k) heavy heavy-tree x * 1 < 4294967296
-      fits x = let q = heavy-head .sum-fits x in let l = k .small in rw (d .worked .scaled) (omega arith)
-
-      pub heavy-folding : (size : ℕ) → length ys ≡ size → Room size at (getD ends node 0 - node) → Folding s items index set mid ys role heavy at (at + 512) 0 1
-      heavy-folding size e room = record {
-        graph = k .graph;
-        fits = λ x m. let q = fits x in let r = reach-best heavy-case set role at scale notes mid numbers ys er d x m in rw r (omega arith);
-        clear = λ l. d .outside heavy l (inl (omega arith)) ∙ clear heavy l (omega (arith, heavy-inside .0)) (omega (arith, heavy-inside .1, heavy-inside .2));
-        inside = heavy-low;
-        short = omega (arith, room .size-is);
-        from-fits = omega (arith, heavy-two size at room);
-        to-fits = omega (arith, heavy-two size at room);
-        apart = inl (omega arith);
+      abbrev pub first-asked : Gradable (Judged s items index) names roles ends marks heavy (left - 1)
+      first-asked = record {
+        tree = child;
+        posed = record { graph = k .posed .graph; held = place .held; few = le-trans (place .within) (k .posed .few) };
+        marked = top .marked;
+        small = le-trans (top .small) (k .small);
       }
 
-      -- its part stands in the next row, and it is noted
-      module _ (new zs : List ℕ) (f : Folded (k .graph .register) set mid new ys zs role heavy at (at + 512) 0 1) where
-        part : (x : ℕ) → Member set x → rowAt zs (at + 512) x ≡ given roles (graph k) heavy heavy-tree x
-        part x m = f .sums x m ∙ rw (reach-best heavy-case set role at scale notes mid numbers ys er d x m) (omega arith)
+      pub first-lent : Lent items set notes numbers ends heavy at
+      first-lent = record {
+        members = lent .members;
+        clear = λ j l a b. lent .clear j l (omega (arith, place .behind)) (omega (arith, place .within));
+        room = room-fewer (lent .room) (getD ends heavy 0 - heavy) (omega (arith, place .behind, place .within));
+      }
 
-        heavy-fits : (x : ℕ) → Member set x → shared x * scale + rowAt zs (at + 512) x < 4294967296
-        heavy-fits x m = let q = fits x in rw (part x m) (omega arith)
+      pub first-two : at + 512 + 512 ≤ 3072
+      first-two = omega (arith, room-two (lent .room) (omega (arith, place .behind, place .inside, place .within)), lent .room .size-is)
 
-        change : Outside heavy (getD ends heavy 0) notes new
-        change = outside-then (heavy + 1) (getD ends heavy 0) heavy (heavy + 1) heavy (getD ends heavy 0) notes mid new
-            (omega arith) (omega arith) (omega arith) (omega (arith, heavy-inside .1)) (d .outside) (f .outside)
+      -- it is worked out
+      module _ (role scale : ℕ) (mid ys : List ℕ) (er : role ≡ getD roles heavy 0)
+          (reached : (j : Gradable (Judged s items index) names roles ends marks heavy (left - 1)) → Done j (Below (graph j) set (getD roles heavy 0)) at scale notes mid numbers ys)
+          (sy : length ys ≡ length numbers) where
+        abbrev d : Done first-asked (Below (graph k) set (getD roles heavy 0)) at scale notes mid numbers ys
+        d = reached first-asked
 
-        pub heavy-own : Items items set → Asked s (λ g. Items (length (g .names)) set
-            × ((x : ℕ) → Member set x → common (getD names node 0) (judged g .names x) * scale + rowAt zs (at + 512) x < 4294967296))
-        heavy-own w = record { register = k .graph .register; read = k .graph .read; holds = (items-named k set w, heavy-fits) }
+        abbrev shared : ℕ → ℕ
+        shared x = common (getD names node 0) (graph k .names x)
 
-        -- so it is at the head of the others
-        pub heavy-headed : (out : List ℕ) → length new ≡ length mid → ((x : ℕ) → Member set x → rowAt out at x ≡ shared x * scale + rowAt zs (at + 512) x)
-            → Headed k (Member set) heavy at scale new out
-        heavy-headed out size sum = record {
-          tree = heavy-tree;
-          stands = heavy-stands;
-          kept = h .some some .0;
-          most = h .most some;
-          scaled = d .worked .scaled;
-          summed = λ x m. sum x m ∙ ap (λ (z : ℕ). shared x * scale + z) (part x m);
-          noted = λ x m. reach-one heavy-case set role at scale notes mid numbers ys er d x m new size (f .outside) (f .noted x m);
-          clear = λ j l p q w. change j l w ∙ clear j l (omega arith) q;
-        }
+        reach-part : (x : ℕ) → Member set x → best (rowAt ys at) (graph k .next x role) ≡ given roles (graph k) heavy child x
+        reach-part x m = reach-best first-asked set role at scale notes mid numbers ys er d x m
 
-        -- and then the others are folded in
-        pub heavy-done : (out last end : List ℕ) (r : ℕ) → Kept at zs out → Done k (Member set) at r new last out end → Done k (Member set) at r notes last numbers end
-        heavy-done out last end r kept o = record {
-          worked = o .worked;
-          noted = o .noted;
-          outside = outside-then heavy (getD ends heavy 0) (node + 1) (getD ends node 0) (node + 1) (getD ends node 0) notes new last
-              (omega (arith, heavy-inside .0)) (heavy-inside .2) (omega arith) (omega arith) change (o .outside);
-          kept = λ i l. o .kept i l ∙ kept i l ∙ f .kept i (omega arith) ∙ d .kept i l;
-        }
+        fits : (x : ℕ) → shared x * scale + given roles (graph k) heavy child x * 1 < 4294967296
+        fits x = let q = top .sum-fits x in let l = k .small in rw (d .worked .scaled) (omega arith)
+
+        pub first-folding : Folding s items index set mid ys role heavy at (at + 512) 0 1 × Items items set
+        first-folding = (
+          record {
+            graph = k .posed .graph;
+            fits = λ x m. let q = fits x in rw (reach-part x m) (omega arith);
+            clear = λ l. d .outside heavy l (inl (omega arith)) ∙ lent .clear heavy l (omega (arith, place .behind)) (omega (arith, place .inside, place .within));
+            inside = first-low;
+            short = omega (arith, lent .room .size-is);
+            from-fits = omega (arith, first-two, lent .room .size-is);
+            to-fits = omega (arith, first-two, lent .room .size-is);
+            apart = inl (omega arith);
+          },
+          lent .members,
+        )
+
+        -- its part stands in the next row, and it is noted
+        module _ (new zs : List ℕ) (folded : (g : Judged s items index) → Folded (g .register) set mid new ys zs role heavy at (at + 512) 0 1)
+            (sn : length new ≡ length mid) (sz : length zs ≡ length ys) where
+          abbrev part : Folded (k .posed .graph .register) set mid new ys zs role heavy at (at + 512) 0 1
+          part = folded (k .posed .graph)
+
+          part-is : (x : ℕ) → Member set x → rowAt zs (at + 512) x ≡ given roles (graph k) heavy child x
+          part-is x m = part .sums x m ∙ rw (reach-part x m) (omega arith)
+
+          change : Outside heavy (getD ends heavy 0) notes new
+          change = outside-then (heavy + 1) (getD ends heavy 0) heavy (heavy + 1) heavy (getD ends heavy 0) notes mid new
+              (omega arith) (omega arith) (omega arith) (omega (arith, place .inside)) (d .outside) (part .outside)
+
+          pub first-own : Asked s (λ g. Items (length (g .names)) set
+              × ((x : ℕ) → Member set x → common (getD names node 0) (judged g .names x) * scale + rowAt zs (at + 512) x < 4294967296)) × (at + 512 + 512 ≤ length zs)
+          first-own = (
+            record {
+              register = k .posed .graph .register;
+              read = k .posed .graph .read;
+              holds = (items-named k set (lent .members), λ x m. let q = fits x in rw (part-is x m) (omega arith));
+            },
+            omega (arith, first-two, lent .room .size-is),
+          )
+
+          -- so it is at the head of the others
+          pub first-headed : (out : List ℕ) → length out ≡ length zs
+              → Image s (λ g. (x : ℕ) → Member set x → rowAt out at x ≡ common (getD names node 0) (judged g .names x) * scale + rowAt zs (at + 512) x)
+              → Headed s items index names roles ends marks node left set heavy at scale new out
+          first-headed out so sum = record {
+            asked = k;
+            members = lent .members;
+            room = rw (so ∙ sz ∙ sy) (lent .room);
+            tree = child;
+            stands = stands;
+            kept = f .heaviest .some (f .some) .0;
+            most = f .heaviest .most (f .some);
+            scaled = d .worked .scaled;
+            summed = λ x m. sum (k .posed .graph .register) (k .posed .graph .read) x m ∙ ap (λ (z : ℕ). shared x * scale + z) (part-is x m);
+            noted = λ x m. reach-one first-asked set role at scale notes mid numbers ys er d x m new sn (part .outside) (part .noted x m);
+            clear = λ j l p q w. change j l w ∙ lent .clear j l (omega arith) q;
+          }
+
+          -- and then the others are folded in
+          pub first-done : (out last end : List ℕ) (r : ℕ) → Kept at zs out
+              → ((j : Gradable (Judged s items index) names roles ends marks node left) → Done j (Member set) at r new last out end)
+              → (j : Gradable (Judged s items index) names roles ends marks node left) → Done j (Member set) at r notes last numbers end
+          first-done out last end r kept done j = let o = done j in record {
+            worked = o .worked;
+            noted = o .noted;
+            outside = outside-then heavy (getD ends heavy 0) (node + 1) (getD ends node 0) (node + 1) (getD ends node 0) notes new last
+                (omega (arith, place .behind)) (place .within) (omega arith) (omega arith) change (o .outside);
+            kept = λ i l. o .kept i l ∙ kept i l ∙ part .kept i (omega arith) ∙ d .kept i l;
+          }

@@ -1,7 +1,5 @@
 pub mod Room
-pub mod Stands
 pub mod But
-pub mod Seeking
 pub mod Folding
 pub mod Noted
 pub mod Reaching

@@ -3,7 +3,7 @@
 use mathlib.Core.Path.{_≡_, refl, sym, ap, subst, _∙_}
 use mathlib.Core.Bool.{Bool, true, false}
 use mathlib.Core.Logic.{_⊎_, inl, inr}
-use mathlib.Core.List.{List, List·Memᴰ}
+use mathlib.Core.List.{List}
 use mathlib.Core.Option.{Option}
 use Prim.Native.Nat.{ℕ, _+_, _-_, _≤_, _<_}
 use native.Mathlib.Decide.{ℕ-discrete}
@@ -18,8 +18,9 @@ use Rattle.meaning.specs.Shown.{pick}
 use Rattle.meaning.specs.Rows.{Holds, HoldsF}
 use Rattle.meaning.proofs.Rows.{opened, holds-one}
 use Rattle.degrees.specs.Notes.{flag, Note, Noted, NotedF, Outside}
-use Rattle.degrees.specs.Heavy.{Stands, One}
-use Rattle.degrees.proofs.Stands.{Place, stands-place, stands-apart, stands-first, stands-next}
+use Rattle.heaviest.specs.Heavy.{Stands}
+use Rattle.degrees.specs.Headed.{One}
+use Rattle.heaviest.proofs.Stands.{Place, stands-place, stands-apart, stands-first, stands-next}
 
 -- ---- rows that stay
 

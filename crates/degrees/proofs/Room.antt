@@ -1,11 +1,11 @@
 -- Six rows of numbers are enough: a further row is taken for trees of less than half of the nodes alone.
 -- Assumes nothing.
-use mathlib.Core.Path.{_≡_, refl, subst, _∙_}
+use mathlib.Core.Path.{_≡_, refl}
 use Prim.Native.Nat.{ℕ, zero, suc, _+_, _-_, _*_, _≤_, _<_}
-use native.Mathlib.Nat.{mul-le-mul-right, mul-le-mul-left}
+use native.Mathlib.Nat.{mul-le-mul-right}
 use native.Mathlib.Decide.{decLt}
 use native.Mathlib.Omega.{arith}
-use Rattle.degrees.specs.Case.{doubled, Room}
+use Rattle.degrees.specs.Room.{doubled, Room}
 
 doubled-pos : (t : ℕ) → 0 < doubled t
 unfolding doubled

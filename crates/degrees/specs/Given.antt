@@ -9,7 +9,8 @@ use Rattle.meaning.specs.Graph.{Graph}
 use Rattle.meaning.specs.Register.{Register, judged}
 use Rattle.meaning.specs.InPlace.{scaleIn, degreeIn}
 pub use Rattle.folds.specs.Folded.{rowAt, Kept, sumWith, Folding, Folded}
-use Rattle.degrees.specs.Case.{Case, Member}
+use Rattle.graph.specs.Judged.{Judged}
+use Rattle.degrees.specs.Gradable.{Gradable, Member}
 use Rattle.degrees.specs.Notes.{Noted, Outside}
 
 -- the degrees of the items of X, from a place on
@@ -18,10 +19,10 @@ pub record Worked (g : Register) (t : Concept) (X : ℕ → Type 0) (at scale : 
   pub each : (x : ℕ) → X x → rowAt numbers at x ≡ degreeIn (judged g) t x
 
 -- they are worked out, and it is noted where the nodes below go; nothing else has changed but places from `at` on
-pub record Done {s : List ℕ} {items : ℕ} {index names roles ends marks : List ℕ} {node left : ℕ} (k : Case s items index names roles ends marks node left)
+pub record Done {s : List ℕ} {items : ℕ} {index names roles ends marks : List ℕ} {node left : ℕ} (k : Gradable (Judged s items index) names roles ends marks node left)
     (X : ℕ → Type 0) (at scale : ℕ) (notes notes′ numbers numbers′ : List ℕ) : Type 0 where
-  pub worked : Worked (k .graph .register) (k .tree) X at scale numbers′
-  pub noted : (x : ℕ) → X x → Noted ends marks (k .graph .register) notes′ (k .tree) node x
+  pub worked : Worked (k .posed .graph .register) (k .tree) X at scale numbers′
+  pub noted : (x : ℕ) → X x → Noted ends marks (k .posed .graph .register) notes′ (k .tree) node x
   pub outside : Outside (node + 1) (getD ends node 0) notes notes′
   pub kept : Kept at numbers numbers′
 

@@ -1,4 +1,5 @@
-pub mod Case
+pub mod Gradable
+pub mod Room
 pub mod Notes
-pub mod Heavy
+pub mod Headed
 pub mod Given

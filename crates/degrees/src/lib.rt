@@ -2,59 +2,17 @@
 // the tree's scale. A node is worked out only at the items that its parent's items reach.
 use folds::ROW;
 ghost use mathlib.Core.Path.{_≡_};
-ghost use mathlib.Core.Bool.{_||_, not};
-ghost use Prim.Native.Nat.{ℕ, _+_, _-_};
-ghost use lib.Dec.{eqb, ltb};
+ghost use Prim.Native.Nat.{_+_, _-_};
 ghost use lib.ListN.{length, getD};
 ghost use Rattle.meaning.specs.Register.{judged};
-ghost use Rattle.degrees.specs.Case.{Case, Member, Items, Room};
-ghost use Rattle.degrees.specs.Notes.{Clear};
-ghost use Rattle.degrees.specs.Heavy.{Written, Heavy, Headed};
+ghost use Rattle.graph.specs.Judged.{Judged};
+ghost use Rattle.degrees.specs.Gradable.{Gradable, Member, Items};
+ghost use Rattle.degrees.specs.Room.{Lent};
+ghost use Rattle.degrees.specs.Headed.{Headed};
 ghost use Rattle.degrees.specs.Given.{Worked, Done, Below};
 
 // Six rows of numbers are enough for the largest tree.
 pub const NUMBERS: usize = 3072;
-
-// A child is no heavier than one before, or dropped.
-fn lighter(mark: u8, rows: usize, most: usize) -> bool
-    ensures { λ r. ⌜ r ≡ (eqb mark 0 || not (ltb most rows)) ⌝ }
-{
-    if mark == 0 {
-        return true;
-    }
-    rows <= most
-}
-
-// Of the kept children of a node, the first of those with the most rows; where none is kept, the row behind the node's own.
-fn heaviest(ends: &[u8; 64], marks: &[u8; 64], node: usize) -> usize
-    requires { ⌜ Written (now ends) node ⌝ }
-    ensures { λ r. ⌜ ((k : Written (now (ends .entry)) node) → Heavy (now (ends .entry)) (now (marks .entry)) (k .tree) node r) ⌝ }
-{
-    let e = fields::octet(ends[node]);
-    let mut heavy = e;
-    let mut most = 0;
-    let mut c = node + 1;
-    while c < e {
-        let at = c;
-        c = fields::octet(ends[at]);
-        if lighter(marks[at], c - at, most) {
-            continue;
-        }
-        heavy = at;
-        most = c - at;
-    }
-    heavy
-}
-
-// A child is passed over: it is dropped, or was folded in before the others.
-fn passed(mark: u8, at: usize, heavy: usize) -> bool
-    ensures { λ r. ⌜ r ≡ (eqb mark 0 || eqb at heavy) ⌝ }
-{
-    if mark == 0 {
-        return true;
-    }
-    at == heavy
-}
 
 // The degrees of the members of a set in the tree at a node, as whole numbers over its scale, which is answered, from place `at` on; and for each
 // kept node below it, along which link it goes where its parent goes to an item. The heaviest child comes first, since only then the row at `at` is
@@ -75,12 +33,12 @@ pub fn work(
     notes: &mut [u64],
     numbers: &mut [u32],
 ) -> u64
-    requires { ⌜ Case (now s) items (now index) (now names) (now roles) (now ends) (now marks) node left ⌝ }
-    requires { ⌜ Items items (now set) × Clear (now notes) (node + 1) (getD (now ends) node 0) × Room (length (now numbers)) at (getD (now ends) node 0 - node) ⌝ }
-    ensures { λ r. ⌜ ((k : Case (now (s .entry)) items (now (index .entry)) (now (names .entry)) (now (roles .entry)) (now (ends .entry)) (now (marks .entry)) node left)
+    requires { ⌜ Gradable (Judged (now s) items (now index)) (now names) (now roles) (now ends) (now marks) node left ⌝ }
+    requires { ⌜ Lent items (now set) (now notes) (now numbers) (now ends) node at ⌝ }
+    ensures { λ r. ⌜ ((k : Gradable (Judged (now (s .entry)) items (now (index .entry))) (now (names .entry)) (now (roles .entry)) (now (ends .entry)) (now (marks .entry)) node left)
         → Done k (Member (now (set .entry))) at r (now (notes .entry)) (now (notes .exit)) (now (numbers .entry)) (now (numbers .exit))) ⌝ }
 {
-    let heavy = heaviest(ends, marks, node);
+    let heavy = heaviest::heaviest(ends, marks, node);
     if heavy == fields::octet(ends[node]) {
         return folds::alone(s, names[node], set, at, numbers);
     }
@@ -150,10 +108,10 @@ fn reach(
     notes: &mut [u64],
     numbers: &mut [u32],
 ) -> u64
-    requires { ⌜ Case (now s) items (now index) (now names) (now roles) (now ends) (now marks) node left ⌝ }
-    requires { ⌜ Items items (now set) × Clear (now notes) (node + 1) (getD (now ends) node 0) × Room (length (now numbers)) at (getD (now ends) node 0 - node) ⌝ }
-    ensures { λ r. ⌜ ((k : Case (now (s .entry)) items (now (index .entry)) (now (names .entry)) (now (roles .entry)) (now (ends .entry)) (now (marks .entry)) node left)
-        → Done k (Below (judged (k .graph .register)) (now (set .entry)) (getD (now (roles .entry)) node 0)) at r
+    requires { ⌜ Gradable (Judged (now s) items (now index)) (now names) (now roles) (now ends) (now marks) node left ⌝ }
+    requires { ⌜ Lent items (now set) (now notes) (now numbers) (now ends) node at ⌝ }
+    ensures { λ r. ⌜ ((k : Gradable (Judged (now (s .entry)) items (now (index .entry))) (now (names .entry)) (now (roles .entry)) (now (ends .entry)) (now (marks .entry)) node left)
+        → Done k (Below (judged (k .posed .graph .register)) (now (set .entry)) (getD (now (roles .entry)) node 0)) at r
         (now (notes .entry)) (now (notes .exit)) (now (numbers .entry)) (now (numbers .exit))) ⌝ }
 {
     let mut below = [0u64; 8];
@@ -194,11 +152,8 @@ fn others(
     notes: &mut [u64],
     numbers: &mut [u32],
 ) -> u64
-    requires { ⌜ Case (now s) items (now index) (now names) (now roles) (now ends) (now marks) node left ⌝ }
-    requires { ⌜ Items items (now set) × Room (length (now numbers)) at (getD (now ends) node 0 - node) ⌝ }
-    requires { ⌜ ((k : Case (now s) items (now index) (now names) (now roles) (now ends) (now marks) node left)
-        → Headed k (Member (now set)) heavy at first (now notes) (now numbers)) ⌝ }
-    ensures { λ r. ⌜ ((k : Case (now (s .entry)) items (now (index .entry)) (now (names .entry)) (now (roles .entry)) (now (ends .entry)) (now (marks .entry)) node left)
+    requires { ⌜ Headed (now s) items (now index) (now names) (now roles) (now ends) (now marks) node left (now set) heavy at first (now notes) (now numbers) ⌝ }
+    ensures { λ r. ⌜ ((k : Gradable (Judged (now (s .entry)) items (now (index .entry))) (now (names .entry)) (now (roles .entry)) (now (ends .entry)) (now (marks .entry)) node left)
         → Done k (Member (now (set .entry))) at r (now (notes .entry)) (now (notes .exit)) (now (numbers .entry)) (now (numbers .exit))) ⌝ }
 {
     let e = fields::octet(ends[node]);
@@ -208,7 +163,7 @@ fn others(
     while c < e {
         let child = c;
         c = fields::octet(ends[child]);
-        if passed(marks[child], child, heavy) {
+        if heaviest::passed(marks[child], child, heavy) {
             continue;
         }
         let scale = reach(
@@ -259,10 +214,10 @@ pub fn degrees(
     set: &[u64],
     numbers: &mut [u32],
 ) -> u64
-    requires { ⌜ Case (now s) items (now index) (now names) (now roles) (now ends) (now marks) 0 17 ⌝ }
+    requires { ⌜ Gradable (Judged (now s) items (now index)) (now names) (now roles) (now ends) (now marks) 0 17 ⌝ }
     requires { ⌜ Items items (now set) × (length (now numbers) ≡ 3072) ⌝ }
-    ensures { λ r. ⌜ ((k : Case (now (s .entry)) items (now (index .entry)) (now (names .entry)) (now (roles .entry)) (now (ends .entry)) (now (marks .entry)) 0 17)
-        → Worked (k .graph .register) (k .tree) (Member (now (set .entry))) 0 r (now (numbers .exit))) ⌝ }
+    ensures { λ r. ⌜ ((k : Gradable (Judged (now (s .entry)) items (now (index .entry))) (now (names .entry)) (now (roles .entry)) (now (ends .entry)) (now (marks .entry)) 0 17)
+        → Worked (k .posed .graph .register) (k .tree) (Member (now (set .entry))) 0 r (now (numbers .exit))) ⌝ }
 {
     let mut notes = [0u64; 1];
     work(

@@ -4,30 +4,27 @@
 use mathlib.Core.Path.{_≡_, refl, sym, ap, ap₂, _∙_, subst}
 use mathlib.Core.Bool.{Bool, true, false, _&&_, and-true}
 use mathlib.Core.List.{List, List·Memᴰ}
-use Prim.Native.Nat.{ℕ, _+_, _*_, _-_, _≤_, _<_}
+use Prim.Native.Nat.{ℕ, _+_, _-_, _≤_, _<_}
 use native.Mathlib.Omega.{arith}
 use lib.ListN.{getD}
 use Rattle.meaning.specs.Names.{within}
-use Rattle.meaning.specs.Tree.{node, Forest, none, more, children, relabelF, relabel}
+use Rattle.meaning.specs.Tree.{node, Forest, none, more, children, relabel}
 use Rattle.meaning.specs.Graph.{Graph}
 use Rattle.meaning.specs.Whole.{any, meetsBy, meetsByF}
 use Rattle.meaning.specs.Requirement.{Label, Threshold, Requirement, fulfils, member, bare, every, passes}
 use Rattle.meaning.specs.Rows.{Holds, HoldsF}
 use Rattle.meaning.proofs.Rows.{opened}
 use Rattle.meaning.proofs.Tests.{true-false}
-use Rattle.graph.specs.Sets.{inSet, Spread, Closed}
+use Rattle.graph.specs.Sets.{inSet, Closed}
 use Rattle.graph.proofs.Same.{any-same}
 use Rattle.screening.specs.Sifting.{Sifted}
-use Rattle.meeting.specs.Cells.{rowOf, cell, Outside, Right, RightF}
+use Rattle.trails.specs.Cells.{cell, Right, RightF}
 use Rattle.screening.specs.Standing.{ruledAt, Ruled, RuledF}
-use Rattle.meeting.specs.Case.{Done}
+use Rattle.trails.proofs.Trail.{bareF}
+use Rattle.meeting.specs.Required.{Done}
 use Rattle.screening.proofs.Sifting.{stayed}
-use Rattle.meeting.proofs.Table.{SameRows, same-cell}
+use Rattle.trails.proofs.Table.{SameRows, same-cell}
 use Rattle.screening.proofs.Through.{and-assoc}
-
--- a requirement's children without their thresholds
-abbrev pub bareF : Forest Label → Forest ℕ
-bareF = relabelF (λ a. a .names)
 
 module _ (names roles ends : List ℕ) (G : Graph ℕ) where
   -- what is right stays right where the rows below do

@@ -1,5 +1,3 @@
-pub mod Search
-pub mod Table
 pub mod Children
-pub mod Trail
-pub mod Cases
+pub mod Left
+pub mod Settled

@@ -17,7 +17,7 @@ use Rattle.register.specs.Reading.{Counts, paperReading, counted}
 use Rattle.plain.specs.declared.Plain.{Plain}
 use Rattle.plain.specs.declared.Plain.the-variants.{Good as GoodPlain, Refused as RefusedPlain}
 use Rattle.plain.specs.declared.Both.the-variants.{Good as GoodBoth, Refused as RefusedBoth}
-use Rattle.plain.specs.Reading.{Rows, PlainOutcome, PlainDone, readBoth, BothOutcome, BothDone}
+use Rattle.plain.specs.Reading.{Rows, PlainRows, PlainOutcome, PlainDone, readBoth, BothOutcome, BothDone}
 
 module _ (image message : List ℕ) (r : Reading) (says : paperReading r ≡ counted (readRegister image)) where
   pub register-refused : (A : Rows) (f : Refusal) → r ≡ RefusedReading f → BothDone image message A (RefusedBoth f)
@@ -66,9 +66,12 @@ module _ (image message : List ℕ) (r : Reading) (says : paperReading r ≡ cou
               let y : nodes t ≡ k = cc in
               let a : n ≡ length (read .0 .names) = read .2 in
               let b : m ≡ length (read .0 .links) = read .3 in
+              let p = o .held in
+              let held : PlainRows (readRegister image ≡ good (read .0)) A t =
+              record { posed = record { graph = read .1; held = p .posed .held; few = p .posed .few }; marked = p .marked; small = p .small } in
               let same : GoodBoth n m k ≡ GoodBoth (length (read .0 .names)) (length (read .0 .links)) (nodes t) = cc in
               subst (λ a. BothOutcome image A a (GoodBoth n m k)) (sym (took (readRegister image) _ (read .0) (read .1) ∙ took (readPlain message) _ t h))
-              (record { answer = same; read = read .1; held = o .held })
+              (record { answer = same; held = held })
           go (refused q) h o =
               let z : RefusedPlain q ≡ GoodPlain k = sym o ∙ d in
               let y : _≡_ {A = ℕ} 0 1 = cc in absurd (omega arith)

@@ -19,7 +19,7 @@ use Rattle.meaning.specs.Rows.{Holds, Marked}
 use Rattle.meaning.specs.Calls.{firstPart, readPlain}
 use Rattle.meaning.proofs.Reading.{took, stopped, pass, stop, below, not-below}
 use Rattle.meaning.proofs.InPlace.{size-in}
-use Rattle.meaning.proofs.Rows.{holds-nodes, holds-ended}
+use Rattle.meaning.proofs.Rows.{opened, holds-nodes, holds-ended}
 use Rattle.reduction.specs.Held.{Held}
 use Rattle.reduction.specs.Marks.{MarkedWhole}
 use Rattle.reduction.specs.Sizes.{Sized}
@@ -130,16 +130,15 @@ module _ (s B : List ℕ) (m : Message) (done : MessageDone s B m) where
         plain-good l =
             let w = was-read in
             let A = rows names roles ends marks in
-            let t : Holds names roles ends concept 17 0 (nodes (w .tree)) = whole in
-            let c : nodes concept ≡ nodes (w .tree) = omega (arith, holds-nodes names roles ends concept 17 0 _ t) in
+            let c : nodes concept ≡ nodes (w .tree) = omega (arith, holds-nodes names roles ends concept 17 0 _ whole) in
+            let rows : getD ends 0 0 ≡ nodes (w .tree) = opened names roles ends concept 17 0 _ whole .ended in
             subst (λ a. PlainOutcome A a (GoodPlain n))
             (sym (tested ∙ pass (ltb mostSize (size (reduce concept))) _ _ (not-below mostSize (size (reduce concept)) (omega (arith, small, size-in concept)))))
             (record {
               answer = ap GoodPlain (sym (w .written) ∙ sym c);
               held = record {
-                tree = subst (λ (z : ℕ). Holds names roles ends concept 17 0 z) (sym c) t;
+                posed = record { graph = tt; held = stands; few = omega (arith, w .held .few, rows) };
                 marked = ruled;
-                few = omega (arith, w .held .few);
                 small = omega (arith, small);
               };
             })

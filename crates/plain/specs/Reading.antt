@@ -8,10 +8,11 @@ use Rattle.meaning.specs.declared.Side.the-variants.{Requirement as requirement
 use Rattle.meaning.specs.Refusal.{Answer, good, refused, at, _>>=_}
 use Rattle.meaning.specs.Tree.{Concept, nodes}
 use Rattle.meaning.specs.Register.{Register, readRegister}
-use Rattle.meaning.specs.Bounds.{mostLevels, mostNodes, mostSize}
+use Rattle.meaning.specs.Bounds.{mostLevels, mostSize}
 use Rattle.meaning.specs.InPlace.{sizeIn}
-use Rattle.meaning.specs.Rows.{Holds, Marked}
+use Rattle.meaning.specs.Rows.{Marked}
 use Rattle.meaning.specs.Calls.{readPlain}
+use Rattle.graph.specs.Posed.{Posed}
 use Rattle.plain.specs.declared.Plain.{Plain}
 use Rattle.plain.specs.declared.Plain.the-variants.{Good as GoodPlain, Refused as RefusedPlain}
 use Rattle.plain.specs.declared.Both.{Both}
@@ -27,11 +28,10 @@ pub record Rows : Type 0 where
 abbrev pub rows : List ℕ → List ℕ → List ℕ → List ℕ → Rows
 rows n r e m = record { names = n; roles = r; ends = e; marks = m }
 
--- they hold the tree of a plain requirement, small enough for a degree, and are marked
-pub record PlainRows (A : Rows) (t : Concept) : Type 0 where
-  pub tree : Holds (A .names) (A .roles) (A .ends) t mostLevels 0 (nodes t)
+-- they hold the tree of a plain requirement, small enough for a degree, and are marked; of a register R is known
+pub record PlainRows (R : Type 0) (A : Rows) (t : Concept) : Type 0 where
+  pub posed : Posed R (A .names) (A .roles) (A .ends) t 0 mostLevels
   pub marked : Marked (A .ends) (A .marks) t 0
-  pub few : nodes t ≤ mostNodes
   pub small : sizeIn t ≤ mostSize
 
 -- ---- the requirement
@@ -41,7 +41,7 @@ plainRefused n p = RefusedPlain (at requirement n p)
 
 pub record PlainGood (A : Rows) (t : Concept) (r : Plain) : Type 0 where
   pub answer : r ≡ GoodPlain (nodes t)
-  pub held : PlainRows A t
+  pub held : PlainRows (Unit {0}) A t
 
 -- after a refusal the rows, which are the library's own, may hold anything
 abbrev pub PlainOutcome : Rows → Answer Concept → Plain → Type 0
@@ -61,8 +61,7 @@ readBoth image message = do
 
 pub record BothGood (image : List ℕ) (A : Rows) (g : Register) (t : Concept) (r : Both) : Type 0 where
   pub answer : r ≡ GoodBoth (length (g .names)) (length (g .links)) (nodes t)
-  pub read : readRegister image ≡ good g
-  pub held : PlainRows A t
+  pub held : PlainRows (readRegister image ≡ good g) A t
 
 abbrev pub BothOutcome : List ℕ → Rows → Answer (Register × Concept) → Both → Type 0
 BothOutcome image A (good x) r = BothGood image A (x .0) (x .1) r

@@ -1,11 +1,11 @@
--- The inner concept of one threshold, read again from the message: its rows, marked, make a case of the degrees, and the degrees of the items of a set,
--- compared as the message says, are what the threshold asks of them.
+-- The inner concept of one threshold, read again from the message: its rows, marked, are gradable, and the degrees of the items of a set, compared as
+-- the message says, are what the threshold asks of them.
 -- Assumes nothing.
 use mathlib.Core.Path.{_≡_, refl, sym, ap, ap₂, subst, _∙_}
 use mathlib.Core.Bool.{Bool, true, false, _&&_}
 use mathlib.Core.List.{List}
 use Prim.Native.Nat.{ℕ, _+_, _≤_, _<_}
-use native.Mathlib.Nat.{le-trans, le-of-eq, zero-add}
+use native.Mathlib.Nat.{zero-add}
 use native.Mathlib.Omega.{arith}
 use lib.ListN.{length, getD, replicate, length-replicate}
 use Rattle.meaning.specs.Bytes.{number}
@@ -31,7 +31,7 @@ use Rattle.parts.specs.Inner.{ConceptDone}
 use Rattle.graph.specs.Judged.{Judged}
 use Rattle.graph.specs.Sets.{inSet}
 use Rattle.folds.specs.Members.{Member}
-use Rattle.degrees.specs.Case.{Case}
+use Rattle.degrees.specs.Gradable.{Gradable}
 use Rattle.degrees.specs.Given.{Worked}
 use Rattle.screening.specs.Sifting.{Sifted}
 use Rattle.screening.specs.Standing.{StandsAt}
@@ -68,15 +68,13 @@ module _ (s : List ℕ) (p : ℕ) (h : Threshold) (c : StandsAt s p h) (len : �
   pub inner-held : Held names roles ends 17 0
   inner-held = record { tree = h .inner; holds = inner-holds; fits = inner-few }
 
-  -- marked, they make a case of the degrees
-  abbrev pub inner-case : {image : List ℕ} {items : ℕ} {index : List ℕ} (j : Judged image items index) (marks : List ℕ) → MarkedWhole names roles ends marks
-      → Case image items index names roles ends marks 0 17
-  inner-case j marks marked = record {
-    graph = j;
+  -- marked, they are gradable
+  abbrev pub inner-gradable : {image : List ℕ} {items : ℕ} {index : List ℕ} (j : Judged image items index) (marks : List ℕ) → MarkedWhole names roles ends marks
+      → Gradable (Judged image items index) names roles ends marks 0 17
+  inner-gradable j marks marked = record {
     tree = h .inner;
-    held = inner-holds;
+    posed = record { graph = j; held = inner-holds; few = inner-few };
     marked = marked .marked (h .inner) inner-holds;
-    few = inner-few;
     small = scale-small (h .inner) (c .small);
   }
 

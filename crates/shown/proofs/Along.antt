@@ -13,7 +13,7 @@ use borrow.Author.Count.{below-more}
 use Rattle.meaning.proofs.Tests.{true-false}
 use Rattle.graph.specs.Judged.{Judged, startNo, endNo}
 use Rattle.degrees.specs.Notes.{flag, Note}
-use Rattle.shown.specs.Given.{placeOf}
+use Rattle.graph.specs.Posed.{placeOf}
 
 module _ {s : List ℕ} {items : ℕ} {index : List ℕ} (j : Judged s items index) (notes : List ℕ) (node item : ℕ) (inside : item < items) where
   abbrev first : ℕ

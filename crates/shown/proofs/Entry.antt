@@ -1,11 +1,10 @@
--- For a call: what it has read makes a case, and what is worked out is the degree that is answered.
+-- For a call: what it has read is gradable, and what is worked out is the degree that is answered.
 -- Assumes nothing.
 use mathlib.Core.Path.{_≡_, sym, ap₂, _∙_}
 use mathlib.Core.List.{List}
 use Prim.Native.Nat.{ℕ, _≤_, _<_}
-use native.Mathlib.Nat.{le-trans, le-of-eq}
 use lib.ListN.{length, getD}
-use Rattle.meaning.specs.Bytes.{Bytes}
+use Rattle.meaning.specs.Bounds.{mostNodes, mostSize, mostScale}
 use Rattle.meaning.specs.Refusal.{good}
 use Rattle.meaning.specs.Tree.{Concept}
 use Rattle.meaning.specs.Register.{Register, readBuffer, judged}
@@ -14,12 +13,11 @@ use Rattle.meaning.specs.Reduce.{reduce}
 use Rattle.meaning.specs.Degree.{answered}
 use Rattle.meaning.specs.InPlace.{sizeIn, scaleIn}
 use Rattle.meaning.specs.Rows.{Holds, Marked}
-use Rattle.meaning.proofs.Image.{image-fits}
 use Rattle.meaning.proofs.Bound.{scale-bound}
 use Rattle.meaning.proofs.InPlace.{size-in, scale-in, degree-in}
+use Rattle.register.specs.Image.{OfSize}
 use Rattle.shown.specs.declared.Degree.{Degree}
-use Rattle.shown.specs.Case.{Case}
-use Rattle.meaning.specs.Bounds.{mostSize, mostScale}
+use Rattle.degrees.specs.Gradable.{Gradable}
 use Rattle.shown.specs.Given.{Graded}
 use Rattle.degrees.proofs.Folding.{scale-in-pos, degree-in-le}
 
@@ -27,19 +25,13 @@ use Rattle.degrees.proofs.Folding.{scale-in-pos, degree-in-le}
 pub scale-small : (t : Concept) → sizeIn t ≤ mostSize → scaleIn t ≤ mostScale
 scale-small t h = rw (← scale-in t) (scale-bound (reduce t) (rw (size-in t) h))
 
-abbrev pub case-of : {s : List ℕ} {names roles ends marks : List ℕ} {items links node left : ℕ} (g : Register) (t : Concept) → Bytes s → readBuffer s ≡ good g
+abbrev pub gradable-of : {s : List ℕ} {names roles ends marks : List ℕ} {items links node left : ℕ} (g : Register) (t : Concept) → readBuffer s ≡ good g
     → items ≡ length (g .names) → links ≡ length (g .links) → Holds names roles ends t left node (getD ends node 0) → Marked ends marks t node
-    → getD ends node 0 ≤ 64 → sizeIn t ≤ mostSize → Case s items links names roles ends marks node left
-case-of {s} g t b h ei el held marked few small = record {
-  register = g;
-  read = h;
-  items-are = ei;
-  links-are = el;
-  most = le-trans (le-of-eq ei) (image-fits s g b h .0 .items);
+    → getD ends node 0 ≤ mostNodes → sizeIn t ≤ mostSize → Gradable (OfSize s items links) names roles ends marks node left
+gradable-of g t h ei el held marked few small = record {
   tree = t;
-  held = held;
+  posed = record { graph = record { register = g; read = h; holds = (ei, el) }; held = held; few = few };
   marked = marked;
-  few = few;
   small = scale-small t small;
 }
 

@@ -8,7 +8,6 @@ use mathlib.Core.Option.{none as nowhere}
 use Prim.Native.Nat.{ℕ, zero, suc, _+_, _-_, _≤_, _<_}
 use native.Mathlib.Nat.{le-trans}
 use native.Mathlib.Numerals.{add-one}
-use native.Mathlib.Decide.{ℕ-discrete}
 use native.Mathlib.Omega.{arith}
 use lib.ListN.{length, getD, set, replicate, length-map, length-replicate}
 use lib.Dec.{lit≤}
@@ -30,7 +29,9 @@ use Rattle.meaning.proofs.Rows.{opened, first, ran-out, holds-nodes}
 use Rattle.graph.proofs.Use.{next-inside}
 use Rattle.degrees.specs.Notes.{Note, Noted, NotedF}
 use Rattle.degrees.proofs.Folding.{mark-zero, mark-other}
-use Rattle.shown.specs.Given.{placeOf, Inside, drawn, Drawing}
+use Rattle.graph.specs.Judged.{Judged}
+use Rattle.graph.specs.Posed.{placeOf}
+use Rattle.shown.specs.Given.{Inside, drawn, Drawing}
 
 -- ---- stores one after the other
 
@@ -153,7 +154,7 @@ place-fits items nowhere l h = lit≤ tt
 place-fits items (some x) l h = omega arith
 
 -- what is shown for the children of a root that is drawn
-abbrev children-drawn : Graph ℕ → Concept → ℕ → Option ℕ → List ℕ → List ℕ
+abbrev pub children-drawn : Graph ℕ → Concept → ℕ → Option ℕ → List ℕ → List ℕ
 children-drawn G t i o m = sets m (i + 1) (map markNumber (shownF G (children t) none o))
 
 start : (names roles ends marks : List ℕ) (g : Register) (notes : List ℕ) (t : Concept) (left i e : ℕ) (o : Option ℕ) (m : List ℕ)
@@ -166,16 +167,17 @@ start names roles ends marks g notes (node a f) left i e o m h k s =
 root-drawn : (G : Graph ℕ) (t : Concept) (i : ℕ) (o : Option ℕ) (m : List ℕ) (v : ℕ) → v ≡ placeOf o
     → children-drawn G t i o (set m i v) ≡ sets m i (map markNumber (shown G t o))
 unfolding shown
-root-drawn G (node a f) i o m v e = rw (e, add-one i)
+root-drawn G (node a f) i nowhere m v e = rw (e, add-one i)
+root-drawn G (node a f) i (some x) m v e = rw (e, add-one i)
 
 module _ {s : List ℕ} {items : ℕ} {index ends marks notes : List ℕ} {node left item : ℕ} (k : Drawing s items index ends marks notes node left item) where
   pub drawing-here : (0 < left) × (node < 64) × (node < getD ends node 0)
   drawing-here =
-      let q = opened (k .names) (k .roles) ends (k .tree) left node (getD ends node 0) (k .held) in
-      (q .deep, let l = q .inside in let m = k .few in omega arith, q .inside)
+      let q = opened (k .names) (k .roles) ends (k .tree) left node (getD ends node 0) (k .posed .held) in
+      (q .deep, let l = q .inside in let m = k .posed .few in omega arith, q .inside)
 
   pub drawing-fits : item < 65536
-  drawing-fits = rw (k .same) (place-fits items (k .to) (k .graph .most) (k .inside))
+  drawing-fits = rw (k .same) (place-fits items (k .to) (k .posed .graph .most) (k .inside))
 
   -- an item, where it is not nowhere
   pub drawing-inside : (item ≡ 65535 → ⊥) → item < items
@@ -188,80 +190,132 @@ module _ {s : List ℕ} {items : ℕ} {index ends marks notes : List ℕ} {node 
   -- the children from row c on are left, and the node goes to o
   abbrev pub Traced : List ℕ → ℕ → List ℕ → Type 0
   Traced old c new =
-      Drawn (k .names) (k .roles) ends marks (k .graph .register) notes (left - 1) (getD ends node 0) (k .to)
-      (children-drawn (judged (k .graph .register)) (k .tree) node (k .to) old) c new
+      Drawn (k .names) (k .roles) ends marks (k .posed .graph .register) notes (left - 1) (getD ends node 0) (k .to)
+      (children-drawn (judged (k .posed .graph .register)) (k .tree) node (k .to) old) c new
 
   pub trace-start : (m : List ℕ) → Traced m (node + 1) m
   trace-start m =
-      start (k .names) (k .roles) ends marks (k .graph .register) notes (k .tree) left node (getD ends node 0) (k .to) m (k .held) (k .marked) (k .noted)
+      start (k .names) (k .roles) ends marks (k .posed .graph .register) notes (k .tree) left node (getD ends node 0) (k .to) m (k .posed .held) (k .marked) (k .noted)
 
   pub trace-end : (m : List ℕ) (v c : ℕ) (new : List ℕ) → v ≡ item → Traced (set m node v) c new → getD ends node 0 ≤ c
-      → new ≡ drawn (k .graph .register) (k .tree) node (k .to) m
-  trace-end m v c new e w l = drawn-end w l ∙ root-drawn (judged (k .graph .register)) (k .tree) node (k .to) m v (e ∙ k .same)
+      → new ≡ drawn (k .posed .graph .register) (k .tree) node (k .to) m
+  trace-end m v c new e w l = drawn-end w l ∙ root-drawn (judged (k .posed .graph .register)) (k .tree) node (k .to) m v (e ∙ k .same)
 
-  -- a child that is kept, and goes where the notes say
-  module _ (b : Bytes s) {final : List ℕ} {c : ℕ} {new : List ℕ}
-      (w : Drawn (k .names) (k .roles) ends marks (k .graph .register) notes (left - 1) (getD ends node 0) (k .to) final c new)
-      (l : c < getD ends node 0) (m : getD marks c 0 ≡ 0 → ⊥) (next : ℕ)
-      (onward : (o : Option ℕ) → (item ≡ 65535 → o ≡ nowhere) → ((item ≡ 65535 → ⊥) → Note (k .graph .register) notes c item o) → next ≡ placeOf o) where
-    abbrev pub child : Child (k .names) (k .roles) ends marks (k .graph .register) notes (left - 1) (getD ends node 0) (k .to) final c new
-    child = drawn-child w l m
+-- ---- all children, one after the other
 
-    -- where it goes, and what is known there
-    pub record Going (o : Option ℕ) : Type 0 where
-      pub inside : Inside items o
-      pub lost : item ≡ 65535 → o ≡ nowhere
-      pub note : (item ≡ 65535 → ⊥) → Note (k .graph .register) notes c item o
-      pub noted : (y : ℕ) → o ≡ some y → Noted ends marks (k .graph .register) notes (child .tree) c y
+module _ (s : List ℕ) (items : ℕ) (index ends marks notes : List ℕ) (node left item : ℕ) where
+  -- the children from row c on are left, and the last of all ends at row e
+  pub record Walk (old : List ℕ) (e : ℕ) (new : List ℕ) (c : ℕ) : Type 0 where
+    pub bytes : Bytes s
+    pub asked : Drawing s items index ends marks notes node left item
+    pub ended : e ≡ getD ends node 0
+    pub room : e ≤ length new
+    pub long : length new ≡ length old
+    pub each : (k : Drawing s items index ends marks notes node left item) → Traced k old c new
 
-    from : (p : Option ℕ) → Inside items p → item ≡ placeOf p → k .to ≡ p → Going (goesTo (judged (k .graph .register)) p (getD (k .roles) c 0) (child .tree))
-    unfolding goesTo
-    from nowhere i e q = record {
-      inside = tt;
-      lost = λ z. refl;
-      note = λ z. absurd (z e);
-      noted = λ y z. absurd (let x : _≡_ {A = ℕ} 0 1 = cc in omega arith);
-    }
-    from (some x) i e q =
-        rw (goes-some (judged (k .graph .register)) x (getD (k .roles) c 0) (child .tree)) (record {
-          inside = stays (pick v ys) refl;
-          lost = λ z. absurd (let y : item ≡ 65535 = z in let r = k .graph .most in omega arith);
-          note = λ z. rw e (child .noted x q .0);
-          noted = λ y z. child .noted x q .1 y (pick-some v ys y z .0);
-        })
-      where
-        v : ℕ → ℕ
-        v y = degreeIn (judged (k .graph .register)) (child .tree) y
+module _ {s : List ℕ} {items : ℕ} {index ends marks notes : List ℕ} {node left item : ℕ} {old : List ℕ} {e : ℕ} {new : List ℕ} {c : ℕ}
+    (w : Walk s items index ends marks notes node left item old e new c) where
+  abbrev Next : ℕ → List ℕ → Type 0
+  Next j after = Walk s items index ends marks notes node left item old e after j
 
-        ys : List ℕ
-        ys = judged (k .graph .register) .next x (getD (k .roles) c 0)
+  module _ (l : c < e) where
+    pub below : c < getD ends node 0
+    below = omega (arith, w .ended)
 
-        stays : (p : Option ℕ) → pick v ys ≡ p → Inside items p
-        stays nowhere z = tt
-        stays (some y) z = next-inside (k .graph) b x (getD (k .roles) c 0) y (pick-some v ys y z .0)
+    pub inside : (c < getD ends c 0) × (getD ends c 0 ≤ getD ends node 0)
+    inside = drawn-next (w .each (w .asked)) below
 
-    pub going : Going (goesTo (judged (k .graph .register)) (k .to) (getD (k .roles) c 0) (child .tree))
-    going = from (k .to) (k .inside) (k .same) refl
+    pub walk-low : c < 64
+    walk-low = omega (arith, below, w .asked .posed .few)
 
-    abbrev pub trace-child : Drawing s items index ends marks notes c (left - 1) next
-    trace-child = record {
-      graph = k .graph;
-      names = k .names;
-      roles = k .roles;
-      tree = child .tree;
-      held = child .held;
-      marked = child .marked;
-      few = le-trans (drawn-next w l .1) (k .few);
-      places = k .places;
-      to = goesTo (judged (k .graph .register)) (k .to) (getD (k .roles) c 0) (child .tree);
-      inside = going .inside;
-      same = onward _ (going .lost) (going .note);
-      noted = going .noted;
+    pub walk-less : (j : ℕ) → j ≡ getD ends c 0 → e - j < e - c
+    walk-less j ej = omega (arith, inside .0)
+
+    pub walk-rows : (j : ℕ) → j ≡ getD ends c 0 → (c ≤ j) × (j ≤ length new)
+    walk-rows j ej = (omega (arith, inside .0), omega (arith, inside .1, w .ended, w .room))
+
+    next : (j : ℕ) (after : List ℕ) → length after ≡ length new → ((k : Drawing s items index ends marks notes node left item) → Traced k old j after) → Next j after
+    next j after size each = record {
+      bytes = w .bytes;
+      asked = w .asked;
+      ended = w .ended;
+      room = omega (arith, w .room);
+      long = size ∙ w .long;
+      each = each;
     }
 
-    pub trace-next : (j : ℕ) → j ≡ getD ends c 0 → (new′ : List ℕ) → new′ ≡ drawn (k .graph .register) (trace-child .tree) c (trace-child .to) new
-        → Drawn (k .names) (k .roles) ends marks (k .graph .register) notes (left - 1) (getD ends node 0) (k .to) final j new′
-    trace-next j ej new′ e = drawn-is (child .then j ej) e
+    -- the child is dropped
+    pub walk-skip : getD marks c 0 ≡ 0 → (j : ℕ) → j ≡ getD ends c 0 → (after : List ℕ) → length after ≡ length new → after ≡ sets new c (replicate (j - c) 65534) → Next j after
+    walk-skip m j ej after size is = next j after size (λ k. drawn-is (drawn-skip (w .each k) below m j ej) is)
+
+    pub walk-onward : ((j : Judged s items index) × (length (j .register .links) ≤ length notes)) × (((item ≡ 65535 → ⊥) → item < items) × (c < 64))
+    walk-onward = ((w .asked .posed .graph, w .asked .places), (drawing-inside (w .asked), walk-low))
+
+    -- it is kept, and goes where the notes say
+    module _ (m : getD marks c 0 ≡ 0 → ⊥) (place : ℕ)
+        (onward : (j : Judged s items index) (o : Option ℕ) → (item ≡ 65535 → o ≡ nowhere) → ((item ≡ 65535 → ⊥) → Note (j .register) notes c item o) → place ≡ placeOf o) where
+      module _ (k : Drawing s items index ends marks notes node left item) where
+        abbrev pub child : Child (k .names) (k .roles) ends marks (k .posed .graph .register) notes (left - 1) (getD ends node 0) (k .to)
+            (children-drawn (judged (k .posed .graph .register)) (k .tree) node (k .to) old) c new
+        child = drawn-child (w .each k) below m
+
+        -- where it goes, and what is known there
+        pub record Going (o : Option ℕ) : Type 0 where
+          pub inside : Inside items o
+          pub lost : item ≡ 65535 → o ≡ nowhere
+          pub note : (item ≡ 65535 → ⊥) → Note (k .posed .graph .register) notes c item o
+          pub noted : (y : ℕ) → o ≡ some y → Noted ends marks (k .posed .graph .register) notes (child .tree) c y
+
+        from : (p : Option ℕ) → Inside items p → item ≡ placeOf p → k .to ≡ p → Going (goesTo (judged (k .posed .graph .register)) p (getD (k .roles) c 0) (child .tree))
+        unfolding goesTo
+        from nowhere i e q = record {
+          inside = tt;
+          lost = λ z. refl;
+          note = λ z. absurd (z e);
+          noted = λ y z. absurd (let x : _≡_ {A = ℕ} 0 1 = cc in omega arith);
+        }
+        from (some x) i e q =
+            rw (goes-some (judged (k .posed .graph .register)) x (getD (k .roles) c 0) (child .tree)) (record {
+              inside = stays (pick v ys) refl;
+              lost = λ z. absurd (let y : item ≡ 65535 = z in let r = k .posed .graph .most in omega arith);
+              note = λ z. subst (λ (y : ℕ). Note (k .posed .graph .register) notes c y (pick v ys)) (sym e) (child .noted x q .0);
+              noted = λ y z. child .noted x q .1 y (pick-some v ys y z .0);
+            })
+          where
+            v : ℕ → ℕ
+            v y = degreeIn (judged (k .posed .graph .register)) (child .tree) y
+
+            ys : List ℕ
+            ys = judged (k .posed .graph .register) .next x (getD (k .roles) c 0)
+
+            stays : (p : Option ℕ) → pick v ys ≡ p → Inside items p
+            stays nowhere z = tt
+            stays (some y) z = next-inside (k .posed .graph) (w .bytes) x (getD (k .roles) c 0) y (pick-some v ys y z .0)
+
+        pub going : Going (goesTo (judged (k .posed .graph .register)) (k .to) (getD (k .roles) c 0) (child .tree))
+        going = from (k .to) (k .inside) (k .same) refl
+
+        abbrev pub child-of : Drawing s items index ends marks notes c (left - 1) place
+        child-of = record {
+          names = k .names;
+          roles = k .roles;
+          tree = child .tree;
+          posed = record { graph = k .posed .graph; held = child .held; few = le-trans (inside .1) (k .posed .few) };
+          marked = child .marked;
+          places = k .places;
+          to = goesTo (judged (k .posed .graph .register)) (k .to) (getD (k .roles) c 0) (child .tree);
+          inside = going .inside;
+          same = onward (k .posed .graph) _ (going .lost) (going .note);
+          noted = going .noted;
+        }
+
+      pub walk-child : Drawing s items index ends marks notes c (left - 1) place × (getD ends c 0 ≤ length new)
+      walk-child = (child-of (w .asked), walk-rows _ refl .1)
+
+      pub walk-next : (j : ℕ) → j ≡ getD ends c 0 → (after : List ℕ) → length after ≡ length new
+          → ((k : Drawing s items index ends marks notes c (left - 1) place) → after ≡ drawn (k .posed .graph .register) (k .tree) c (k .to) new) → Next j after
+      walk-next j ej after size shows =
+          next j after size (λ k. drawn-is (child k .then j ej) (shows (child-of k)))
 
 -- ---- a dropped child
 

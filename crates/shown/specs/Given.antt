@@ -5,21 +5,17 @@ use mathlib.Core.List.{List, map}
 use mathlib.Core.Option.{Option, some}
 use mathlib.Core.Option.{none as nowhere}
 use Prim.Native.Nat.{ℕ, _≤_, _<_}
-use lib.ListN.{length, getD}
+use lib.ListN.{length}
 use lib.Seq.{sets}
-use Rattle.meaning.specs.Bounds.{mostNodes}
 use Rattle.meaning.specs.Tree.{Concept}
 use Rattle.meaning.specs.Register.{Register, judged}
 use Rattle.meaning.specs.InPlace.{scaleIn, degreeIn}
-use Rattle.meaning.specs.Rows.{Holds, Marked}
-use Rattle.meaning.specs.Shown.{goes, shown, markNumber}
+use Rattle.meaning.specs.Rows.{Marked}
+use Rattle.meaning.specs.Shown.{shown, markNumber}
 use Rattle.graph.specs.Judged.{Judged}
+use Rattle.graph.specs.Posed.{Posed, placeOf}
 use Rattle.degrees.specs.Notes.{Noted}
 use Rattle.shown.specs.declared.Degree.{Degree}
-
--- a place in the map: an item, or nowhere
-abbrev pub placeOf : Option ℕ → ℕ
-placeOf o = markNumber (goes o)
 
 -- one of so many items, where it is one
 abbrev pub Inside : ℕ → Option ℕ → Type 0
@@ -37,15 +33,13 @@ pub record Graded (g : Register) (t : Concept) (x : ℕ) (d : Degree) : Type 0 w
 
 -- What is to be drawn: rows that hold a tree, whose root goes to an item or nowhere, and notes for all links that say where its kept nodes go.
 pub record Drawing (s : List ℕ) (items : ℕ) (index ends marks notes : List ℕ) (node left item : ℕ) : Type 0 where
-  pub graph : Judged s items index
   pub names : List ℕ
   pub roles : List ℕ
   pub tree : Concept
-  pub held : Holds names roles ends tree left node (getD ends node 0)
+  pub posed : Posed (Judged s items index) names roles ends tree node left
   pub marked : Marked ends marks tree node
-  pub few : getD ends node 0 ≤ mostNodes
-  pub places : length (graph .register .links) ≤ length notes
+  pub places : length (posed .graph .register .links) ≤ length notes
   pub to : Option ℕ
   pub inside : Inside items to
   pub same : item ≡ placeOf to
-  pub noted : (x : ℕ) → to ≡ some x → Noted ends marks (graph .register) notes tree node x
+  pub noted : (x : ℕ) → to ≡ some x → Noted ends marks (posed .graph .register) notes tree node x

@@ -7,11 +7,12 @@ ghost use mathlib.Core.Option.{none as nowhere};
 ghost use Prim.Native.Nat.{ℕ, _+_, _-_, _≤_, _<_};
 ghost use lib.ListN.{length, getD, replicate};
 ghost use lib.Seq.{sets as stored};
+ghost use Rattle.register.specs.Image.{OfSize};
 ghost use Rattle.graph.specs.Judged.{Judged};
-ghost use Rattle.degrees.specs.Case.{Case as Rows};
+ghost use Rattle.degrees.specs.Gradable.{Gradable};
 ghost use Rattle.degrees.specs.Notes.{Note, Noted, Clear};
-ghost use Rattle.shown.specs.Case.{Case};
-ghost use Rattle.shown.specs.Given.{placeOf, drawn, Graded, Drawing};
+ghost use Rattle.graph.specs.Posed.{placeOf};
+ghost use Rattle.shown.specs.Given.{drawn, Graded, Drawing};
 
 // A degree: a whole number over a scale.
 pub struct Degree {
@@ -77,7 +78,7 @@ fn show(
     requires { ⌜ Drawing (now s) items (now index) (now ends) (now marks) (now notes) node left item ⌝ }
     requires { ⌜ getD (now ends) node 0 ≤ length (now map) ⌝ }
     ensures { λ _. ⌜ ((k : Drawing (now (s .entry)) items (now (index .entry)) (now (ends .entry)) (now (marks .entry)) (now (notes .entry)) node left item)
-        → now (map .exit) ≡ drawn (k .graph .register) (k .tree) node (k .to) (now (map .entry))) ⌝ }
+        → now (map .exit) ≡ drawn (k .posed .graph .register) (k .tree) node (k .to) (now (map .entry))) ⌝ }
 {
     map[node] = item as u16;
     let e = fields::octet(ends[node]);
@@ -108,10 +109,10 @@ fn graded(
     item: usize,
     notes: &mut [u64],
 ) -> Degree
-    requires { ⌜ Rows (now s) items (now index) (now names) (now roles) (now ends) (now marks) node left ⌝ }
+    requires { ⌜ Gradable (Judged (now s) items (now index)) (now names) (now roles) (now ends) (now marks) node left ⌝ }
     requires { ⌜ (item < items) × Clear (now notes) (node + 1) (getD (now ends) node 0) ⌝ }
-    ensures { λ r. ⌜ ((k : Rows (now (s .entry)) items (now (index .entry)) (now (names .entry)) (now (roles .entry)) (now (ends .entry)) (now (marks .entry)) node left)
-        → Graded (k .graph .register) (k .tree) item r × Noted (now (ends .entry)) (now (marks .entry)) (k .graph .register) (now (notes .exit)) (k .tree) node item) ⌝ }
+    ensures { λ r. ⌜ ((k : Gradable (Judged (now (s .entry)) items (now (index .entry))) (now (names .entry)) (now (roles .entry)) (now (ends .entry)) (now (marks .entry)) node left)
+        → Graded (k .posed .graph .register) (k .tree) item r × Noted (now (ends .entry)) (now (marks .entry)) (k .posed .graph .register) (now (notes .exit)) (k .tree) node item) ⌝ }
 {
     let mut set = [0u64; 8];
     sets::include(&mut set[..8], item);
@@ -150,10 +151,10 @@ pub fn degree_at(
     left: usize,
     item: usize,
 ) -> Degree
-    requires { ⌜ Case (now s) items links (now names) (now roles) (now ends) (now marks) node left ⌝ }
+    requires { ⌜ Gradable (OfSize (now s) items links) (now names) (now roles) (now ends) (now marks) node left ⌝ }
     requires { ⌜ item < items ⌝ }
-    ensures { λ r. ⌜ ((k : Case (now (s .entry)) items links (now (names .entry)) (now (roles .entry)) (now (ends .entry)) (now (marks .entry)) node left)
-        → Graded (k .register) (k .tree) item r) ⌝ }
+    ensures { λ r. ⌜ ((k : Gradable (OfSize (now (s .entry)) items links) (now (names .entry)) (now (roles .entry)) (now (ends .entry)) (now (marks .entry)) node left)
+        → Graded (k .posed .graph .register) (k .tree) item r) ⌝ }
 {
     let mut index = [0u16; 513];
     graph::fill_index(s, items, links, &mut index[..513]);
@@ -188,11 +189,11 @@ fn drawn_with(
     notes: &mut [u64],
     map: &mut [u16],
 ) -> Degree
-    requires { ⌜ Case (now s) items links (now names) (now roles) (now ends) (now marks) node left ⌝ }
+    requires { ⌜ Gradable (OfSize (now s) items links) (now names) (now roles) (now ends) (now marks) node left ⌝ }
     requires { ⌜ (getD (now ends) node 0 ≤ length (now map)) × (item < items) ⌝ }
     requires { ⌜ (links ≤ length (now notes)) × ((k : ℕ) → getD (now notes) k 0 ≡ 0) ⌝ }
-    ensures { λ r. ⌜ ((k : Case (now (s .entry)) items links (now (names .entry)) (now (roles .entry)) (now (ends .entry)) (now (marks .entry)) node left)
-        → Graded (k .register) (k .tree) item r × (now (map .exit) ≡ drawn (k .register) (k .tree) node (some item) (now (map .entry)))) ⌝ }
+    ensures { λ r. ⌜ ((k : Gradable (OfSize (now (s .entry)) items links) (now (names .entry)) (now (roles .entry)) (now (ends .entry)) (now (marks .entry)) node left)
+        → Graded (k .posed .graph .register) (k .tree) item r × (now (map .exit) ≡ drawn (k .posed .graph .register) (k .tree) node (some item) (now (map .entry)))) ⌝ }
 {
     let mut index = [0u16; 513];
     graph::fill_index(s, items, links, &mut index[..513]);
@@ -238,10 +239,10 @@ pub fn shown_at(
     item: usize,
     map: &mut [u16],
 ) -> Degree
-    requires { ⌜ Case (now s) items links (now names) (now roles) (now ends) (now marks) node left ⌝ }
+    requires { ⌜ Gradable (OfSize (now s) items links) (now names) (now roles) (now ends) (now marks) node left ⌝ }
     requires { ⌜ (getD (now ends) node 0 ≤ length (now map)) × (item < items) ⌝ }
-    ensures { λ r. ⌜ ((k : Case (now (s .entry)) items links (now (names .entry)) (now (roles .entry)) (now (ends .entry)) (now (marks .entry)) node left)
-        → Graded (k .register) (k .tree) item r × (now (map .exit) ≡ drawn (k .register) (k .tree) node (some item) (now (map .entry)))) ⌝ }
+    ensures { λ r. ⌜ ((k : Gradable (OfSize (now (s .entry)) items links) (now (names .entry)) (now (roles .entry)) (now (ends .entry)) (now (marks .entry)) node left)
+        → Graded (k .posed .graph .register) (k .tree) item r × (now (map .exit) ≡ drawn (k .posed .graph .register) (k .tree) node (some item) (now (map .entry)))) ⌝ }
 {
     if links <= 512 {
         return shown_small(
@@ -287,10 +288,10 @@ fn shown_small(
     item: usize,
     map: &mut [u16],
 ) -> Degree
-    requires { ⌜ Case (now s) items links (now names) (now roles) (now ends) (now marks) node left ⌝ }
+    requires { ⌜ Gradable (OfSize (now s) items links) (now names) (now roles) (now ends) (now marks) node left ⌝ }
     requires { ⌜ (getD (now ends) node 0 ≤ length (now map)) × (item < items) × (links ≤ 512) ⌝ }
-    ensures { λ r. ⌜ ((k : Case (now (s .entry)) items links (now (names .entry)) (now (roles .entry)) (now (ends .entry)) (now (marks .entry)) node left)
-        → Graded (k .register) (k .tree) item r × (now (map .exit) ≡ drawn (k .register) (k .tree) node (some item) (now (map .entry)))) ⌝ }
+    ensures { λ r. ⌜ ((k : Gradable (OfSize (now (s .entry)) items links) (now (names .entry)) (now (roles .entry)) (now (ends .entry)) (now (marks .entry)) node left)
+        → Graded (k .posed .graph .register) (k .tree) item r × (now (map .exit) ≡ drawn (k .posed .graph .register) (k .tree) node (some item) (now (map .entry)))) ⌝ }
 {
     let mut notes = [0u64; 512];
     drawn_with(
@@ -323,10 +324,10 @@ fn shown_large(
     item: usize,
     map: &mut [u16],
 ) -> Degree
-    requires { ⌜ Case (now s) items links (now names) (now roles) (now ends) (now marks) node left ⌝ }
+    requires { ⌜ Gradable (OfSize (now s) items links) (now names) (now roles) (now ends) (now marks) node left ⌝ }
     requires { ⌜ (getD (now ends) node 0 ≤ length (now map)) × (item < items) × (links ≤ 4096) ⌝ }
-    ensures { λ r. ⌜ ((k : Case (now (s .entry)) items links (now (names .entry)) (now (roles .entry)) (now (ends .entry)) (now (marks .entry)) node left)
-        → Graded (k .register) (k .tree) item r × (now (map .exit) ≡ drawn (k .register) (k .tree) node (some item) (now (map .entry)))) ⌝ }
+    ensures { λ r. ⌜ ((k : Gradable (OfSize (now (s .entry)) items links) (now (names .entry)) (now (roles .entry)) (now (ends .entry)) (now (marks .entry)) node left)
+        → Graded (k .posed .graph .register) (k .tree) item r × (now (map .exit) ≡ drawn (k .posed .graph .register) (k .tree) node (some item) (now (map .entry)))) ⌝ }
 {
     let mut notes = [0u64; 4096];
     drawn_with(

@@ -6,7 +6,7 @@ use Rattle.asking.proofs.degree_of.Tie as tie
 use native.Mathlib.Omega.{arith}
 use Rattle.fields.proofs.Known.{bytes-known}
 use Rattle.shown.proofs.Entry.{graded-fits}
-use Rattle.asking.proofs.Calls.{degree-stopped, case, room, degree-no-item, degree-no-room, degree-answer}
+use Rattle.asking.proofs.Calls.{degree-stopped, gradable, room, degree-no-item, degree-no-room, degree-answer}
 
 read-both-requires : tie.Need-read-both-requires
 read-both-requires c κs = search needs
@@ -58,7 +58,7 @@ shown-at-requires c κs =
     let item = start .args .item in
     let done = at-read-both .read-both .ensures in
     let told = at-b .b .given .1 in
-    let k = case image message item _ _ done _ _ _ told (bytes-known image (at-shared-slice-known .shared-slice-known .given)) in
+    let k = gradable image message item _ _ done _ _ _ told (bytes-known image (at-shared-slice-known .shared-slice-known .given)) in
     (k, (room image message item _ _ done _ _ _ told (omega (arith, at-if2 .if2 .left)), omega (arith, at-if1 .if1 .left)))
 
 lowest-requires : tie.Need-lowest-requires
@@ -72,8 +72,8 @@ lowest-requires c κs =
     let item = start .args .item in
     let done = at-read-both .read-both .ensures in
     let told = at-b .b .given .1 in
-    let k = case image message item _ _ done _ _ _ told (bytes-known image (at-shared-slice-known .shared-slice-known .given)) in
-    graded-fits (k .register) (k .tree) item _ (c .before .before .shown-at .ensures k .0) .0
+    let k = gradable image message item _ _ done _ _ _ told (bytes-known image (at-shared-slice-known .shared-slice-known .given)) in
+    graded-fits (k .posed .graph .register) (k .tree) item _ (c .before .before .shown-at .ensures k .0) .0
 
 enum-known-b-2 : tie.Need-enum-known-b-2
 enum-known-b-2 c = search needs
@@ -95,7 +95,7 @@ returns-3 c =
     let item = start .args .item in
     let done = at-read-both .read-both .ensures in
     let told = at-b .b .given .1 in
-    let k = case image message item _ _ done _ _ _ told (bytes-known image (at-shared-slice-known .shared-slice-known .given)) in
+    let k = gradable image message item _ _ done _ _ _ told (bytes-known image (at-shared-slice-known .shared-slice-known .given)) in
     degree-answer image message item _ _ done _ _ _ told (omega (arith, at-if1 .if1 .left)) _ _ (omega (arith, at-if2 .if2 .left)) _ _ (at-shown-at .shown-at .ensures k .0)
     (c .lowest .ensures) (at-shown-at .shown-at .ensures k .1)
 

@@ -6,7 +6,7 @@ use Rattle.asking.proofs.margin_of.Tie as tie
 use native.Mathlib.Omega.{arith}
 use Rattle.fields.proofs.Known.{bytes-known}
 use Rattle.shown.proofs.Entry.{graded-fits}
-use Rattle.asking.proofs.Calls.{margin-stopped, case, margin-no-item, margin-no-threshold, margin-small, margin-answer}
+use Rattle.asking.proofs.Calls.{margin-stopped, gradable, margin-no-item, margin-no-threshold, margin-small, margin-answer}
 
 read-both-requires : tie.Need-read-both-requires
 read-both-requires c κs = search needs
@@ -61,7 +61,7 @@ degree-at-requires c κs =
     let item = start .args .item in
     let done = at-read-both .read-both .ensures in
     let told = at-b .b .given .1 in
-    let k = case image message item _ _ done _ _ _ told (bytes-known image (at-shared-slice-known .shared-slice-known .given)) in
+    let k = gradable image message item _ _ done _ _ _ told (bytes-known image (at-shared-slice-known .shared-slice-known .given)) in
     (k, omega (arith, at-if1 .if1 .left))
 
 lowest-requires : tie.Need-lowest-requires
@@ -75,8 +75,8 @@ lowest-requires c κs =
     let item = start .args .item in
     let done = at-read-both .read-both .ensures in
     let told = at-b .b .given .1 in
-    let k = case image message item _ _ done _ _ _ told (bytes-known image (at-shared-slice-known .shared-slice-known .given)) in
-    graded-fits (k .register) (k .tree) item _ (c .degree-at .ensures k) .0
+    let k = gradable image message item _ _ done _ _ _ told (bytes-known image (at-shared-slice-known .shared-slice-known .given)) in
+    graded-fits (k .posed .graph .register) (k .tree) item _ (c .degree-at .ensures k) .0
 
 against-requires : tie.Need-against-requires
 against-requires c κs =
@@ -91,7 +91,7 @@ against-requires c κs =
     let item = start .args .item in
     let done = at-read-both .read-both .ensures in
     let told = at-b .b .given .1 in
-    let k = case image message item _ _ done _ _ _ told (bytes-known image (at-shared-slice-known .shared-slice-known .given)) in
+    let k = gradable image message item _ _ done _ _ _ told (bytes-known image (at-shared-slice-known .shared-slice-known .given)) in
     margin-small image message item _ _ done _ _ _ told _ _ _ (at-wrong .wrong .ensures) (at-if2 .if2 .left) _ _ (c .before .degree-at .ensures k) (c .lowest .ensures)
 
 enum-known-b-2 : tie.Need-enum-known-b-2
@@ -112,7 +112,7 @@ returns-3 c =
     let item = start .args .item in
     let done = at-read-both .read-both .ensures in
     let told = at-b .b .given .1 in
-    let k = case image message item _ _ done _ _ _ told (bytes-known image (at-shared-slice-known .shared-slice-known .given)) in
+    let k = gradable image message item _ _ done _ _ _ told (bytes-known image (at-shared-slice-known .shared-slice-known .given)) in
     let rule = at-wrong .wrong .ensures in
     let graded = at-degree-at .degree-at .ensures k in
     let low = c .before .before .lowest .ensures in

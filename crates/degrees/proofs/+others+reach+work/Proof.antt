@@ -12,25 +12,23 @@ use Rattle.degrees.proofs.work.Kinds as work-kinds
 use Rattle.degrees.proofs.+others+reach+work.Lts-work as work-lts
 use Rattle.folds.proofs.alone.Reads as alone-reads
 use Rattle.folds.proofs.fold.Reads as fold-reads
-use Rattle.degrees.proofs.heaviest.Reads as heaviest-reads
+use Rattle.heaviest.proofs.heaviest.Reads as heaviest-reads
 use Rattle.folds.proofs.own.Reads as own-reads
-use Rattle.degrees.proofs.passed.Reads as passed-reads
+use Rattle.heaviest.proofs.passed.Reads as passed-reads
 use Rattle.fields.proofs.octet.Reads as octet-reads
 use Rattle.fields.proofs.quad.Reads as quad-reads
 use Rattle.graph.proofs.spread.Reads as spread-reads
 use Rattle.degrees.proofs.+others+reach+work.{statement}
 use Rattle.degrees.proofs.+others+reach+work.Tie.{close}
-use mathlib.Core.Path.{_≡_, refl, sym, subst, _∙_}
-use Prim.Native.Nat.{_+_, _-_, _*_, _≤_}
+use mathlib.Core.Path.{refl, sym, subst, _∙_}
+use Prim.Native.Nat.{_+_, _-_, _*_}
 use native.Mathlib.Omega.{arith}
-use lib.ListN.{length}
 use Rattle.graph.proofs.Empty.{among-none}
-use Rattle.degrees.specs.Case.{Case, Member}
-use Rattle.degrees.specs.Heavy.{Heavy, Headed}
-use Rattle.degrees.proofs.Reaching.{written, here, asked-items, room-here, reach-done}
-use Rattle.degrees.proofs.Head.{alone-done, heavy-case, heavy-low, heavy-clear, heavy-room, heavy-two, heavy-folding, heavy-own, heavy-headed, heavy-done}
-use Rattle.degrees.proofs.Going.{Going, going-start, going-inside, going-pass, going-case, going-clear, going-count, going-room, going-two, going-product, going-folding}
-use Rattle.degrees.proofs.Going.{going-next, going-fits, going-done}
+use Rattle.heaviest.specs.Heavy.{Heavy}
+use Rattle.degrees.proofs.Reaching.{written, here, lent-here, reach-done}
+use Rattle.degrees.proofs.Head.{alone-done, First, first-low, first-asked, first-lent, first-two, first-folding, first-own, first-headed, first-done}
+use Rattle.degrees.proofs.Going.{Going, going-start, going-low, going-less, going-pass, going-fits, going-done}
+use Rattle.degrees.proofs.Going.{Hand, at-hand, child-asked, child-lent, child-count, child-two, child-product, child-folding, child-next}
 use borrow.Author.Needs.{needs}
 
 abbrev μ-others : Measures 9 others-kinds.ps ℕ
@@ -63,18 +61,8 @@ work-at t = and 9 work-kinds.ps (is 9 work-kinds.ps μ-work t) work.Pre
 abbrev work-below : ℕ → In 9 work-kinds.ps
 work-below t = and 9 work-kinds.ps (falls 9 work-kinds.ps _<_ μ-work t) work.Pre
 
-abbrev others-Inv-loop : others-lts.InvT-loop
-others-Inv-loop s items index names roles ends marks node left set heavy first at notes₀ numbers₀ e n₀ product₀ c₀ notes numbers n product c =
-    (length notes ≡ length notes₀) × (length numbers ≡ length numbers₀) × (1 ≤ n)
-    × ((k : Case s items index names roles ends marks node left) (h : Headed k (Member set) heavy at first notes₀ numbers₀) → Going k set heavy at first notes₀ numbers₀ h
-    notes numbers n product c)
-
-abbrev others-μ-loop : others-lts.MeasureT-loop
-others-μ-loop s items index names roles ends marks node left set heavy first at notes₀ numbers₀ e n₀ product₀ c₀ notes numbers n product c =
-    e - c
-
-pub +others+reach+work-spec : {M : Type 1} → statement M
-+others+reach+work-spec = close μ-others μ-reach μ-work (λ t. others-lts.spec (
+abbrev others-claims : ℕ → others-lts.Claims
+others-claims t = (
   octet-reads.Asked,
   octet-reads.Learnt,
   quad-reads.Asked,
@@ -86,226 +74,119 @@ pub +others+reach+work-spec : {M : Type 1} → statement M
   fold-reads.Asked,
   fold-reads.Learnt,
 )
+
+abbrev reach-claims : ℕ → reach-lts.Claims
+reach-claims t = (octet-reads.Asked, octet-reads.Learnt, spread-reads.Asked, spread-reads.Learnt, work-below t, work.Post)
+
+abbrev work-claims : ℕ → work-lts.Claims
+work-claims t = (
+  heaviest-reads.Asked,
+  heaviest-reads.Learnt,
+  octet-reads.Asked,
+  octet-reads.Learnt,
+  alone-reads.Asked,
+  alone-reads.Learnt,
+  reach-below t,
+  reach.Post,
+  fold-reads.Asked,
+  fold-reads.Learnt,
+  own-reads.Asked,
+  own-reads.Learnt,
+  others-below t,
+  others.Post,
+)
+
+abbrev others-Inv-loop : others-lts.InvT-loop
+others-Inv-loop s items index names roles ends marks node left set heavy first at notes₀ numbers₀ e n₀ product₀ c₀ notes numbers n product c =
+    Going s items index names roles ends marks node left set heavy at first notes₀ numbers₀ e notes numbers n product c
+
+abbrev others-μ-loop : others-lts.MeasureT-loop
+others-μ-loop s items index names roles ends marks node left set heavy first at notes₀ numbers₀ e n₀ product₀ c₀ notes numbers n product c =
+    e - c
+
+-- a child of the loop that is not passed over is to be folded in
+abbrev Left : ℕ → Type 0
+Left t = others-lts.Else1 (others-claims t) (others-at t) others.Post others-Inv-loop others-μ-loop
+
+hand : (t : ℕ) (c : Left t) → Hand (c .before .before .before .before .before .before .loop .inv)
+hand t c = at-hand _ (c .before .before .before .before .before .loop-test .taken) _ (c .before .passed .ensures) (c .if1 .left)
+
+-- where a child is kept, the heaviest comes first
+abbrev Kept : ℕ → Type 0
+Kept t = work-lts.Else1 (work-claims t) (work-at t) work.Post
+
+first : (t : ℕ) (c : Kept t)
+    → First (c .before .before .before .before .before .before .before .before .before .pre .1 .0) (c .before .before .before .before .before .before .before .before .before .pre .1 .1)
+    (c .before .before .before .heaviest .result)
+first t c = record {
+  heaviest = c .before .before .before .heaviest .ensures (written (c .before .before .before .before .before .before .before .before .before .pre .1 .0));
+  some = λ z. c .if1 .left (z ∙ sym (c .before .octet .ensures .0));
+}
+
+pub +others+reach+work-spec : {M : Type 1} → statement M
++others+reach+work-spec = close μ-others μ-reach μ-work (λ t. others-lts.spec (others-claims t)
     (others-at t)
     others.Post
     others-Inv-loop
     others-μ-loop
-    (λ c. omega (arith, here (c .before .before .before .before .before .pre .1 .0) .1))
+    (λ c. omega (arith, here (c .before .before .before .before .before .pre .1 .asked) .1))
     (λ c κs. search needs)
-    (λ c. omega (arith, here (c .before .before .before .before .before .before .before .pre .1 .0) .1))
-    (λ c. omega (arith, here (c .before .before .before .before .before .before .before .pre .1 .0) .1))
+    (λ c. omega (arith, here (c .before .before .before .before .before .before .before .pre .1 .asked) .1))
+    (λ c. omega (arith, here (c .before .before .before .before .before .before .before .pre .1 .asked) .1))
     (λ c κs. search needs)
     (λ c. omega (arith, c .quad .ensures .1))
-    (λ c. omega (arith, here (c .before .before .before .before .before .before .before .before .before .pre .1 .0) .1))
+    (λ c. omega (arith, here (c .before .before .before .before .before .before .before .before .before .pre .1 .asked) .1))
     (λ c.
-    let start = c .before .before .before .before .before .before .before .before .before in
-    (refl, refl, omega arith, λ k h. going-start k (start .args .set .now) _ _ _ _ _ h _ (c .quad .ensures .0)))
-    (λ c.
-    let at-octet = c .before .before .before .before in
-    let start = at-octet .before .before .before .before .before .before .before in
-    omega (arith, c .loop-test .taken, at-octet .octet .ensures .0, (start .pre .1 .0) .few))
+    let at-octet = c .before .before in
+    going-start _ _ _ _ _ _ _ _ _ _ _ _ _ _ _ (at-octet .before .before .before .before .before .before .before .pre .1) _ _ (at-octet .octet .ensures .0) (c .quad .ensures .0))
+    (λ c. omega (arith, going-low (c .before .loop .inv) (c .loop-test .taken)))
     (λ c κs. search needs)
-    (λ c.
-    let at-loop-test = c .before .before in
-    let at-octet = at-loop-test .before .before .before .before in
-    let start = at-octet .before .before .before .before .before .before .before in
-    omega (arith, at-loop-test .loop-test .taken, at-octet .octet .ensures .0, (start .pre .1 .0) .few))
+    (λ c. omega (arith, going-low (c .before .before .before .loop .inv) (c .before .before .loop-test .taken)))
     (λ c κs. search needs)
     (λ c.
     let at-octet2 = c .before .before .before in
-    let at-loop-test = at-octet2 .before .before in
-    let turn = at-loop-test .before in
-    let at-octet = turn .before .before .before in
-    let start = at-octet .before .before .before .before .before .before .before in
-    let k = start .pre .1 .0 in omega (
-      arith,
-      at-loop-test .loop-test .taken,
-      at-octet .octet .ensures .0,
-      at-octet2 .octet2 .ensures .0,
-      going-inside k (start .args .set .now)
-          _ _ _ _ _ (start .pre .1 .1 .1 k) (turn .loop .inv .3 k (start .pre .1 .1 .1 k)) (omega (arith, at-loop-test .loop-test .taken, at-octet .octet .ensures .0)) .0,
-    ))
+    omega (arith, going-less (at-octet2 .before .before .before .loop .inv) (at-octet2 .before .before .loop-test .taken) _ (at-octet2 .octet2 .ensures .0)))
     (λ c.
     let at-octet2 = c .before .before .before in
-    let at-loop-test = at-octet2 .before .before in
-    let turn = at-loop-test .before in
-    let at-octet = turn .before .before .before in
-    let start = at-octet .before .before .before .before .before .before .before in (
-      turn .loop .inv .0,
-      turn .loop .inv .1,
-      turn .loop .inv .2,
-      λ k h. going-pass k (start .args .set .now) _ _ _ _ _ h (turn .loop .inv .3 k h) (omega (
-        arith,
-        at-loop-test .loop-test .taken,
-        at-octet .octet .ensures .0,
-      )) _ (at-octet2 .octet2 .ensures .0) _ (c .before .passed .ensures) (c .if1 .taken),
-    ))
-    (λ c.
-    let start = c .before .before .before .before .before .before .before .before .before .before .before .before .before .before .before .before in
-    omega (arith, here (start .pre .1 .0) .0))
-    (λ c.
-    let at-loop-test = c .before .before .before .before .before in
-    let turn = at-loop-test .before in
-    let at-octet = turn .before .before .before in
-    let start = at-octet .before .before .before .before .before .before .before in
-    let k = start .pre .1 .0 in omega (
-      arith,
-      going-two k (start .args .set .now) _ _ _ _ _ (start .pre .1 .1 .1 k) (turn .loop .inv .3 k (start .pre .1 .1 .1 k))
-          (omega (arith, at-loop-test .loop-test .taken, at-octet .octet .ensures .0)) _ (c .before .passed .ensures) (c .if1 .left) _ (start .pre .1 .1 .0 .1),
-      start .pre .1 .1 .0 .1 .size-is,
-    ))
+    let turn = at-octet2 .before .before .before in
+    going-pass (turn .loop .inv) (at-octet2 .before .before .loop-test .taken) _ (at-octet2 .octet2 .ensures .0) _ (c .before .passed .ensures) (c .if1 .taken))
+    (λ c. omega (arith, here (c .before .before .before .before .before .before .loop .inv .headed .asked) .0))
+    (λ c. omega (arith, child-two _ (hand t c)))
     (λ c κs.
-    let at-if1 = c .before .before in
-    let at-passed = at-if1 .before in
-    let at-loop-test = at-passed .before .before .before .before in
-    let turn = at-loop-test .before in
-    let at-octet = turn .before .before .before in
-    let start = at-octet .before .before .before .before .before .before .before in
-    let k = start .pre .1 .0 in (
-      omega (arith, here k .0, start .pre .0),
-      (
-        going-case k (start .args .set .now) _ _ _ _ _ (start .pre .1 .1 .1 k) (turn .loop .inv .3
-            k (start .pre .1 .1 .1 k)) (omega (arith, at-loop-test .loop-test .taken, at-octet .octet .ensures .0)) _ (at-passed .passed .ensures) (at-if1 .if1 .left),
-        (
-          start .pre .1 .1 .0 .0,
-          going-clear k (start .args .set .now) _ _ _ _ _ (start .pre .1 .1 .1 k) (turn .loop .inv .3 k (start .pre .1 .1 .1 k)) (omega (
-            arith,
-            at-loop-test .loop-test .taken,
-            at-octet .octet .ensures .0,
-          )) _ (at-passed .passed .ensures) (at-if1 .if1 .left),
-          rw (turn .loop .inv .1) (going-room k (start .args .set .now)
-              _ _ _ _ _ (start .pre .1 .1 .1 k) (turn .loop .inv .3 k (start .pre .1 .1 .1 k)) (omega (arith, at-loop-test .loop-test .taken, at-octet .octet .ensures .0))
-              _ (at-passed .passed .ensures) (at-if1 .if1 .left) _ (start .pre .1 .1 .0 .1)),
-        ),
-      ),
-    ))
+    let turn = c .before .before .before .before .before .before .before .before in
+    let start = turn .before .before .before .before .before .before .before .before .before .before in
+    let o = hand t (c .before .before) in
+    (omega (arith, here (start .pre .1 .asked) .0, start .pre .0), (child-asked _ o, child-lent _ o)))
     (λ c.
     let at-loop-test = c .before .before .before .before .before .before .before .before .before .before .before .before in
-    let at-octet = at-loop-test .before .before .before .before in
-    let start = at-octet .before .before .before .before .before .before .before in
-    omega (arith, at-loop-test .loop-test .taken, at-octet .octet .ensures .0, (start .pre .1 .0) .few))
+    omega (arith, going-low (at-loop-test .before .loop .inv) (at-loop-test .loop-test .taken)))
     (λ c κs. search needs)
-    (λ c.
-    let at-if1 = c .before .before .before .before .before .before .before .before .before in
-    let at-passed = at-if1 .before in
-    let at-loop-test = at-passed .before .before .before .before in
-    let turn = at-loop-test .before in
-    let at-octet = turn .before .before .before in
-    let start = at-octet .before .before .before .before .before .before .before in
-    let k = start .pre .1 .0 in omega (
-      arith,
-      going-two k (start .args .set .now) _ _ _ _ _ (start .pre .1 .1 .1 k) (turn .loop .inv .3 k (start .pre .1 .1 .1 k))
-          (omega (arith, at-loop-test .loop-test .taken, at-octet .octet .ensures .0)) _ (at-passed .passed .ensures) (at-if1 .if1 .left) _ (start .pre .1 .1 .0 .1),
-      start .pre .1 .1 .0 .1 .size-is,
-    ))
+    (λ c. omega (arith, child-two _ (hand t (c .before .before .before .before .before .before .before .before .before))))
     (λ c κs.
     let at-octet3 = c .before .before in
     let at-reach = at-octet3 .before .before .before .before .before .before in
-    let at-if1 = at-reach .before .before .before in
-    let at-passed = at-if1 .before in
-    let at-loop-test = at-passed .before .before .before .before in
-    let turn = at-loop-test .before in
-    let at-octet = turn .before .before .before in
-    let start = at-octet .before .before .before .before .before .before .before in
-    let k = start .pre .1 .0 in (
-      going-folding k (start .args .set .now) _ _ _ _ _ (start .pre .1 .1 .1 k) (turn .loop .inv .3 k (start .pre .1 .1 .1 k)) (omega
-          (arith, at-loop-test .loop-test .taken, at-octet .octet .ensures .0)) _ (at-passed .passed .ensures) (at-if1 .if1 .left) _ _ _ _ (at-octet3 .octet3 .ensures .0)
-          (start .pre .1 .1 .0 .0 .1) (at-reach .reach .ensures (going-case k (start .args .set .now) _ _ _ _ _ (start .pre .1 .1 .1 k) (turn .loop .inv .3 k (start .pre .1 .1 .1
-          k)) (omega (arith, at-loop-test .loop-test .taken, at-octet .octet .ensures .0)) _ (at-passed .passed .ensures) (at-if1 .if1 .left))) _
-          (at-reach .reach .kept .1 .1 .1 .1 .1 .1 .1 .1 .1 .1 .1 .1 .0
-          ∙ turn .loop .inv .1) (start .pre .1 .1 .0 .1),
-      start .pre .1 .1 .0 .0,
-    ))
+    child-folding _ (hand t (at-reach .before .before .before)) _ _ _ _ (at-octet3 .octet3 .ensures .0) (at-reach .reach .ensures) (at-reach .reach .kept .1 .1 .1 .1 .1 .1 .1 .1 .1 .1 .1 .1 .0))
     (λ c.
     let at-octet3 = c .before .before .before .before .before .before .before in
     let at-reach = at-octet3 .before .before .before .before .before .before in
-    let at-if1 = at-reach .before .before .before in
-    let at-passed = at-if1 .before in
-    let at-loop-test = at-passed .before .before .before .before in
-    let turn = at-loop-test .before in
-    let at-octet = turn .before .before .before in
-    let start = at-octet .before .before .before .before .before .before .before in
-    let k = start .pre .1 .0 in omega (
-      arith,
-      going-product k (start .args .set .now) _ _ _ _ _ (start .pre .1 .1 .1 k) (turn .loop .inv .3 k (start .pre .1 .1 .1 k))
-          (omega (arith, at-loop-test .loop-test .taken, at-octet .octet .ensures .0)) _ (at-passed .passed .ensures) (at-if1 .if1 .left) _ _ _ _ (at-octet3 .octet3 .ensures .0)
-          (start .pre .1 .1 .0 .0 .1) (at-reach .reach .ensures (going-case k (start .args .set .now) _ _ _ _ _ (start .pre .1 .1 .1 k) (turn .loop .inv .3 k (start .pre .1 .1 .1
-          k)) (omega (arith, at-loop-test .loop-test .taken, at-octet .octet .ensures .0)) _ (at-passed .passed .ensures) (at-if1 .if1 .left))),
-    ))
+    omega (arith, child-product _ (hand t (at-reach .before .before .before)) _ _ _ _ (at-octet3 .octet3 .ensures .0) (at-reach .reach .ensures)))
+    (λ c. omega (arith, child-count _ (hand t (c .before .before .before .before .before .before .before .before .before .before .before .before .before .before .before .before))))
     (λ c.
-    let at-if1 = c .before .before .before .before .before .before .before .before .before .before .before .before .before .before .before .before in
-    let at-passed = at-if1 .before in
-    let at-loop-test = at-passed .before .before .before .before in
-    let turn = at-loop-test .before in
-    let at-octet = turn .before .before .before in
-    let start = at-octet .before .before .before .before .before .before .before in
-    let k = start .pre .1 .0 in omega (
-      arith,
-      going-count k (start .args .set .now) _ _ _ _ _ (start .pre .1 .1 .1 k) (turn .loop .inv .3 k (start .pre .1 .1 .1 k))
-          (omega (arith, at-loop-test .loop-test .taken, at-octet .octet .ensures .0)) _ (at-passed .passed .ensures) (at-if1 .if1 .left),
-    ))
-    (λ c.
-    let mid = c .before .before .before .before .before .before .before .before .before in
-    let at-octet2 = mid .before .before .before .before .before .before .before .before .before .before in
-    let at-loop-test = at-octet2 .before .before in
-    let turn = at-loop-test .before in
-    let at-octet = turn .before .before .before in
-    let start = at-octet .before .before .before .before .before .before .before in
-    let k = start .pre .1 .0 in omega (
-      arith,
-      at-loop-test .loop-test .taken,
-      at-octet .octet .ensures .0,
-      at-octet2 .octet2 .ensures .0,
-      going-inside k (start .args .set .now)
-          _ _ _ _ _ (start .pre .1 .1 .1 k) (turn .loop .inv .3 k (start .pre .1 .1 .1 k)) (omega (arith, at-loop-test .loop-test .taken, at-octet .octet .ensures .0)) .0,
-    ))
+    let at-octet2 = c .before .before .before .before .before .before .before .before .before .before .before .before .before .before .before .before .before .before .before in
+    omega (arith, going-less (at-octet2 .before .before .before .loop .inv) (at-octet2 .before .before .loop-test .taken) _ (at-octet2 .octet2 .ensures .0)))
     (λ c.
     let at-fold = c .before .before .before .before in
     let at-octet3 = at-fold .before .before .before in
     let at-reach = at-octet3 .before .before .before .before .before .before in
     let at-if1 = at-reach .before .before .before in
-    let at-passed = at-if1 .before in
-    let at-octet2 = at-passed .before .before in
-    let at-loop-test = at-octet2 .before .before in
-    let turn = at-loop-test .before in
-    let at-octet = turn .before .before .before in
-    let start = at-octet .before .before .before .before .before .before .before in (
-      at-fold .fold .kept .1 .1 .1 .1 .1 .1 .1 .1 .1 .1 .0 ∙ at-reach .reach .kept .1 .1 .1 .1 .1 .1 .1 .1 .1 .1 .1 .0 ∙ turn .loop .inv .0,
-      at-fold .fold .kept .1 .1 .1 .1 .1 .1 .1 .1 .1 .1 .1 .0
-          ∙ at-reach .reach .kept .1 .1 .1 .1 .1 .1 .1 .1 .1 .1 .1 .1 .0 ∙ turn .loop .inv .1,
-      omega (arith, turn .loop .inv .2),
-      λ k h. going-next k (start .args .set .now)
-          _ _ _ _ _ h (turn .loop .inv .3 k h) (omega (arith, at-loop-test .loop-test .taken, at-octet .octet .ensures .0)) _ (at-passed .passed .ensures) (at-if1 .if1 .left)
-          _ _ _ _ (at-octet3 .octet3 .ensures .0) (start .pre .1 .1 .0 .0 .1) (at-reach .reach .ensures (going-case k (start .args .set .now) _ _ _ _ _ h (turn .loop .inv .3
-          k h) (omega (arith, at-loop-test .loop-test .taken, at-octet .octet .ensures .0)) _ (at-passed .passed .ensures) (at-if1 .if1 .left))) _ (at-octet2 .octet2 .ensures .0)
-          _ _ (at-reach .reach .kept .1 .1 .1 .1 .1 .1 .1 .1 .1 .1 .1 .0) (at-fold .fold .kept .1 .1 .1 .1 .1 .1 .1 .1 .1 .1 .0) (at-fold .fold .ensures (k .graph)),
-    ))
-    (λ c.
-    let at-octet = c .before .before .before .before in
-    let start = at-octet .before .before .before .before .before .before .before in
-    let k = start .pre .1 .0 in omega (
-      arith,
-      going-fits k (start .args .set .now) _ _ _ _ _ (start .pre .1 .1 .1 k) (c .before .loop .inv .3 k (start .pre .1 .1 .1
-          k)) (omega (arith, c .loop-test .left, at-octet .octet .ensures .0)),
-    ))
-    (λ c. c .before .loop .inv .0)
-    (λ c. c .before .loop .inv .1)
-    (λ c.
-    let at-octet = c .before .before .before .before in
-    let start = at-octet .before .before .before .before .before .before .before in
-    λ k. going-done k (start .args .set .now) _ _ _ _ _ (start .pre .1 .1 .1 k) (c .before .loop .inv .3 k (start .pre .1 .1 .1 k)) (omega (
-      arith,
-      c .loop-test .left,
-      at-octet .octet .ensures .0,
-    )) (c .before .loop .inv .2)))
-    (λ t. reach-lts.spec (
-      octet-reads.Asked,
-      octet-reads.Learnt,
-      spread-reads.Asked,
-      spread-reads.Learnt,
-      work-below t,
-      work.Post,
-    )
+    child-next _ (hand t at-if1) _ _ _ _ (at-octet3 .octet3 .ensures .0) (at-reach .reach .ensures) _ (at-if1 .before .before .before .octet2 .ensures .0) _ _
+    (at-reach .reach .kept .1 .1 .1 .1 .1 .1 .1 .1 .1 .1 .1 .0) (at-reach .reach .kept .1 .1 .1 .1 .1 .1 .1 .1 .1 .1 .1 .1 .0)
+    (at-fold .fold .kept .1 .1 .1 .1 .1 .1 .1 .1 .1 .1 .0) (at-fold .fold .kept .1 .1 .1 .1 .1 .1 .1 .1 .1 .1 .1 .0) (at-fold .fold .ensures))
+    (λ c. omega (arith, going-fits (c .before .loop .inv) (c .loop-test .left)))
+    (λ c. c .before .loop .inv .long)
+    (λ c. c .before .loop .inv .size)
+    (λ c. going-done (c .before .loop .inv) (c .loop-test .left)))
+    (λ t. reach-lts.spec (reach-claims t)
     (reach-at t)
     reach.Post
     (λ c. omega (arith, here (c .before .before .before .before .before .pre .1 .0) .1))
@@ -313,19 +194,20 @@ pub +others+reach+work-spec : {M : Type 1} → statement M
     (λ c. search needs)
     (λ c κs.
     let start = c .before .before .before .before .before .before .before .before in
-    (start .pre .1 .0 .graph, (start .pre .1 .1 .0, (refl, among-none _))))
+    (start .pre .1 .0 .posed .graph, (start .pre .1 .1 .members, (refl, among-none _))))
     (λ c. search needs)
     (λ c κs.
     let at-spread = c .before .before .before .before in
-    let start = at-spread .before .before .before .before .before .before .before .before .before in (
+    let start = at-spread .before .before .before .before .before .before .before .before .before in
+    let lent = start .pre .1 .1 in (
       omega (arith, start .pre .0),
       (
         start .pre .1 .0,
-        (
-          (at-spread .spread .kept .1 .1 .1 .1 .1 .0, at-spread .spread .ensures (start .pre .1 .0 .graph) .among),
-          start .pre .1 .1 .1,
-          start .pre .1 .1 .2,
-        ),
+        record {
+          members = (at-spread .spread .kept .1 .1 .1 .1 .1 .0, at-spread .spread .ensures (start .pre .1 .0 .posed .graph) .among);
+          clear = lent .clear;
+          room = lent .room;
+        },
       ),
     ))
     (λ c. c .before .before .before .before .work .kept .1 .1 .1 .1 .1 .1 .1 .1 .1 .1 .1 .0)
@@ -335,23 +217,8 @@ pub +others+reach+work-spec : {M : Type 1} → statement M
     let at-spread = at-work .before .before .before .before .before in
     let at-octet = at-spread .before .before in
     let start = at-octet .before .before .before .before .before .before .before in
-    λ k. reach-done k (start .args .set .now) _ _ _ _ _ _ _ _ (at-octet .octet .ensures .0) (at-spread .spread .ensures (k .graph)) (at-work .work .ensures k)))
-    λ t. work-lts.spec (
-      heaviest-reads.Asked,
-      heaviest-reads.Learnt,
-      octet-reads.Asked,
-      octet-reads.Learnt,
-      alone-reads.Asked,
-      alone-reads.Learnt,
-      reach-below t,
-      reach.Post,
-      fold-reads.Asked,
-      fold-reads.Learnt,
-      own-reads.Asked,
-      own-reads.Learnt,
-      others-below t,
-      others.Post,
-    )
+    λ k. reach-done k (start .args .set .now) _ _ _ _ _ _ _ _ (at-octet .octet .ensures .0) (at-spread .spread .ensures (k .posed .graph)) (at-work .work .ensures k)))
+    λ t. work-lts.spec (work-claims t)
     (work-at t)
     work.Post
     (λ c κs. written (c .before .before .before .before .before .pre .1 .0))
@@ -359,127 +226,54 @@ pub +others+reach+work-spec : {M : Type 1} → statement M
     (λ c κs. search needs)
     (λ c. omega (arith, here (c .before .before .before .before .before .before .before .before .before .pre .1 .0) .1))
     (λ c. omega (arith, here (c .before .before .before .before .before .before .before .before .before .pre .1 .0) .1))
-    (λ c κs.
-    let start = c .before .before .before .before .before .before .before .before .before .before .before in
-    (asked-items (start .pre .1 .0) (start .args .set .now) (start .pre .1 .1 .0), room-here (start .pre .1 .0) _ _ (start .pre .1 .1 .2)))
+    (λ c κs. let start = c .before .before .before .before .before .before .before .before .before .before .before in lent-here (start .pre .1 .0) (start .pre .1 .1))
     (λ c. search needs)
     (λ c.
     let at-alone = c .before .before in
     let at-if1 = at-alone .before .before .before in
-    let at-octet = at-if1 .before in
-    let at-heaviest = at-octet .before .before in
+    let at-heaviest = at-if1 .before .before .before in
     let start = at-heaviest .before .before .before .before .before .before in
-    λ k. alone-done k (subst (λ (z : ℕ). Heavy (start .args .ends .now) (start .args .marks .now) (k .tree) (start .args .node) z) (at-if1 .if1 .taken ∙ at-octet .octet .ensures .0)
-    (at-heaviest .heaviest .ensures (written k))) _ _ _ _ _ _ (at-alone .alone .ensures .0) (at-alone .alone .ensures .1 .0 (k .graph .register) (k .graph .read))
-    (at-alone .alone .ensures .1 .1))
+    let k = start .pre .1 .0 in
+    alone-done k (subst (λ (z : ℕ). Heavy (start .args .ends .now) (start .args .marks .now) (k .tree) (start .args .node) z)
+    (at-if1 .if1 .taken ∙ at-if1 .before .octet .ensures .0) (at-heaviest .heaviest .ensures (written k))) (start .args .set .now) _ _ _ _ _ (at-alone .alone .ensures .0)
+    (at-alone .alone .ensures .1 .0) (at-alone .alone .ensures .1 .1))
     (λ c. omega (arith, here (c .before .before .before .before .before .before .before .before .before .pre .1 .0) .0))
     (λ c κs.
-    let at-if1 = c .before .before in
-    let at-octet = at-if1 .before in
-    let at-heaviest = at-octet .before .before in
-    let start = at-heaviest .before .before .before .before .before .before in
-    let k = start .pre .1 .0 in (
-      omega (arith, here k .0, start .pre .0),
-      (
-        (heavy-case k _ (at-heaviest .heaviest .ensures (written k)) (λ z. at-if1 .if1 .left (z ∙
-            sym (at-octet .octet .ensures .0))) (start .args .set .now)),
-        (
-          start .pre .1 .1 .0,
-          heavy-clear k _ (at-heaviest .heaviest .ensures (written k)) (λ z. at-if1 .if1 .left
-              (z ∙ sym (at-octet .octet .ensures .0))) (start .args .set .now) (start .args .notes .now) (start .pre .1 .1 .1),
-          heavy-room k _ (at-heaviest .heaviest .ensures
-              (written k)) (λ z. at-if1 .if1 .left (z ∙ sym (at-octet .octet .ensures .0))) (start .args .set .now) _ _ (start .pre .1 .1 .2),
-        ),
-      ),
-    ))
-    (λ c.
-    let at-if1 = c .before .before .before .before .before .before .before in
-    let at-octet = at-if1 .before in
-    let at-heaviest = at-octet .before .before in
-    let start = at-heaviest .before .before .before .before .before .before in
-    let k = start .pre .1 .0 in omega (
-      arith,
-      heavy-low k _ (at-heaviest .heaviest .ensures (written k)) (λ z. at-if1 .if1 .left (z ∙ sym (at-octet .octet .ensures .0)))
-          (start .args .set .now),
-    ))
+    let start = c .before .before .before .before .before .before .before .before .before .before .before in
+    let f = first t (c .before .before) in
+    (omega (arith, here (start .pre .1 .0) .0, start .pre .0), (first-asked _ _ f, first-lent _ _ f)))
+    (λ c. omega (arith, first-low _ _ (first t (c .before .before .before .before .before .before .before))))
     (λ c κs. search needs)
-    (λ c.
-    let at-if1 = c .before .before .before .before .before .before .before .before .before in
-    let at-octet = at-if1 .before in
-    let at-heaviest = at-octet .before .before in
-    let start = at-heaviest .before .before .before .before .before .before in
-    let k = start .pre .1 .0 in omega (
-      arith,
-      heavy-two k _ (at-heaviest .heaviest .ensures (written k)) (λ z. at-if1 .if1 .left (z ∙ sym (at-octet .octet .ensures .0)))
-          (start .args .set .now) _ _ (start .pre .1 .1 .2),
-      start .pre .1 .1 .2 .size-is,
-    ))
+    (λ c. omega (arith, first-two _ _ (first t (c .before .before .before .before .before .before .before .before .before))))
     (λ c κs.
     let at-octet2 = c .before .before in
     let at-reach = at-octet2 .before .before .before .before .before .before in
     let at-if1 = at-reach .before .before .before in
-    let at-octet = at-if1 .before in
-    let at-heaviest = at-octet .before .before in
-    let start = at-heaviest .before .before .before .before .before .before in
-    let k = start .pre .1 .0 in (
-      heavy-folding k _ (at-heaviest .heaviest .ensures (written k)) (λ z. at-if1 .if1 .left (z ∙ sym (at-octet .octet .ensures .0)))
-          (start .args .set .now) _ _ _ _ _ _ _ (at-octet2 .octet2 .ensures .0) (at-reach .reach .ensures (heavy-case k _ (at-heaviest .heaviest .ensures (written k))
-          (λ z. at-if1 .if1 .left (z ∙ sym (at-octet .octet .ensures .0))) (start .args .set .now))) (start .pre .1 .1 .1) _ (at-reach .reach .kept .1 .1 .1 .1 .1 .1 .1 .1 .1 .1 .1 .1 .0)
-          (start .pre .1 .1 .2),
-      start .pre .1 .1 .0,
-    ))
+    first-folding _ _ (first t at-if1) _ _ _ _ (at-octet2 .octet2 .ensures .0) (at-reach .reach .ensures) (at-reach .reach .kept .1 .1 .1 .1 .1 .1 .1 .1 .1 .1 .1 .1 .0))
     (λ c.
     let mid = c .before .before .before .before .before .before .before .before .before .before .before .before in
-    let start = mid .before .before .before .before .before .before .before .before .before .before .before .before .before in
-    omega (arith, here (start .pre .1 .0) .1))
+    omega (arith, here (mid .before .before .before .before .before .before .before .before .before .before .before .before .before .pre .1 .0) .1))
     (λ c.
     let mid = c .before .before .before .before .before .before .before .before .before .before .before .before in
-    let start = mid .before .before .before .before .before .before .before .before .before .before .before .before .before in
-    omega (arith, here (start .pre .1 .0) .1))
+    omega (arith, here (mid .before .before .before .before .before .before .before .before .before .before .before .before .before .pre .1 .0) .1))
     (λ c κs.
     let at-fold = c .before .before .before .before .before .before in
     let at-octet2 = at-fold .before .before .before in
     let at-reach = at-octet2 .before .before .before .before .before .before in
     let at-if1 = at-reach .before .before .before in
-    let at-octet = at-if1 .before in
-    let at-heaviest = at-octet .before .before in
-    let start = at-heaviest .before .before .before .before .before .before in
-    let k = start .pre .1 .0 in (
-      heavy-own k _ (at-heaviest .heaviest .ensures (written k)) (λ z. at-if1 .if1 .left (z ∙ sym (at-octet .octet .ensures .0))) (start .args .set .now)
-          _ _ _ _ _ _ _ (at-octet2 .octet2 .ensures .0) (at-reach .reach .ensures (heavy-case k _ (at-heaviest .heaviest .ensures (written k)) (λ z. at-if1 .if1 .left
-          (z ∙ sym (at-octet .octet .ensures .0))) (start .args .set .now))) (start .pre .1 .1 .1) _ _ (at-fold .fold .ensures (k .graph)) (start .pre .1 .1 .0),
-      omega (
-        arith,
-        heavy-two k _ (at-heaviest .heaviest .ensures (written k)) (λ z. at-if1 .if1 .left (z ∙ sym (at-octet .octet .ensures .0))) (start .args .set .now) _
-            _ (start .pre .1 .1 .2),
-        at-fold .fold .kept .1 .1 .1 .1 .1 .1 .1 .1 .1 .1 .1 .0,
-        at-reach .reach .kept .1 .1 .1 .1 .1 .1 .1 .1 .1 .1 .1 .1 .0,
-      ),
-    ))
+    first-own _ _ (first t at-if1) _ _ _ _ (at-octet2 .octet2 .ensures .0) (at-reach .reach .ensures) (at-reach .reach .kept .1 .1 .1 .1 .1 .1 .1 .1 .1 .1 .1 .1 .0)
+    _ _ (at-fold .fold .ensures) (at-fold .fold .kept .1 .1 .1 .1 .1 .1 .1 .1 .1 .1 .0) (at-fold .fold .kept .1 .1 .1 .1 .1 .1 .1 .1 .1 .1 .1 .0))
     (λ c κs.
     let at-own = c .before .before .before .before in
     let at-fold = at-own .before .before .before .before .before .before .before in
     let at-octet2 = at-fold .before .before .before in
     let at-reach = at-octet2 .before .before .before .before .before .before in
     let at-if1 = at-reach .before .before .before in
-    let at-octet = at-if1 .before in
-    let at-heaviest = at-octet .before .before in
-    let start = at-heaviest .before .before .before .before .before .before in (
+    let start = at-if1 .before .before .before .before .before .before .before .before .before in (
       omega (arith, start .pre .0),
-      (
-        start .pre .1 .0,
-        (
-          (
-            start .pre .1 .1 .0,
-            rw (at-own .own .kept .1 .1 .1 .1 .1 .0 ∙ at-fold .fold .kept .1 .1 .1 .1 .1 .1 .1 .1 .1 .1 .1 .0
-                ∙ at-reach .reach .kept .1 .1 .1 .1 .1 .1 .1 .1 .1 .1 .1 .1 .0) (start .pre .1 .1 .2),
-          ),
-          λ k. heavy-headed k _ (at-heaviest .heaviest .ensures (written k)) (λ
-              z. at-if1 .if1 .left (z ∙ sym (at-octet .octet .ensures .0))) (start .args .set .now) _ _ _ _ _ _ _ (at-octet2 .octet2 .ensures .0) (at-reach .reach .ensures
-              (heavy-case k _ (at-heaviest .heaviest .ensures (written k)) (λ z. at-if1 .if1 .left (z ∙ sym (at-octet .octet .ensures .0))) (start .args .set .now))) (start .pre .1 .1 .1)
-              _ _ (at-fold .fold .ensures (k .graph)) _ (at-fold .fold .kept .1 .1 .1 .1 .1 .1 .1 .1 .1 .1 .0) (at-own .own .ensures .0 (k .graph .register) (k .graph .read)),
-        ),
-      ),
+      first-headed _ _ (first t at-if1) _ _ _ _ (at-octet2 .octet2 .ensures .0) (at-reach .reach .ensures) (at-reach .reach .kept .1 .1 .1 .1 .1 .1 .1 .1 .1 .1 .1 .1 .0)
+          _ _ (at-fold .fold .ensures) (at-fold .fold .kept .1 .1 .1 .1 .1 .1 .1 .1 .1 .1 .0) (at-fold .fold .kept .1 .1 .1 .1 .1 .1 .1 .1 .1 .1 .1 .0)
+          _ (at-own .own .kept .1 .1 .1 .1 .1 .0) (at-own .own .ensures .0),
     ))
     (λ c.
     let at-others = c .before .before .before .before in
@@ -500,10 +294,6 @@ pub +others+reach+work-spec : {M : Type 1} → statement M
     let at-octet2 = at-fold .before .before .before in
     let at-reach = at-octet2 .before .before .before .before .before .before in
     let at-if1 = at-reach .before .before .before in
-    let at-octet = at-if1 .before in
-    let at-heaviest = at-octet .before .before in
-    let start = at-heaviest .before .before .before .before .before .before in
-    λ k. heavy-done k _ (at-heaviest .heaviest .ensures (written k)) (λ z. at-if1 .if1 .left (z ∙ sym (at-octet .octet .ensures .0))) (start .args .set .now) _ _ _ _
-    _ _ _ (at-octet2 .octet2 .ensures .0) (at-reach .reach .ensures (heavy-case k _ (at-heaviest .heaviest .ensures (written k)) (λ z. at-if1 .if1 .left (z ∙ sym
-    (at-octet .octet .ensures .0))) (start .args .set .now))) (start .pre .1 .1 .1) _ _ (at-fold .fold .ensures (k .graph)) _ _ _ _ (at-own .own .ensures .1)
-    (at-others .others .ensures k))
+    first-done _ _ (first t at-if1) _ _ _ _ (at-octet2 .octet2 .ensures .0) (at-reach .reach .ensures) (at-reach .reach .kept .1 .1 .1 .1 .1 .1 .1 .1 .1 .1 .1 .1 .0)
+    _ _ (at-fold .fold .ensures) (at-fold .fold .kept .1 .1 .1 .1 .1 .1 .1 .1 .1 .1 .0) (at-fold .fold .kept .1 .1 .1 .1 .1 .1 .1 .1 .1 .1 .1 .0)
+    _ _ _ _ (at-own .own .ensures .1) (at-others .others .ensures))

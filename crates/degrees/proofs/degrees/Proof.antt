@@ -2,7 +2,6 @@ use borrow.Author.Needs.{needs}
 use Rattle.degrees.proofs.degrees.Statement.{statement}
 use Rattle.degrees.proofs.degrees.Tie as tie
 use native.Mathlib.Omega.{arith}
-use lib.ListN.{length}
 use Rattle.degrees.proofs.Room.{room-start}
 use Rattle.folds.proofs.Noting.{clear-none}
 
@@ -14,6 +13,6 @@ degrees-spec =
     (λ c. search needs)
     (λ c κs.
     let start = c .before .before .before .before .before .before in
-    (start .pre .0, (start .pre .1 .0, clear-none _ _, room-start _ _ (start .pre .1 .1) (omega (arith, start .pre .0 .few)))))
+    (start .pre .0, record { members = start .pre .1 .0; clear = clear-none _ _; room = room-start _ _ (start .pre .1 .1) (omega (arith, start .pre .0 .posed .few)) }))
     (λ c. search needs)
     (λ c. λ k. c .before .before .before .work .ensures k .worked))

@@ -3,7 +3,7 @@ use Rattle.meeting.proofs.hold.Tie as tie
 use mathlib.Core.Path.{_≡_, sym, ap, _∙_}
 use Prim.Native.Nat.{ℕ, _-_}
 use native.Mathlib.Omega.{arith}
-use lib.ListN.{length}
+use lib.ListN.{length, getD}
 use Rattle.meaning.specs.Names.{within}
 use Rattle.meaning.specs.Register.{judged}
 use Rattle.register.specs.Image.{Image}
@@ -11,31 +11,37 @@ use Rattle.screening.proofs.Sifting.{Sifting, sifting-start, sifting-old, sifti
 use borrow.Author.Needs.{needs}
 
 abbrev Inv-loop : tie.InvT-loop
-Inv-loop s names set₀ x₀ set x =
-    (length set ≡ 8) × Image s (λ g. Sifting (λ z. within names (judged g .names z)) set₀ set x)
+Inv-loop s names node set₀ wanted x₀ set x =
+    (length set ≡ 8) × Image s (λ g. Sifting (λ z. within (getD names node 0) (judged g .names z)) set₀ set x)
 
 abbrev μ-loop : tie.MeasureT-loop
-μ-loop s names set₀ x₀ set x =
+μ-loop s names node set₀ wanted x₀ set x =
     512 - x
+
+mul-wanted : tie.Need-mul-wanted Inv-loop μ-loop
+mul-wanted c = search needs
+
+element-copy-out-wanted : tie.Need-element-copy-out-wanted Inv-loop μ-loop
+element-copy-out-wanted c = search needs
 
 next-in-requires : tie.Need-next-in-requires Inv-loop μ-loop
 next-in-requires c κs =
-    (c .before .before .before .pre .1, omega arith)
+    (c .before .before .before .before .pre .1 .1, omega arith)
 
 loop-holds : tie.Need-loop-holds Inv-loop μ-loop
 loop-holds c =
-    (c .before .before .before .before .pre .1, λ g h. sifting-start _ _ _ (c .next-in .ensures))
+    (c .before .before .before .before .before .pre .1 .1, λ g h. sifting-start _ _ _ (c .next-in .ensures))
 
 names-requires : tie.Need-names-requires Inv-loop μ-loop
 names-requires c κs =
-    let a = c .before .before .before .before .before .before .before .pre .0 in
+    let a = c .before .before .before .before .before .before .before .before .pre .0 in
     record { register = a .register; read = a .read; holds = a .holds _ (sifting-old _ _ _ _ (c .before .before .loop .inv .1 (a .register) (a .read)) (c .before .loop-test .taken)) }
 
 retain-requires : tie.Need-retain-requires Inv-loop μ-loop
 retain-requires c κs =
     let at-loop-test = c .before .before in
     let at-loop = at-loop-test .before in
-    let start = at-loop .before .before .before .before .before in
+    let start = at-loop .before .before .before .before .before .before in
     (at-loop .loop .inv .0, at-loop-test .loop-test .taken, at-loop .loop .inv .1 (start .pre .0 .register) (start .pre .0 .read) .member (at-loop-test .loop-test .taken))
 
 add-next-in : tie.Need-add-next-in Inv-loop μ-loop
@@ -55,20 +61,20 @@ loop-again c =
     let at-names = at-retain .before in
     let at-loop-test = at-names .before .before in
     let at-loop = at-loop-test .before in
-    let start = at-loop .before .before .before .before .before in
+    let start = at-loop .before .before .before .before .before .before in
     let w = at-loop .loop in (
       at-retain .retain .kept .0 ∙ w .inv .0,
       λ g h. sifting-step _ _ _ _ _ _ _ (w .inv .1 g h) (at-loop-test .loop-test .taken) (at-retain .retain .ensures)
-          (ap (λ (z : ℕ). within (start .args .names) z) (at-names .names .ensures g h)) (c .next-in2 .ensures),
+          (ap (λ (z : ℕ). within (getD (start .args .names .now) (start .args .node) 0) z) (at-names .names .ensures g h)) (c .next-in2 .ensures),
     )
 
 same-length : tie.Need-same-length Inv-loop μ-loop
 same-length c =
-    c .before .loop .inv .0 ∙ sym (c .before .before .before .before .before .before .pre .1)
+    c .before .loop .inv .0 ∙ sym (c .before .before .before .before .before .before .before .pre .1 .1)
 
 returns : tie.Need-returns Inv-loop μ-loop
 returns c =
-    λ g h. sifting-end _ _ _ _ (c .before .loop .inv .1 g h) (c .loop-test .left) (c .before .before .before .before .before .before .pre .1)
+    λ g h. sifting-end _ _ _ _ (c .before .loop .inv .1 g h) (c .loop-test .left) (c .before .before .before .before .before .before .before .pre .1 .1)
 
 pub hold-spec : {M : Type 1} → statement M
 hold-spec =
@@ -76,6 +82,8 @@ hold-spec =
     (tie.spec
     Inv-loop
     μ-loop
+    mul-wanted
+    element-copy-out-wanted
     next-in-requires
     loop-holds
     names-requires

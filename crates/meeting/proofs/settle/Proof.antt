@@ -3,14 +3,14 @@ use Rattle.meeting.proofs.settle.Statement.{statement}
 use Rattle.meeting.proofs.settle.Tie as tie
 use mathlib.Core.Path.{sym, _∙_}
 use native.Mathlib.Omega.{arith}
-use Rattle.meeting.proofs.Cases.{one-in, one-among, settled-no, walk-case, settled-yes, zeros-length, zeros-all}
+use Rattle.meeting.proofs.Settled.{one-in, one-among, settled-no, charted, settled-yes, zeros-length, zeros-all}
 
 slice-aggregate-include : tie.Need-slice-aggregate-include
 slice-aggregate-include c = search needs
 
 include-requires : tie.Need-include-requires
 include-requires c κs =
-    (zeros-length, omega (arith, c .before .before .before .before .before .pre .1 .0, c .before .before .before .before .before .pre .0 .graph .most))
+    (zeros-length, omega (arith, c .before .before .before .before .before .pre .1 .0, c .before .before .before .before .before .pre .0 .posed .graph .most))
 
 slice-aggregate-meet : tie.Need-slice-aggregate-meet
 slice-aggregate-meet c =
@@ -35,7 +35,7 @@ contains-requires c κs =
     let at-meet = c .before .before .before in
     let at-include = at-meet .before .before .before .before in
     let start = at-include .before .before .before .before .before .before in
-    (at-meet .meet .kept .1 .1 .1 .1 .1 .1 .1 .1 .1 .1 .1 .1 .0 ∙ at-include .include .kept .0 ∙ zeros-length, omega (arith, start .pre .1 .0, start .pre .0 .graph .most))
+    (at-meet .meet .kept .1 .1 .1 .1 .1 .1 .1 .1 .1 .1 .1 .1 .0 ∙ at-include .include .kept .0 ∙ zeros-length, omega (arith, start .pre .1 .0, start .pre .0 .posed .graph .most))
 
 returns : tie.Need-returns
 returns c =
@@ -59,7 +59,7 @@ walk-requires c κs =
     let k = start .pre .0 in
     let one = at-include .include in
     let done = at-meet .meet in (
-      walk-case k _ _ _ _ _ _ (done .ensures k) (one-in _ (one .last .0) (one .ensures)) (at-contains .contains .ensures) (at-if1 .if1 .left) (start .pre .1 .0),
+      charted k _ _ _ _ _ _ (done .ensures k) (one-in _ (one .last .0) (one .ensures)) (at-contains .contains .ensures) (at-if1 .if1 .left) (start .pre .1 .0),
       (start .pre .1 .1, done .kept .1 .1 .1 .1 .1 .1 .1 .1 .1 .1 .1 .1 .1 .0 ∙ zeros-all),
     )
 
@@ -76,7 +76,7 @@ returns-2 c =
     let mapped = c .before .before .walk .ensures in
     λ k.
     let there = one-in _ (one .last .0) (one .ensures) in
-    settled-yes k _ _ _ _ _ _ (done k) there says met _ _ (mapped (walk-case k _ _ _ _ _ _ (done k) there says met inside))
+    settled-yes k _ _ _ _ _ _ (done k) there says met _ _ (mapped (charted k _ _ _ _ _ _ (done k) there says met inside))
 
 pub settle-spec : {M : Type 1} → statement M
 settle-spec =

@@ -2,7 +2,7 @@ use borrow.Author.Needs.{needs}
 use Rattle.screening.proofs.grade.Statement.{statement}
 use Rattle.screening.proofs.grade.Tie as tie
 use native.Mathlib.Omega.{arith}
-use Rattle.screening.proofs.Inner.{inner-here, concept-arrays, inner-held, inner-case}
+use Rattle.screening.proofs.Inner.{inner-here, concept-arrays, inner-held, inner-gradable}
 
 add-at : tie.Need-add-at
 add-at c =
@@ -77,7 +77,7 @@ degrees-requires c κs =
     let rows = concept-arrays (start .args .message .now) _ _ _ (at-names .names .ensures) (at-roles .roles .ensures) (at-ends .ends .ensures) (at-read-concept .read-concept .ensures) in
     let marks = at-reduce .reduce .ensures in
     let p = start .pre .1 .1 in
-    (inner-case (start .args .message .now) (start .args .first) (one .threshold) (one .stands) (len .result) (len .ensures .0) _ _ _ rows (start .pre .0) _ marks, ((p .0, p .1), p .2))
+    (inner-gradable (start .args .message .now) (start .args .first) (one .threshold) (one .stands) (len .result) (len .ensures .0) _ _ _ rows (start .pre .0) _ marks, ((p .0, p .1), p .2))
 
 same-length : tie.Need-same-length
 same-length c = search needs
@@ -96,7 +96,7 @@ returns c =
     let len = at-two .two in
     let rows = concept-arrays (start .args .message .now) _ _ _ (at-names .names .ensures) (at-roles .roles .ensures) (at-ends .ends .ensures) (at-read-concept .read-concept .ensures) in
     let marks = at-reduce .reduce .ensures in
-    λ j h st. at-degrees .degrees .ensures (inner-case (start .args .message .now) (start .args .first) h st (len .result) (len .ensures .0) _ _ _ rows j _ marks)
+    λ j h st. at-degrees .degrees .ensures (inner-gradable (start .args .message .now) (start .args .first) h st (len .result) (len .ensures .0) _ _ _ rows j _ marks)
 
 pub grade-spec : {M : Type 1} → statement M
 grade-spec =

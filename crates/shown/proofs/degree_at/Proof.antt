@@ -4,9 +4,10 @@ use Rattle.shown.proofs.degree_at.Tie as tie
 use Prim.Native.Nat.{ℕ}
 use native.Mathlib.Omega.{arith}
 use lib.ListN.{length-replicate}
+use Rattle.fields.proofs.Known.{bytes-known}
 use Rattle.graph.proofs.Empty.{zero-at}
 use Rattle.folds.proofs.Noting.{clear-none}
-use Rattle.shown.proofs.Alone.{rows-of, graded-of}
+use Rattle.shown.proofs.Alone.{sizes-fit, with-index, graded-of}
 
 pub degree-at-spec : {M : Type 1} → statement M
 degree-at-spec =
@@ -14,24 +15,15 @@ degree-at-spec =
     (tie.spec
     (λ c. search needs)
     (λ c κs.
-    let start = c .before .before in (
-      record { register = start .pre .0 .register; read = start .pre .0 .read; holds = (start .pre .0 .items-are, start .pre .0 .links-are) },
-      (
-        omega (
-          arith,
-          length-replicate {A = ℕ} 513 0,
-          start .pre .0 .most,
-        ),
-        zero-at 513,
-      ),
-    ))
+    let at-shared-slice-known = c .before in
+    let start = at-shared-slice-known .before in
+    let few = sizes-fit (start .pre .0 .posed .graph) (bytes-known (start .args .s .now) (at-shared-slice-known .shared-slice-known .given)) .0 in
+    (start .pre .0 .posed .graph, (omega (arith, length-replicate {A = ℕ} 513 0, few), zero-at 513)))
     (λ c. search needs)
     (λ c. search needs)
     (λ c. search needs)
     (λ c κs.
     let at-fill-index = c .before .before .before in
     let start = at-fill-index .before .before .before in
-    (rows-of (start .pre .0) (at-fill-index .fill-index .ensures), (start .pre .1, clear-none _ _)))
-    (λ c.
-    let at-fill-index = c .before .before .before .before .before in
-    λ k. graded-of k (at-fill-index .fill-index .ensures) _ _ (c .before .graded .ensures (rows-of k (at-fill-index .fill-index .ensures)) .0)))
+    (with-index (start .pre .0) (at-fill-index .fill-index .ensures), (start .pre .1, clear-none _ _)))
+    (λ c. λ k. graded-of k (c .before .before .before .before .before .fill-index .ensures) _ _ _ (c .before .graded .ensures)))

@@ -4,8 +4,9 @@ use Rattle.shown.proofs.drawn_with.Tie as tie
 use Prim.Native.Nat.{ℕ}
 use native.Mathlib.Omega.{arith}
 use lib.ListN.{length-replicate}
+use Rattle.fields.proofs.Known.{bytes-known}
 use Rattle.graph.proofs.Empty.{zero-at}
-use Rattle.shown.proofs.Alone.{clear-zeros, rows-of, graded-of, drawing-of, drawn-of}
+use Rattle.shown.proofs.Alone.{sizes-fit, clear-zeros, with-index, graded-of, drawing-of, drawn-of}
 
 pub drawn-with-spec : {M : Type 1} → statement M
 drawn-with-spec =
@@ -13,31 +14,23 @@ drawn-with-spec =
     (tie.spec
     (λ c. search needs)
     (λ c κs.
-    let start = c .before .before .before .before in (
-      record { register = start .pre .0 .register; read = start .pre .0 .read; holds = (start .pre .0 .items-are, start .pre .0 .links-are) },
-      (
-        omega (
-          arith,
-          length-replicate {A = ℕ} 513 0,
-          start .pre .0 .most,
-        ),
-        zero-at 513,
-      ),
-    ))
+    let at-shared-slice-known = c .before .before .before in
+    let start = at-shared-slice-known .before in
+    let few = sizes-fit (start .pre .0 .posed .graph) (bytes-known (start .args .s .now) (at-shared-slice-known .shared-slice-known .given)) .0 in
+    (start .pre .0 .posed .graph, (omega (arith, length-replicate {A = ℕ} 513 0, few), zero-at 513)))
     (λ c. search needs)
     (λ c κs.
     let at-fill-index = c .before .before .before in
     let start = at-fill-index .before .before .before .before .before in
-    (rows-of (start .pre .0) (at-fill-index .fill-index .ensures), (start .pre .1 .0 .1, clear-zeros (start .args .notes .now) _ _ (start .pre .1 .1 .1))))
+    (with-index (start .pre .0) (at-fill-index .fill-index .ensures), (start .pre .1 .0 .1, clear-zeros (start .args .notes .now) _ _ (start .pre .1 .1 .1))))
     (λ c. search needs)
     (λ c κs.
     let at-graded = c .before .before .before .before .before in
     let at-fill-index = at-graded .before .before .before .before in
-    let start = at-fill-index .before .before .before .before .before in (
-      (drawing-of (start .pre .0) (at-fill-index .fill-index .ensures) _ (at-graded .graded .last .1 .1 .1 .1 .1 .1 .1 .1 .1 .1 .0) (start .pre .1 .0 .1) (omega
-          (arith, start .pre .1 .1 .0, at-graded .graded .kept .1 .1 .1 .1 .1 .1 .1 .1 .1 .1 .0)) (at-graded .graded .ensures (rows-of (start .pre .0) (at-fill-index .fill-index .ensures)) .1)),
-      start .pre .1 .0 .0,
-    ))
+    let start = at-fill-index .before .before .before .before .before in
+    let shown = drawing-of (start .pre .0) (at-fill-index .fill-index .ensures) _ _ _ (at-graded .graded .ensures) (start .pre .1 .0 .1)
+    (omega (arith, start .pre .1 .1 .0, at-graded .graded .kept .1 .1 .1 .1 .1 .1 .1 .1 .1 .1 .0)) in
+    (shown, start .pre .1 .0 .0))
     (λ c. c .before .before .before .before .before .before .before .before .graded .kept .1 .1 .1 .1 .1 .1 .1 .1 .1 .1 .0)
     (λ c. c .before .before .show .kept .1 .1 .1 .1 .1 .1 .1 .1 .1 .0)
     (λ c.
@@ -45,10 +38,8 @@ drawn-with-spec =
     let at-graded = at-show .before .before .before .before .before .before in
     let at-fill-index = at-graded .before .before .before .before in
     let start = at-fill-index .before .before .before .before .before in
+    let j = at-fill-index .fill-index .ensures in
     λ k. (
-      graded-of k (at-fill-index .fill-index .ensures) _ _ (at-graded .graded .ensures (rows-of k (at-fill-index .fill-index .ensures)) .0),
-      drawn-of k
-          (at-fill-index .fill-index .ensures) _ _ _ (at-show .show .ensures (drawing-of k (at-fill-index .fill-index .ensures) _ (at-graded .graded .last .1 .1 .1 .1 .1 .1 .1 .1 .1 .1 .0)
-          (start .pre .1 .0 .1) (omega (arith, start .pre .1 .1 .0, at-graded .graded .kept .1 .1 .1 .1 .1 .1 .1 .1 .1 .1 .0)) (at-graded .graded .ensures (rows-of k
-          (at-fill-index .fill-index .ensures)) .1))),
+      graded-of k j _ _ _ (at-graded .graded .ensures),
+      drawn-of k j _ _ _ (at-graded .graded .ensures) (start .pre .1 .0 .1) (omega (arith, start .pre .1 .1 .0, at-graded .graded .kept .1 .1 .1 .1 .1 .1 .1 .1 .1 .1 .0)) _ _ (at-show .show .ensures),
     )))

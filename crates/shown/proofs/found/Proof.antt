@@ -1,8 +1,8 @@
 use Rattle.shown.proofs.found.Statement.{statement}
 use Rattle.shown.proofs.found.Tie as tie
-use Prim.Native.Nat.{_≤_, _<_, _-_, _+_, ℕ}
+use Prim.Native.Nat.{_≤_, _<_, _-_, ℕ}
 use native.Mathlib.Omega.{arith}
-use mathlib.Core.Path.{_≡_, sym, subst, _∙_}
+use mathlib.Core.Path.{sym, subst, _∙_}
 use lib.ListN.{length, getD}
 use Rattle.meaning.specs.Register.{Register}
 use Rattle.graph.specs.Judged.{Judged}

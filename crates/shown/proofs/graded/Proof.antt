@@ -3,7 +3,7 @@ use Rattle.shown.proofs.graded.Statement.{statement}
 use Rattle.shown.proofs.graded.Tie as tie
 use Prim.Native.Nat.{ℕ, _+_}
 use native.Mathlib.Omega.{arith}
-use mathlib.Core.Path.{_≡_, refl, ap, _∙_}
+use mathlib.Core.Path.{_≡_, ap, _∙_}
 use lib.ListN.{getD, length-replicate}
 use Rattle.degrees.proofs.Room.{room-start}
 use Rattle.shown.proofs.Alone.{alone-in, alone-among}
@@ -20,11 +20,11 @@ graded-spec =
     let at-include = c .before .before .before .before in
     let start = at-include .before .before .before .before .before in (
       start .pre .0,
-      (
-        (at-include .include .kept .0, alone-among _ (at-include .include .last .0) (at-include .include .ensures) _ (start .pre .1 .0)),
-        start .pre .1 .1,
-        room-start _ _ (length-replicate {A = ℕ} 3072 0) (omega (arith, start .pre .0 .few)),
-      ),
+      record {
+        members = (at-include .include .kept .0, alone-among _ (at-include .include .last .0) (at-include .include .ensures) _ (start .pre .1 .0));
+        clear = start .pre .1 .1;
+        room = room-start _ _ (length-replicate {A = ℕ} 3072 0) (omega (arith, start .pre .0 .posed .few));
+      },
     ))
     (λ c. search needs)
     (λ c. search needs)

@@ -2,7 +2,7 @@ use Rattle.shown.proofs.onward.Statement.{statement}
 use Rattle.shown.proofs.onward.Tie as tie
 use mathlib.Core.Path.{_≡_, ap}
 use native.Mathlib.Omega.{arith}
-use Rattle.shown.specs.Given.{placeOf}
+use Rattle.graph.specs.Posed.{placeOf}
 
 pub onward-spec : {M : Type 1} → statement M
 onward-spec = tie.close (tie.spec

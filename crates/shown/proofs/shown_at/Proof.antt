@@ -1,9 +1,8 @@
 use borrow.Author.Needs.{needs}
 use Rattle.shown.proofs.shown_at.Statement.{statement}
 use Rattle.shown.proofs.shown_at.Tie as tie
-use native.Mathlib.Omega.{arith}
 use Rattle.fields.proofs.Known.{bytes-known}
-use Rattle.meaning.proofs.Image.{image-fits}
+use Rattle.shown.proofs.Alone.{sizes-fit}
 
 pub shown-at-spec : {M : Type 1} → statement M
 shown-at-spec =
@@ -16,18 +15,8 @@ shown-at-spec =
     (λ c. c .before .before .shown-small .ensures)
     (λ c κs.
     let at-shared-slice-known = c .before .before .before in
-    let start = at-shared-slice-known .before in (
-      start .pre .0,
-      (
-        start .pre .1 .0,
-        start .pre .1 .1,
-        omega (
-          arith,
-          start .pre .0 .links-are,
-          image-fits (start .args .s .now) (start .pre .0 .register)
-              (bytes-known (start .args .s .now) (at-shared-slice-known .shared-slice-known .given)) (start .pre .0 .read) .0 .few,
-        ),
-      ),
-    ))
+    let start = at-shared-slice-known .before in
+    let few = sizes-fit (start .pre .0 .posed .graph) (bytes-known (start .args .s .now) (at-shared-slice-known .shared-slice-known .given)) .1 in
+    (start .pre .0, (start .pre .1 .0, start .pre .1 .1, few)))
     (λ c. search needs)
     (λ c. c .before .before .shown-large .ensures))

@@ -1,0 +1,4 @@
+pub mod Search
+pub mod Table
+pub mod Trail
+pub mod Down

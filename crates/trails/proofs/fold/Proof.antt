@@ -1,0 +1,97 @@
+use Rattle.trails.proofs.fold.Statement.{statement}
+use Rattle.trails.proofs.fold.Tie as tie
+use mathlib.Core.Path.{_≡_, sym, ap, _∙_}
+use mathlib.Core.Bool.{not}
+use mathlib.Core.List.{List·Memᴰ}
+use Prim.Native.Nat.{ℕ, _-_, _<_}
+use native.Mathlib.Omega.{arith}
+use lib.Dec.{eqb}
+use lib.ListN.{length}
+use Rattle.meaning.specs.Register.{judged}
+use Rattle.meaning.specs.Whole.{any}
+use Rattle.fields.proofs.Known.{bytes-known}
+use Rattle.graph.specs.Judged.{Judged}
+use Rattle.graph.specs.Sets.{inSet}
+use Rattle.graph.proofs.Use.{next-inside}
+use Rattle.screening.proofs.Sifting.{Sifting, sifting-start, sifting-old, sifting-step, sifting-end}
+use Rattle.trails.proofs.Search.{found-any}
+use borrow.Author.Needs.{needs}
+
+abbrev Inv-loop : tie.InvT-loop
+Inv-loop s items index role child set₀ x₀ set x =
+    (length set ≡ 8) × ((j : Judged s items index) → Sifting (λ z. any (λ y. inSet child y) (judged (j .register) .next z role)) set₀ set x)
+
+abbrev μ-loop : tie.MeasureT-loop
+μ-loop s items index role child set₀ x₀ set x =
+    512 - x
+
+next-in-requires : tie.Need-next-in-requires Inv-loop μ-loop
+next-in-requires c κs =
+    (c .before .before .before .before .before .pre .1 .1, omega arith)
+
+loop-holds : tie.Need-loop-holds Inv-loop μ-loop
+loop-holds c =
+    (c .before .before .before .before .before .before .pre .1 .1, λ j. sifting-start _ _ _ (c .next-in .ensures))
+
+seek-requires : tie.Need-seek-requires Inv-loop μ-loop
+seek-requires c κs =
+    let at-loop = c .before in
+    let start = at-loop .before .before .before .before .before .before .before in
+    (start .pre .0, (start .pre .1 .2 _ (sifting-old _ _ _ _ (at-loop .loop .inv .1 (start .pre .0)) (c .loop-test .taken)), start .pre .1 .0))
+
+retain-requires : tie.Need-retain-requires Inv-loop μ-loop
+retain-requires c κs =
+    let at-loop-test = c .before .before in
+    let at-loop = at-loop-test .before in
+    let start = at-loop .before .before .before .before .before .before .before in
+    (at-loop .loop .inv .0, at-loop-test .loop-test .taken, at-loop .loop .inv .1 (start .pre .0) .member (at-loop-test .loop-test .taken))
+
+add-next-in : tie.Need-add-next-in Inv-loop μ-loop
+add-next-in c = search needs
+
+next-in-requires-2 : tie.Need-next-in-requires-2 Inv-loop μ-loop
+next-in-requires-2 c κs =
+    (c .before .before .before .retain .kept .0 ∙ c .before .before .before .before .before .before .before .loop .inv .0, omega arith)
+
+loop-less : tie.Need-loop-less Inv-loop μ-loop
+loop-less c =
+    omega (arith, c .next-in2 .ensures .behind)
+
+loop-again : tie.Need-loop-again Inv-loop μ-loop
+loop-again c =
+    let a = c .before .before .before .before .before .before .before .before .before .before .before .before .before .before .before .args in
+    let b = bytes-known (a .s .now) (c .before .before .before .before .before .before .before .before .before .before .before .before .before .before .shared-slice-known .given) in
+    let x = c .before .before .before .before .before .before .before .before .loop .x in
+    let few : (j : Judged (a .s .now) (a .items) (a .index .now)) (y : ℕ) → List·Memᴰ y (judged (j .register) .next x (a .role)) → y < 65535 =
+    λ j y m. omega (arith, next-inside j b x (a .role) y m, j .most) in
+    let w = c .before .before .before .before .before .before .before .before .loop .inv in
+    let said = c .before .before .before .before .before .before .seek .ensures in
+    let kept = c .before .before .before .before .retain in
+    let on = c .next-in2 .ensures in
+    let h = c .before .before .before .before .before .before .before .loop-test .taken in
+    (kept .kept .0 ∙ w .0, λ j. sifting-step _ _ _ _ _ _ _ (w .1 j) h (kept .ensures) (ap (λ (z : ℕ). not (eqb z 65535)) (said j) ∙ found-any _ _ (few j)) on)
+
+same-length : tie.Need-same-length Inv-loop μ-loop
+same-length c =
+    c .before .loop .inv .0 ∙ sym (c .before .before .before .before .before .before .before .before .pre .1 .1)
+
+returns : tie.Need-returns Inv-loop μ-loop
+returns c =
+    λ j. sifting-end _ _ _ _ (c .before .loop .inv .1 j) (c .loop-test .left) (c .before .before .before .before .before .before .before .before .pre .1 .1)
+
+pub fold-spec : {M : Type 1} → statement M
+fold-spec =
+    tie.close
+    (tie.spec
+    Inv-loop
+    μ-loop
+    next-in-requires
+    loop-holds
+    seek-requires
+    retain-requires
+    add-next-in
+    next-in-requires-2
+    loop-less
+    loop-again
+    same-length
+    returns)

@@ -1,0 +1,79 @@
+use Rattle.trails.proofs.seek.Statement.{statement}
+use Rattle.trails.proofs.seek.Tie as tie
+use mathlib.Core.Path.{_≡_, sym, ap, _∙_}
+use Prim.Native.Nat.{_-_}
+use native.Mathlib.Omega.{arith}
+use Rattle.meaning.specs.Register.{judged}
+use Rattle.meaning.specs.Shown.{first}
+use Rattle.graph.specs.Judged.{Judged, endNo, spanned}
+use Rattle.graph.specs.Sets.{inSet}
+use Rattle.graph.proofs.Use.{asked-end}
+use Rattle.graph.specs.Posed.{placeOf}
+use Rattle.trails.proofs.Search.{here-first, passed-first, none-first}
+use borrow.Author.Needs.{needs}
+
+abbrev Inv-loop : tie.InvT-loop
+Inv-loop s items index item role set end k₀ k =
+    (j : Judged s items index) → first (λ y. inSet set y) (spanned (endNo (j .register)) k end) ≡ first (λ y. inSet set y) (judged (j .register) .next item role)
+
+abbrev μ-loop : tie.MeasureT-loop
+μ-loop s items index item role set end k₀ k =
+    end - k
+
+run-requires : tie.Need-run-requires Inv-loop μ-loop
+run-requires c κs =
+    (c .before .before .before .pre .0, c .before .before .before .pre .1 .0)
+
+loop-holds : tie.Need-loop-holds Inv-loop μ-loop
+loop-holds c =
+    λ j. ap (first (λ y. inSet (c .before .before .before .before .args .set .now) y)) (sym (c .run .ensures j .next))
+
+end-of-requires : tie.Need-end-of-requires Inv-loop μ-loop
+end-of-requires c κs =
+    asked-end (c .before .before .before .before .before .before .pre .0) (omega (arith, c .before .before .run .ensures (c .before .before .before .before .before .before .pre .0) .within))
+
+contains-requires : tie.Need-contains-requires Inv-loop μ-loop
+contains-requires c κs =
+    (c .before .before .before .before .before .before .before .pre .1 .1, omega (arith, c .end-of .ensures .1, c .before .before .before .before .before .before .before .pre .0 .most))
+
+returns : tie.Need-returns Inv-loop μ-loop
+returns c =
+    λ j.
+    let s = c .before .before .before .before .before .before .before .before .before .args .set .now in
+    let e = c .before .before .end-of .ensures .0 (j .register) (j .read) in
+    let t = sym (ap (inSet s) e) ∙ sym (c .before .contains .ensures) ∙ c .if1 .taken in
+    e ∙ ap placeOf (sym (here-first (λ y. inSet s y) (endNo (j .register)) _ _ (c .before .before .before .loop-test .taken) t) ∙ c .before .before .before .before .loop .inv j)
+
+add-k : tie.Need-add-k Inv-loop μ-loop
+add-k c = search needs
+
+loop-less : tie.Need-loop-less Inv-loop μ-loop
+loop-less c = search needs
+
+loop-again : tie.Need-loop-again Inv-loop μ-loop
+loop-again c =
+    λ j.
+    let s = c .before .before .before .before .before .before .before .before .before .args .set .now in
+    let e = c .before .before .end-of .ensures .0 (j .register) (j .read) in
+    let t = sym (ap (inSet s) e) ∙ sym (c .before .contains .ensures) ∙ c .if1 .left in
+    sym (passed-first (λ y. inSet s y) (endNo (j .register)) _ _ (c .before .before .before .loop-test .taken) t) ∙ c .before .before .before .before .loop .inv j
+
+returns-2 : tie.Need-returns-2 Inv-loop μ-loop
+returns-2 c =
+    λ j. ap placeOf (sym (none-first (λ y. inSet (c .before .before .before .before .before .before .args .set .now) y) (endNo (j .register)) _ _ (c .loop-test .left)) ∙ c .before .loop .inv j)
+
+pub seek-spec : {M : Type 1} → statement M
+seek-spec =
+    tie.close
+    (tie.spec
+    Inv-loop
+    μ-loop
+    run-requires
+    loop-holds
+    end-of-requires
+    contains-requires
+    returns
+    add-k
+    loop-less
+    loop-again
+    returns-2)
