@@ -2,7 +2,6 @@ pub mod Behind
 pub mod Body
 pub mod Whole
 pub mod Facts
-pub mod Halves
 pub mod Begins
 pub mod Targets
 pub mod Promise

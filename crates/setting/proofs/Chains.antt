@@ -15,7 +15,7 @@ use Rattle.meaning.proofs.Reading.{below, not-below}
 use Rattle.register.specs.Layout.{countAt, linkPlace, imageLength, bodyLength}
 use Rattle.register.specs.Image.{noLink}
 use Rattle.register.specs.Reading.{key, Small}
-use Rattle.register.proofs.Halves.{Narrowed}
+use Rattle.setting.proofs.Halves.{Narrowed}
 use Rattle.setting.specs.Moved.{movedUp, movedDown}
 use Rattle.setting.specs.Setting.{PlaceOf, bufferInserted, bufferRemoved}
 use Rattle.setting.proofs.Changes.{insert-law, remove-law}

@@ -1,3 +1,4 @@
+pub mod Halves
 pub mod Stores
 pub mod Place
 pub mod Parts

@@ -1,3 +1,5 @@
+-- `fixed::forbidden` meets its contract.
+-- Assumes nothing.
 use Rattle.fixed.proofs.forbidden.Statement.{statement}
 use Rattle.fixed.proofs.forbidden.Tie as tie
 use mathlib.Core.Path.{refl}

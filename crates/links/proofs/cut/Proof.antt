@@ -1,3 +1,5 @@
+-- `links::cut` meets its contract: the place by how many bytes are left.
+-- Assumes nothing.
 use borrow.Author.Needs.{needs}
 use Rattle.links.proofs.cut.Statement.{statement}
 use Rattle.links.proofs.cut.Tie as tie

@@ -1,3 +1,5 @@
+-- `links::key_at` meets its contract: four bytes and one are the link's number.
+-- Assumes nothing.
 use borrow.Author.Needs.{needs}
 use Rattle.links.proofs.key_at.Statement.{statement}
 use Rattle.links.proofs.key_at.Tie as tie

@@ -1,3 +1,5 @@
+-- `links::quick_links` meets its contract: link after link passes by its number.
+-- Assumes nothing.
 use Rattle.links.proofs.quick_links.Statement.{statement}
 use Rattle.links.proofs.quick_links.Tie as tie
 use mathlib.Core.Path.{_≡_}

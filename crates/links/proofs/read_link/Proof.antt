@@ -1,3 +1,5 @@
+-- `links::read_link` meets its contract: 1, 5, 7, 5, 6 as the reader of a link gives them, and the next floor where none is given.
+-- Assumes nothing.
 use borrow.Author.Needs.{needs}
 use Rattle.links.proofs.read_link.Statement.{statement}
 use Rattle.links.proofs.read_link.Tie as tie

@@ -1,3 +1,5 @@
+-- `register::read` meets its contract: the head, and what stands under it.
+-- Assumes nothing.
 use borrow.Author.Needs.{needs}
 use Rattle.register.proofs.read.Statement.{statement}
 use Rattle.register.proofs.read.Tie as tie

@@ -1,3 +1,5 @@
+-- `register::read_body` meets its contract: 1 and 4 as the document gives them, and then the links.
+-- Assumes nothing.
 use borrow.Author.Needs.{needs}
 use Rattle.register.proofs.read_body.Statement.{statement}
 use Rattle.register.proofs.read_body.Tie as tie

@@ -1,3 +1,5 @@
+-- `register::read_links` meets its contract: all links are right at once, or they are read one by one.
+-- Assumes nothing.
 use borrow.Author.Needs.{needs}
 use Rattle.register.proofs.read_links.Statement.{statement}
 use Rattle.register.proofs.read_links.Tie as tie

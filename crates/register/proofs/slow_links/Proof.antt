@@ -1,3 +1,5 @@
+-- `register::slow_links` meets its contract: link after link, and nothing behind them.
+-- Assumes nothing.
 use Rattle.register.proofs.slow_links.Statement.{statement}
 use Rattle.register.proofs.slow_links.Tie as tie
 use mathlib.Core.Path.{_≡_, sym, _∙_, ap, subst}

@@ -6,7 +6,7 @@ use lib.ListN.{length}
 use Rattle.fields.proofs.Known.{bytes-known}
 use Rattle.register.specs.Image.{Image, linkNo}
 use Rattle.register.specs.Reading.{key}
-use Rattle.register.proofs.Halves.{Narrowed, narrowed-none, narrowed-up, narrowed-down}
+use Rattle.setting.proofs.Halves.{Narrowed, narrowed-none, narrowed-up, narrowed-down}
 use Rattle.register.proofs.Begins.{asked-image, keys-rise}
 use Rattle.setting.proofs.Chains.{found-place}
 use borrow.Author.Needs.{needs}
