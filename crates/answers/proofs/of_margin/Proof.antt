@@ -10,26 +10,11 @@ use Rattle.asking.specs.Answers.{paperMargin}
 use Rattle.answers.specs.Numbers.{numbers, belowZero, marginNumbers}
 use Rattle.answers.proofs.Margins.{small, read-back, small-again, margin-told}
 
-enum-known-r : tie.Need-enum-known-r
-enum-known-r c = search needs
-
 magnitude-requires : tie.Need-magnitude-requires
 magnitude-requires c κs =
     let at-r = c .before .before in
     let start = at-r .before .before in
     small-again (at-r .r .given .0 .0) (small _ _ _ (at-r .r .given .1) (start .pre))
-
-below-zero-requires : tie.Need-below-zero-requires
-below-zero-requires c κs = search needs
-
-put-requires : tie.Need-put-requires
-put-requires c κs = search needs
-
-enum-known-r-2 : tie.Need-enum-known-r-2
-enum-known-r-2 c = search needs
-
-refuse-requires : tie.Need-refuse-requires
-refuse-requires c κs = search needs
 
 returns : tie.Need-returns
 returns c =
@@ -52,11 +37,11 @@ pub of-margin-spec : {M : Type 1} → statement M
 of-margin-spec =
     tie.close
     (tie.spec
-    enum-known-r
+    (λ c. search needs)
     magnitude-requires
-    below-zero-requires
-    put-requires
-    enum-known-r-2
-    refuse-requires
+    (λ c κs. search needs)
+    (λ c κs. search needs)
+    (λ c. search needs)
+    (λ c κs. search needs)
     returns
     returns-2)

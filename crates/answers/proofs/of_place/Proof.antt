@@ -6,16 +6,10 @@ use Rattle.answers.proofs.of_place.Tie as tie
 use mathlib.Core.Path.{_∙_}
 use Rattle.answers.proofs.Messages.{no-place, some-place}
 
-put-requires : tie.Need-put-requires
-put-requires c κs = search needs
-
 returns : tie.Need-returns
 returns c =
     let start = c .before .before .before .before in
     c .put .ensures ∙ no-place (start .args .p) (c .before .before .if1 .taken)
-
-put-requires-2 : tie.Need-put-requires-2
-put-requires-2 c κs = search needs
 
 returns-2 : tie.Need-returns-2
 returns-2 c =
@@ -26,7 +20,7 @@ pub of-place-spec : {M : Type 1} → statement M
 of-place-spec =
     tie.close
     (tie.spec
-    put-requires
+    (λ c κs. search needs)
     returns
-    put-requires-2
+    (λ c κs. search needs)
     returns-2)

@@ -10,18 +10,6 @@ use Rattle.answers.specs.Numbers.{four, numbers, counts}
 use Rattle.answers.proofs.Numbers.{four-same}
 use native.Mathlib.Omega.{arith}
 
-enum-known-r : tie.Need-enum-known-r
-enum-known-r c = search needs
-
-put-requires : tie.Need-put-requires
-put-requires c κs = search needs
-
-enum-known-r-2 : tie.Need-enum-known-r-2
-enum-known-r-2 c = search needs
-
-refuse-requires : tie.Need-refuse-requires
-refuse-requires c κs = search needs
-
 returns : tie.Need-returns
 returns c =
     let at-r = c .before .before .before in
@@ -36,9 +24,9 @@ pub of-reading-spec : {M : Type 1} → statement M
 of-reading-spec =
     tie.close
     (tie.spec
-    enum-known-r
-    put-requires
-    enum-known-r-2
-    refuse-requires
+    (λ c. search needs)
+    (λ c κs. search needs)
+    (λ c. search needs)
+    (λ c κs. search needs)
     returns
     returns-2)

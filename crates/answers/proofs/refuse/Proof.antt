@@ -8,12 +8,6 @@ use native.Mathlib.Omega.{arith}
 use Rattle.answers.specs.Numbers.{four, sideNumber}
 use Rattle.answers.proofs.Numbers.{four-same}
 
-side-number-requires : tie.Need-side-number-requires
-side-number-requires c κs = search needs
-
-put-requires : tie.Need-put-requires
-put-requires c κs = search needs
-
 returns : tie.Need-returns
 returns c =
     let refusal = c .before .before .before .args .refusal in
@@ -22,4 +16,4 @@ returns c =
     written
 
 pub refuse-spec : {M : Type 1} → statement M
-refuse-spec = tie.close (tie.spec side-number-requires put-requires returns)
+refuse-spec = tie.close (tie.spec (λ c κs. search needs) (λ c κs. search needs) returns)

@@ -23,12 +23,6 @@ loop-holds : tie.Need-loop-holds Inv-loop μ-loop
 loop-holds c =
     (omega arith, refl, refl)
 
-sub-i : tie.Need-sub-i Inv-loop μ-loop
-sub-i c = search needs
-
-low-requires : tie.Need-low-requires Inv-loop μ-loop
-low-requires c κs = search needs
-
 add-s : tie.Need-add-s Inv-loop μ-loop
 add-s c =
     omega (arith, c .before .before .loop .inv .0, c .before .before .loop .inv .1, c .before .before .before .before .pre, c .before .before .before .before .good)
@@ -36,9 +30,6 @@ add-s c =
 slice-write-s : tie.Need-slice-write-s Inv-loop μ-loop
 slice-write-s c =
     omega (arith, c .before .before .loop .inv .0, c .before .before .loop .inv .1, c .before .before .before .before .pre)
-
-loop-less : tie.Need-loop-less Inv-loop μ-loop
-loop-less c = search needs
 
 loop-again : tie.Need-loop-again Inv-loop μ-loop
 loop-again c =
@@ -65,11 +56,11 @@ put-spec =
     Inv-loop
     μ-loop
     loop-holds
-    sub-i
-    low-requires
+    (λ c. search needs)
+    (λ c κs. search needs)
     add-s
     slice-write-s
-    loop-less
+    (λ c. search needs)
     loop-again
     same-length
     returns)

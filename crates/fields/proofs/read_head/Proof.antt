@@ -20,16 +20,10 @@ returns c =
     let h : length (c .before .before .args .s .now) < 3 = omega arith in
     (λ side. sym (head-short side (wrongIn (c .before .before .args .session)) (c .before .before .args .s .now) h), tt)
 
-shared-slice-read-if2 : tie.Need-shared-slice-read-if2
-shared-slice-read-if2 c = search needs
-
 returns-2 : tie.Need-returns-2
 returns-2 c =
     let h : 3 ≤ length (c .before .before .before .before .args .s .now) = omega arith in
     (λ side. sym (head-version side (wrongIn (c .before .before .before .before .args .session)) (c .before .before .before .before .args .s .now) h (c .if2 .taken)), tt)
-
-two-requires : tie.Need-two-requires
-two-requires c κs = search needs
 
 returns-3 : tie.Need-returns-3
 returns-3 c =
@@ -37,9 +31,6 @@ returns-3 c =
     let h : 3 ≤ length (c6 .args .s .now) = omega arith in
     let l : length (c6 .args .s .now) - 3 < number (c6 .args .s .now) 1 2 = omega (arith, c .before .two .ensures .0) in
     (λ side. sym (head-length side (wrongIn (c6 .args .session)) (c6 .args .s .now) h (c .before .before .if2 .left) (wrong-longer (c6 .args .session) _ _ l)), tt)
-
-add-t9 : tie.Need-add-t9
-add-t9 c = search needs
 
 returns-4 : tie.Need-returns-4
 returns-4 c =
@@ -60,9 +51,6 @@ returns-5 c =
     let l : number (c8 .args .s .now) 1 2 < length (c8 .args .s .now) - 3 = omega (arith, c .before .before .before .two .ensures .0) in
     (λ side. sym (head-length side (wrongIn (c8 .args .session)) (c8 .args .s .now) h (c4 .if2 .left) (wrong-shorter (c8 .args .session) _ _ (c .before .if4 .left) l)), tt)
 
-add-t8 : tie.Need-add-t8
-add-t8 c = search needs
-
 returns-6 : tie.Need-returns-6
 returns-6 c =
     let c3 = c .before .before .before in
@@ -80,12 +68,12 @@ read-head-spec =
     tie.close
     (tie.spec
     returns
-    shared-slice-read-if2
+    (λ c. search needs)
     returns-2
-    two-requires
+    (λ c κs. search needs)
     returns-3
-    add-t9
+    (λ c. search needs)
     returns-4
     returns-5
-    add-t8
+    (λ c. search needs)
     returns-6)

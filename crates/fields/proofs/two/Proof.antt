@@ -4,27 +4,6 @@ use Rattle.fields.proofs.two.Tie as tie
 use native.Mathlib.Omega.{arith}
 use Rattle.meaning.proofs.Reading.{number-two}
 
-shared-slice-read-octet : tie.Need-shared-slice-read-octet
-shared-slice-read-octet c = search needs
-
-octet-requires : tie.Need-octet-requires
-octet-requires c κs = search needs
-
-mul-result : tie.Need-mul-result
-mul-result c = search needs
-
-add-octet : tie.Need-add-octet
-add-octet c = search needs
-
-shared-slice-read-octet-2 : tie.Need-shared-slice-read-octet-2
-shared-slice-read-octet-2 c = search needs
-
-octet-requires-2 : tie.Need-octet-requires-2
-octet-requires-2 c κs = search needs
-
-add-result : tie.Need-add-result
-add-result c = search needs
-
 returns : tie.Need-returns
 returns c =
     let c5 = c .before .before .before .before .before in
@@ -34,11 +13,11 @@ pub two-spec : {M : Type 1} → statement M
 two-spec =
     tie.close
     (tie.spec
-    shared-slice-read-octet
-    octet-requires
-    mul-result
-    add-octet
-    shared-slice-read-octet-2
-    octet-requires-2
-    add-result
+    (λ c. search needs)
+    (λ c κs. search needs)
+    (λ c. search needs)
+    (λ c. search needs)
+    (λ c. search needs)
+    (λ c κs. search needs)
+    (λ c. search needs)
     returns)

@@ -22,9 +22,6 @@ loop-holds : tie.Need-loop-holds Inv-loop μ-loop
 loop-holds c =
     refl
 
-rem-rest : tie.Need-rem-rest Inv-loop μ-loop
-rem-rest c = search needs
-
 loop-less : tie.Need-loop-less Inv-loop μ-loop
 loop-less c =
     let h : 0 < c .before .loop .b = omega arith in
@@ -42,4 +39,4 @@ returns c =
 
 pub common-divisor-spec : {M : Type 1} → statement M
 common-divisor-spec =
-    tie.close (tie.spec Inv-loop μ-loop loop-holds rem-rest loop-less loop-again returns)
+    tie.close (tie.spec Inv-loop μ-loop loop-holds (λ c. search needs) loop-less loop-again returns)

@@ -5,12 +5,6 @@ use Rattle.fractions.proofs.difference.Statement.{statement}
 use Rattle.fractions.proofs.difference.Tie as tie
 use Rattle.fractions.proofs.Products.{difference-fits, difference-is}
 
-cast-result : tie.Need-cast-result
-cast-result c = search needs
-
-cast-result-2 : tie.Need-cast-result-2
-cast-result-2 c = search needs
-
 sub-result : tie.Need-sub-result
 sub-result c =
     difference-fits _ _ (c .pre .0) (c .pre .1)
@@ -20,4 +14,4 @@ returns c =
     difference-is _ _ (c .pre .0) (c .pre .1)
 
 pub difference-spec : {M : Type 1} → statement M
-difference-spec = tie.close (tie.spec cast-result cast-result-2 sub-result returns)
+difference-spec = tie.close (tie.spec (λ c. search needs) (λ c. search needs) sub-result returns)

@@ -9,9 +9,6 @@ use native.Mathlib.Omega.{arith}
 use Rattle.meaning.specs.Fraction.{lowest}
 use Rattle.meaning.proofs.Lowest.{gcd-pos}
 
-common-divisor-requires : tie.Need-common-divisor-requires
-common-divisor-requires c κs = search needs
-
 div-t7 : tie.Need-div-t7
 div-t7 c =
     omega (arith, c .common-divisor .ensures, gcd-pos (c .before .args .num) (c .before .args .den) (c .before .pre))
@@ -26,4 +23,4 @@ returns c =
     (ap (λ (z : ℕ). c .before .args .num / z) (c .common-divisor .ensures), ap (λ (z : ℕ). c .before .args .den / z) (c .common-divisor .ensures))
 
 pub lowest-spec : {M : Type 1} → statement M
-lowest-spec = tie.close (tie.spec common-divisor-requires div-t7 div-t8 returns)
+lowest-spec = tie.close (tie.spec (λ c κs. search needs) div-t7 div-t8 returns)

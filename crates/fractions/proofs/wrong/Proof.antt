@@ -32,9 +32,6 @@ returns-3 c =
     let m : a .q < a .p = omega arith in
     rw (at-most 1 (a .q) h, at-most (a .q) mostQ l, not-le (a .p) (a .q) m) refl
 
-common-divisor-requires : tie.Need-common-divisor-requires
-common-divisor-requires c κs = search needs
-
 returns-4 : tie.Need-returns-4
 returns-4 c =
     let a = c .before .before .before .before .args in
@@ -44,4 +41,4 @@ returns-4 c =
     rw (at-most 1 (a .q) h, at-most (a .q) mostQ l, at-most (a .p) (a .q) m) (ap (λ (z : ℕ). not (eqb z 1)) (c .common-divisor .ensures))
 
 pub wrong-spec : {M : Type 1} → statement M
-wrong-spec = tie.close (tie.spec returns returns-2 returns-3 common-divisor-requires returns-4)
+wrong-spec = tie.close (tie.spec returns returns-2 returns-3 (λ c κs. search needs) returns-4)

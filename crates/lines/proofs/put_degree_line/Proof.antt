@@ -9,27 +9,6 @@ use Rattle.lines.proofs.Writing.{as-text, as-number, wrote-more, wrote-
 use Rattle.lines.proofs.Lines.{degree-line}
 use native.Mathlib.Omega.{arith}
 
-put-number-requires : tie.Need-put-number-requires
-put-number-requires c κs = search needs
-
-put-byte-requires : tie.Need-put-byte-requires
-put-byte-requires c κs = search needs
-
-put-number-requires-2 : tie.Need-put-number-requires-2
-put-number-requires-2 c κs = search needs
-
-put-byte-requires-2 : tie.Need-put-byte-requires-2
-put-byte-requires-2 c κs = search needs
-
-put-number-requires-3 : tie.Need-put-number-requires-3
-put-number-requires-3 c κs = search needs
-
-put-byte-requires-3 : tie.Need-put-byte-requires-3
-put-byte-requires-3 c κs = search needs
-
-put-map-requires : tie.Need-put-map-requires
-put-map-requires c κs = search needs
-
 put-byte-requires-4 : tie.Need-put-byte-requires-4
 put-byte-requires-4 c κs =
     let at-put-map = c .before .before .before in
@@ -54,9 +33,6 @@ put-byte-requires-4 c κs =
       at-put-byte3 .put-byte3 .ensures .next,
     ) in
     omega (arith, start .pre, wrote-length whole, near, at-put-map .put-map .ensures .1)
-
-same-length : tie.Need-same-length
-same-length c = search needs
 
 returns : tie.Need-returns
 returns c =
@@ -90,13 +66,13 @@ pub put-degree-line-spec : {M : Type 1} → statement M
 put-degree-line-spec =
     tie.close
     (tie.spec
-    put-number-requires
-    put-byte-requires
-    put-number-requires-2
-    put-byte-requires-2
-    put-number-requires-3
-    put-byte-requires-3
-    put-map-requires
+    (λ c κs. search needs)
+    (λ c κs. search needs)
+    (λ c κs. search needs)
+    (λ c κs. search needs)
+    (λ c κs. search needs)
+    (λ c κs. search needs)
+    (λ c κs. search needs)
     put-byte-requires-4
-    same-length
+    (λ c. search needs)
     returns)

@@ -11,22 +11,10 @@ returns : tie.Need-returns
 returns c =
     (as-text (shown-none _ (c .if1 .taken)) (wrote-none _ _), omega arith)
 
-shared-slice-read-put-place : tie.Need-shared-slice-read-put-place
-shared-slice-read-put-place c = search needs
-
 put-place-requires : tie.Need-put-place-requires
 put-place-requires c κs =
     let start = c .before .before .before .before .before in
     omega (arith, start .pre, c .before .before .if1 .left)
-
-sub-put-places : tie.Need-sub-put-places
-sub-put-places c = search needs
-
-part-put-places-start : tie.Need-part-put-places-start
-part-put-places-start c = search needs
-
-part-put-places-end : tie.Need-part-put-places-end
-part-put-places-end c = search needs
 
 put-places-requires : tie.Need-put-places-requires
 put-places-requires c κs =
@@ -34,9 +22,6 @@ put-places-requires c κs =
     let at-if1 = at-put-place .before .before .before in
     let start = at-if1 .before .before .before in
     omega (arith, start .pre, at-if1 .if1 .left, at-put-place .put-place .ensures .1, length-rest (start .args .map .now))
-
-same-length : tie.Need-same-length
-same-length c = search needs
 
 returns-2 : tie.Need-returns-2
 returns-2 c =
@@ -53,11 +38,11 @@ put-map-spec =
     tie.close
     (tie.spec
     returns
-    shared-slice-read-put-place
+    (λ c. search needs)
     put-place-requires
-    sub-put-places
-    part-put-places-start
-    part-put-places-end
+    (λ c. search needs)
+    (λ c. search needs)
+    (λ c. search needs)
     put-places-requires
-    same-length
+    (λ c. search needs)
     returns-2)

@@ -7,18 +7,6 @@ use Rattle.lines.proofs.Writing.{as-text, wrote-more}
 use Rattle.lines.proofs.Lines.{no-line}
 use native.Mathlib.Omega.{arith}
 
-put-number-requires : tie.Need-put-number-requires
-put-number-requires c κs = search needs
-
-slice-aggregate-put-word : tie.Need-slice-aggregate-put-word
-slice-aggregate-put-word c = search needs
-
-put-word-requires : tie.Need-put-word-requires
-put-word-requires c κs = search needs
-
-same-length : tie.Need-same-length
-same-length c = search needs
-
 returns : tie.Need-returns
 returns c =
     let at-put-word = c .before .before in
@@ -31,8 +19,8 @@ pub put-no-line-spec : {M : Type 1} → statement M
 put-no-line-spec =
     tie.close
     (tie.spec
-    put-number-requires
-    slice-aggregate-put-word
-    put-word-requires
-    same-length
+    (λ c κs. search needs)
+    (λ c. search needs)
+    (λ c κs. search needs)
+    (λ c. search needs)
     returns)

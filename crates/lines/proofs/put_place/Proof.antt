@@ -8,27 +8,12 @@ use Rattle.lines.proofs.Writing.{as-text, decimal-short}
 use Rattle.lines.proofs.Lines.{place-unmapped, place-dropped, wrote-place}
 use native.Mathlib.Omega.{arith}
 
-pair-requires : tie.Need-pair-requires
-pair-requires c κs = search needs
-
-put-byte-requires : tie.Need-put-byte-requires
-put-byte-requires c κs = search needs
-
-same-length : tie.Need-same-length
-same-length c = search needs
-
 returns : tie.Need-returns
 returns c =
     let at-put-byte = c .before .before in
     let at-if1 = at-put-byte .before .before in
     let at-pair = at-if1 .before in
     (as-text (place-unmapped _ (sym (at-pair .pair .ensures .0) ∙ at-if1 .if1 .taken)) (at-put-byte .put-byte .ensures), omega (arith, at-put-byte .put-byte .ensures .next))
-
-put-byte-requires-2 : tie.Need-put-byte-requires-2
-put-byte-requires-2 c κs = search needs
-
-same-length-2 : tie.Need-same-length-2
-same-length-2 c = search needs
 
 returns-2 : tie.Need-returns-2
 returns-2 c =
@@ -42,9 +27,6 @@ put-digits-requires c κs =
     let at-pair = c .before .before .before in
     let start = at-pair .before .before in
     omega (arith, start .pre, decimal-short (at-pair .pair .result) (at-pair .pair .ensures .1))
-
-same-length-3 : tie.Need-same-length-3
-same-length-3 c = search needs
 
 returns-3 : tie.Need-returns-3
 returns-3 c =
@@ -60,13 +42,13 @@ pub put-place-spec : {M : Type 1} → statement M
 put-place-spec =
     tie.close
     (tie.spec
-    pair-requires
-    put-byte-requires
-    same-length
+    (λ c κs. search needs)
+    (λ c κs. search needs)
+    (λ c. search needs)
     returns
-    put-byte-requires-2
-    same-length-2
+    (λ c κs. search needs)
+    (λ c. search needs)
     returns-2
     put-digits-requires
-    same-length-3
+    (λ c. search needs)
     returns-3)

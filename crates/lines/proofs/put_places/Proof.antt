@@ -31,12 +31,6 @@ put-byte-requires c κs =
     let start = at-loop .before .before .before in
     omega (arith, start .pre, at-loop .loop .inv .1, c .before .loop-test .taken, wrote-length (at-loop .loop .inv .2))
 
-mul-put-place : tie.Need-mul-put-place Inv-loop μ-loop
-mul-put-place c = search needs
-
-shared-slice-read-put-place : tie.Need-shared-slice-read-put-place Inv-loop μ-loop
-shared-slice-read-put-place c = search needs
-
 put-place-requires : tie.Need-put-place-requires Inv-loop μ-loop
 put-place-requires c κs =
     let at-put-byte = c .before .before .before .before in
@@ -52,12 +46,6 @@ put-place-requires c κs =
       wrote-length (at-put-byte .put-byte .ensures),
       at-put-byte .put-byte .ensures .next,
     )
-
-add-i : tie.Need-add-i Inv-loop μ-loop
-add-i c = search needs
-
-loop-less : tie.Need-loop-less Inv-loop μ-loop
-loop-less c = search needs
 
 loop-again : tie.Need-loop-again Inv-loop μ-loop
 loop-again c =
@@ -88,11 +76,11 @@ put-places-spec =
     μ-loop
     loop-holds
     put-byte-requires
-    mul-put-place
-    shared-slice-read-put-place
+    (λ c. search needs)
+    (λ c. search needs)
     put-place-requires
-    add-i
-    loop-less
+    (λ c. search needs)
+    (λ c. search needs)
     loop-again
     same-length
     returns)

@@ -7,24 +7,6 @@ use Rattle.lines.proofs.Writing.{as-text, wrote-more}
 use Rattle.lines.proofs.Lines.{yes-line}
 use native.Mathlib.Omega.{arith}
 
-put-number-requires : tie.Need-put-number-requires
-put-number-requires c κs = search needs
-
-slice-aggregate-put-word : tie.Need-slice-aggregate-put-word
-slice-aggregate-put-word c = search needs
-
-put-word-requires : tie.Need-put-word-requires
-put-word-requires c κs = search needs
-
-put-map-requires : tie.Need-put-map-requires
-put-map-requires c κs = search needs
-
-put-byte-requires : tie.Need-put-byte-requires
-put-byte-requires c κs = search needs
-
-same-length : tie.Need-same-length
-same-length c = search needs
-
 returns : tie.Need-returns
 returns c =
     let at-put-map = c .before .before .before .before .before .before in
@@ -37,10 +19,10 @@ pub put-yes-line-spec : {M : Type 1} → statement M
 put-yes-line-spec =
     tie.close
     (tie.spec
-    put-number-requires
-    slice-aggregate-put-word
-    put-word-requires
-    put-map-requires
-    put-byte-requires
-    same-length
+    (λ c κs. search needs)
+    (λ c. search needs)
+    (λ c κs. search needs)
+    (λ c κs. search needs)
+    (λ c κs. search needs)
+    (λ c. search needs)
     returns)

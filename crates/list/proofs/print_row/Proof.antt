@@ -6,12 +6,6 @@ use Rattle.list.proofs.print_row.Tie as tie
 use mathlib.Core.Path.{sym}
 use lib.Seq.{length-take-le}
 
-slice-aggregate-row : tie.Need-slice-aggregate-row
-slice-aggregate-row c = search needs
-
-row-requires : tie.Need-row-requires
-row-requires c κs = search needs
-
 array-share-prefix-line : tie.Need-array-share-prefix-line
 array-share-prefix-line c =
     c .before .row .ensures .fits
@@ -20,19 +14,13 @@ slice-aggregate-write-all : tie.Need-slice-aggregate-write-all
 slice-aggregate-write-all c =
     sym (length-take-le _ _ (c .before .before .row .ensures .fits))
 
-write-all-requires : tie.Need-write-all-requires
-write-all-requires c κs = search needs
-
-returns : tie.Need-returns
-returns c = search needs
-
 pub print-row-spec : {M : Type 1} → statement M
 print-row-spec =
     tie.close
     (tie.spec
-    slice-aggregate-row
-    row-requires
+    (λ c. search needs)
+    (λ c κs. search needs)
     array-share-prefix-line
     slice-aggregate-write-all
-    write-all-requires
-    returns)
+    (λ c κs. search needs)
+    (λ c. search needs))

@@ -10,9 +10,6 @@ use borrow.Author.Needs.{needs}
 use mathlib.Core.Path.{subst}
 use native.Mathlib.Omega.{arith}
 
-enum-known-fact : tie.Need-enum-known-fact
-enum-known-fact c = search needs
-
 mul-code-of : tie.Need-mul-code-of
 mul-code-of c =
     let q = subst (λ (z : Fact). Ranged mostItems z) ((c .before .fact .given .1)) (c .before .before .before .pre) in omega (arith, q .0, q .1)
@@ -24,9 +21,6 @@ add-code-of c =
 code-of-requires : tie.Need-code-of-requires
 code-of-requires c κs =
     let q = subst (λ (z : Fact). Ranged mostItems z) ((c .before .fact .given .1)) (c .before .before .before .pre) in (omega (arith, q .0, q .1), omega arith)
-
-enum-known-fact-2 : tie.Need-enum-known-fact-2
-enum-known-fact-2 c = search needs
 
 number-of-requires : tie.Need-number-of-requires
 number-of-requires c κs =
@@ -52,11 +46,11 @@ pub code-spec : {M : Type 1} → statement M
 code-spec =
     tie.close
     (tie.spec
-    enum-known-fact
+    (λ c. search needs)
     mul-code-of
     add-code-of
     code-of-requires
-    enum-known-fact-2
+    (λ c. search needs)
     number-of-requires
     code-of-requires-2
     returns

@@ -6,15 +6,6 @@ use native.Mathlib.Omega.{arith}
 use Rattle.fields.proofs.Known.{bytes-known}
 use Rattle.numbered.proofs.Faces.{face-no, face-room, face-done}
 
-edit-in-requires : tie.Need-edit-in-requires
-edit-in-requires c κs = search needs
-
-enum-known-r : tie.Need-enum-known-r
-enum-known-r c = search needs
-
-enum-known-r-2 : tie.Need-enum-known-r-2
-enum-known-r-2 c = search needs
-
 code-requires : tie.Need-code-requires
 code-requires c κs =
     let c5 = c .before .before .before .before .before in
@@ -45,9 +36,6 @@ slice-write-log c =
     let h = face-room (a .s .now) (a .log .now) (a .count) (a .fact) (a .adds) by _ _ (c6 .edit-in .result) (c .before .before .r2 .given .1) (c6 .edit-in .ensures .0) in
     h .0
 
-same-length : tie.Need-same-length
-same-length c = search needs
-
 returns : tie.Need-returns
 returns c =
     let a = c .before .before .before .before .before .before .before .before .before .args in
@@ -57,12 +45,6 @@ returns c =
       promised = face-no (a .s .now) (a .log .now) (a .count) (a .fact) (a .adds) _ (c .before .before .before .before .before .edit-in .result) _ (c .before .r .given .1) (d .0) (d .1);
       handed = refl;
     }
-
-same-length-2 : tie.Need-same-length-2
-same-length-2 c = search needs
-
-same-length-3 : tie.Need-same-length-3
-same-length-3 c = search needs
 
 returns-2 : tie.Need-returns-2
 returns-2 c =
@@ -82,14 +64,14 @@ pub edit-spec : {M : Type 1} → statement M
 edit-spec =
     tie.close
     (tie.spec
-    edit-in-requires
-    enum-known-r
-    enum-known-r-2
+    (λ c κs. search needs)
+    (λ c. search needs)
+    (λ c. search needs)
     code-requires
     mul-log
     slice-write-log
-    same-length
+    (λ c. search needs)
     returns
-    same-length-2
-    same-length-3
+    (λ c. search needs)
+    (λ c. search needs)
     returns-2)

@@ -5,18 +5,6 @@ use mathlib.Core.Path.{refl}
 use Rattle.fields.proofs.Known.{bytes-known}
 use Rattle.numbered.proofs.Codes.{undo-face}
 
-last-number-requires : tie.Need-last-number-requires
-last-number-requires c κs = search needs
-
-decode-requires : tie.Need-decode-requires
-decode-requires c κs = search needs
-
-undo-in-requires : tie.Need-undo-in-requires
-undo-in-requires c κs = search needs
-
-same-length : tie.Need-same-length
-same-length c = search needs
-
 returns : tie.Need-returns
 returns c =
     let c2 = c .before .before in
@@ -30,4 +18,4 @@ returns c =
 
 pub undo-spec : {M : Type 1} → statement M
 undo-spec =
-    tie.close (tie.spec last-number-requires decode-requires undo-in-requires same-length returns)
+    tie.close (tie.spec (λ c κs. search needs) (λ c κs. search needs) (λ c κs. search needs) (λ c. search needs) returns)

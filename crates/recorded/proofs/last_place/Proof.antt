@@ -5,14 +5,8 @@ use borrow.Author.Needs.{needs}
 use Rattle.recorded.proofs.last_place.Statement.{statement}
 use Rattle.recorded.proofs.last_place.Tie as tie
 
-returns : tie.Need-returns
-returns c = search needs
-
-sub-result : tie.Need-sub-result
-sub-result c = search needs
-
 returns-2 : tie.Need-returns-2
 returns-2 c = omega arith
 
 pub last-place-spec : {M : Type 1} → statement M
-last-place-spec = tie.close (tie.spec returns sub-result returns-2)
+last-place-spec = tie.close (tie.spec (λ c. search needs) (λ c. search needs) returns-2)

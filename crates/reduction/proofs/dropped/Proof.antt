@@ -18,9 +18,6 @@ element-copy-out-octet : tie.Need-element-copy-out-octet
 element-copy-out-octet c =
     let a = in-range _ _ _ _ (c .before .before .pre .here) in omega arith
 
-octet-requires : tie.Need-octet-requires
-octet-requires c κs = search needs
-
 yields-one-requires-2 : tie.Need-yields-one-requires-2
 yields-one-requires-2 c κs =
     record { one = c .before .before .before .before .pre .here; others = rw (c .octet .ensures .0) (c .before .before .before .before .pre .after) }
@@ -37,6 +34,6 @@ dropped-spec =
     yields-one-requires
     returns
     element-copy-out-octet
-    octet-requires
+    (λ c κs. search needs)
     yields-one-requires-2
     returns-2)

@@ -5,9 +5,6 @@ use native.Mathlib.Omega.{arith}
 use mathlib.Core.Path.{sym, _∙_}
 use Rattle.meaning.proofs.InPlace.{size-in}
 
-reduce-requires : tie.Need-reduce-requires
-reduce-requires c κs = search needs
-
 size-requires : tie.Need-size-requires
 size-requires c κs =
     record { roles = _; held = c .before .before .before .pre }
@@ -19,4 +16,4 @@ returns c =
     ((λ t h. c .size .ensures .right _ t h (c .before .before .reduce .ensures .marked t h) ∙ sym (size-in t)), omega arith)
 
 pub reduced-size-spec : {M : Type 1} → statement M
-reduced-size-spec = tie.close (tie.spec reduce-requires size-requires returns)
+reduced-size-spec = tie.close (tie.spec (λ c κs. search needs) size-requires returns)

@@ -4,9 +4,6 @@ use Rattle.reduction.proofs.yields.Tie as tie
 use borrow.Author.Tests.{not-true, not-false}
 use Rattle.reduction.proofs.Subsumed.{yields-not, yields-earlier, yields-later}
 
-subsumes-like-requires : tie.Need-subsumes-like-requires
-subsumes-like-requires c κs = search needs
-
 returns : tie.Need-returns
 returns c =
     yields-not _ _ _ _ _ _ (c .before .before .args .earlier) (c .before .subsumes-like .ensures) (not-true _ (c .if1 .taken))
@@ -27,4 +24,4 @@ returns-3 c =
 
 pub yields-spec : {M : Type 1} → statement M
 yields-spec =
-    tie.close (tie.spec subsumes-like-requires returns returns-2 subsumes-requires returns-3)
+    tie.close (tie.spec (λ c κs. search needs) returns returns-2 subsumes-requires returns-3)

@@ -32,9 +32,6 @@ element-copy-out-octet : tie.Need-element-copy-out-octet Inv-loop μ-loop
 element-copy-out-octet c =
     let f = c .before .before .before .before .pre .others .fits in omega arith
 
-octet-requires : tie.Need-octet-requires Inv-loop μ-loop
-octet-requires c κs = search needs
-
 loop-less : tie.Need-loop-less Inv-loop μ-loop
 loop-less c =
     let c4 = c .before .before .before .before in
@@ -63,7 +60,7 @@ yields-one-spec =
     yields-requires
     returns
     element-copy-out-octet
-    octet-requires
+    (λ c κs. search needs)
     loop-less
     loop-again
     returns-2)

@@ -8,12 +8,6 @@ use borrow.Author.Needs.{needs}
 use mathlib.Core.Path.{refl}
 use native.Mathlib.Omega.{arith}
 
-room-requires : tie.Need-room-requires
-room-requires c κs = search needs
-
-on-call-requires : tie.Need-on-call-requires
-on-call-requires c κs = search needs
-
 returns : tie.Need-returns
 returns c =
     let c2 = c .before .before in
@@ -21,12 +15,6 @@ returns c =
     edit-no ((c4 .args .s .now)) ((c4 .args .log)) ((c4 .args .count)) ((c4 .args .fact)) ((c4 .args .adds)) ((c .on-call .result)) _ ((c .on-call .ensures))
     (edit-17 ((c4 .args .s .now)) ((c4 .args .log)) ((c4 .args .count)) ((c4 .args .fact)) ((c4 .args .adds)) ((c4 .args .items)) ((c4 .args .links))
     ((c2 .room .result)) _ _ (c4 .pre) ((c2 .room .ensures)) refl refl ((c .before .if1 .taken)))
-
-out-of-range-requires : tie.Need-out-of-range-requires
-out-of-range-requires c κs = search needs
-
-on-call-requires-2 : tie.Need-on-call-requires-2
-on-call-requires-2 c κs = search needs
 
 returns-2 : tie.Need-returns-2
 returns-2 c =
@@ -36,12 +24,6 @@ returns-2 c =
     edit-no ((c6 .args .s .now)) ((c6 .args .log)) ((c6 .args .count)) ((c6 .args .fact)) ((c6 .args .adds)) ((c .on-call2 .result)) _ ((c .on-call2 .ensures))
     (edit-15 ((c6 .args .s .now)) ((c6 .args .log)) ((c6 .args .count)) ((c6 .args .fact)) ((c6 .args .adds)) ((c6 .args .items)) ((c6 .args .links))
     ((c4 .room .result)) ((c2 .out-of-range .result)) _ (c6 .pre) ((c4 .room .ensures)) ((c2 .out-of-range .ensures)) refl ((c .before .before .before .if1 .left)) ((c .before .if2 .taken)))
-
-role-above-requires : tie.Need-role-above-requires
-role-above-requires c κs = search needs
-
-on-call-requires-3 : tie.Need-on-call-requires-3
-on-call-requires-3 c κs = search needs
 
 returns-3 : tie.Need-returns-3
 returns-3 c =
@@ -54,12 +36,6 @@ returns-3 c =
     (edit-7 ((c8 .args .s .now)) ((c8 .args .log)) ((c8 .args .count)) ((c8 .args .fact)) ((c8 .args .adds)) ((c8 .args .items)) ((c8 .args .links))
     ((c6 .room .result)) ((c4 .out-of-range .result)) ((c2 .role-above .result)) (c8 .pre) ((c6 .room .ensures)) ((c4 .out-of-range .ensures))
     ((c2 .role-above .ensures)) ((c5 .if1 .left)) ((c .before .before .before .if2 .left)) ((c .before .if3 .taken)))
-
-room-requires-2 : tie.Need-room-requires-2
-room-requires-2 c κs = search needs
-
-on-call-requires-4 : tie.Need-on-call-requires-4
-on-call-requires-4 c κs = search needs
 
 returns-4 : tie.Need-returns-4
 returns-4 c =
@@ -93,23 +69,11 @@ set-fact-requires c κs =
       ),
     )
 
-enum-known-set : tie.Need-enum-known-set
-enum-known-set c = search needs
-
 add-t21 : tie.Need-add-t21
 add-t21 c =
     let c13 = c .before .before .before .before .before .before .before .before .before .before .before .before .before in
     let c14 = c13 .before in
     omega (arith, (c13 .if1 .left), (c14 .room .ensures))
-
-enum-told : tie.Need-enum-told
-enum-told c = search needs
-
-on-call-requires-5 : tie.Need-on-call-requires-5
-on-call-requires-5 c κs = search needs
-
-same-length : tie.Need-same-length
-same-length c = search needs
 
 returns-5 : tie.Need-returns-5
 returns-5 c =
@@ -127,9 +91,6 @@ returns-5 c =
     ((c8 .room2 .result)) ((c12 .out-of-range .result)) ((c10 .role-above .result)) (c16 .pre) ((c8 .room2 .ensures)) ((c12 .out-of-range .ensures))
     ((c10 .role-above .ensures)) (omega (arith, (c13 .if1 .left), (c14 .room .ensures), (c8 .room2 .ensures))) ((c11 .if2 .left)) ((c9 .if3 .left))
     ((c7 .if4 .left)) _ _ ((c5 .set-fact .result)) ((c .before .set .given .1)) ((c5 .set-fact .ensures))
-
-same-length-2 : tie.Need-same-length-2
-same-length-2 c = search needs
 
 returns-6 : tie.Need-returns-6
 returns-6 c =
@@ -152,24 +113,24 @@ pub edit-read-spec : {M : Type 1} → statement M
 edit-read-spec =
     tie.close
     (tie.spec
-    room-requires
-    on-call-requires
+    (λ c κs. search needs)
+    (λ c κs. search needs)
     returns
-    out-of-range-requires
-    on-call-requires-2
+    (λ c κs. search needs)
+    (λ c κs. search needs)
     returns-2
-    role-above-requires
-    on-call-requires-3
+    (λ c κs. search needs)
+    (λ c κs. search needs)
     returns-3
-    room-requires-2
-    on-call-requires-4
+    (λ c κs. search needs)
+    (λ c κs. search needs)
     returns-4
     set-fact-requires
-    enum-known-set
+    (λ c. search needs)
     add-t21
-    enum-told
-    on-call-requires-5
-    same-length
+    (λ c. search needs)
+    (λ c κs. search needs)
+    (λ c. search needs)
     returns-5
-    same-length-2
+    (λ c. search needs)
     returns-6)

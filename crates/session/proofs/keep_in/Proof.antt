@@ -5,21 +5,6 @@ use Rattle.session.proofs.keep_in.Statement.{statement}
 use Rattle.session.proofs.keep_in.Tie as tie
 use borrow.Author.Needs.{needs}
 
-read-requires : tie.Need-read-requires
-read-requires c κs = search needs
-
-enum-known-r : tie.Need-enum-known-r
-enum-known-r c = search needs
-
-enum-told : tie.Need-enum-told
-enum-told c = search needs
-
-room-requires : tie.Need-room-requires
-room-requires c κs = search needs
-
-on-call-requires : tie.Need-on-call-requires
-on-call-requires c κs = search needs
-
 returns : tie.Need-returns
 returns c =
     let c2 = c .before .before in
@@ -46,11 +31,11 @@ pub keep-in-spec : {M : Type 1} → statement M
 keep-in-spec =
     tie.close
     (tie.spec
-    read-requires
-    enum-known-r
-    enum-told
-    room-requires
-    on-call-requires
+    (λ c κs. search needs)
+    (λ c. search needs)
+    (λ c. search needs)
+    (λ c κs. search needs)
+    (λ c κs. search needs)
     returns
     returns-2
     returns-3)

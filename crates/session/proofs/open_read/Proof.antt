@@ -4,15 +4,6 @@ use Rattle.session.proofs.open_read.Tie as tie
 use Rattle.fields.proofs.Known.{bytes-known}
 use Rattle.session.proofs.Answered.{open-done}
 
-image-len-requires : tie.Need-image-len-requires
-image-len-requires c κs = search needs
-
-clear-requires : tie.Need-clear-requires
-clear-requires c κs = search needs
-
-same-length : tie.Need-same-length
-same-length c = search needs
-
 returns : tie.Need-returns
 returns c =
     let c5 = c .before .before .before .before .before in
@@ -22,4 +13,4 @@ returns c =
     (c6 .pre .0) (c .before .before .clear .ensures)
 
 pub open-read-spec : {M : Type 1} → statement M
-open-read-spec = tie.close (tie.spec image-len-requires clear-requires same-length returns)
+open-read-spec = tie.close (tie.spec (λ c κs. search needs) (λ c κs. search needs) (λ c. search needs) returns)

@@ -5,15 +5,9 @@ use Rattle.session.proofs.out_of_range.Statement.{statement}
 use Rattle.session.proofs.out_of_range.Tie as tie
 use borrow.Author.Needs.{needs}
 
-enum-known-fact : tie.Need-enum-known-fact
-enum-known-fact c = search needs
-
 returns : tie.Need-returns
 returns c =
     range-item ((c .before .before .before .before .args .items)) _ _ ((c .before .before .before .before .args .fact)) ((c .before .before .fact .given .1)) ((c .if1 .taken))
-
-enum-known-fact-2 : tie.Need-enum-known-fact-2
-enum-known-fact-2 c = search needs
 
 returns-2 : tie.Need-returns-2
 returns-2 c =
@@ -29,4 +23,4 @@ returns-4 c =
 
 pub out-of-range-spec : {M : Type 1} → statement M
 out-of-range-spec =
-    tie.close (tie.spec enum-known-fact returns enum-known-fact-2 returns-2 returns-3 returns-4)
+    tie.close (tie.spec (λ c. search needs) returns (λ c. search needs) returns-2 returns-3 returns-4)

@@ -5,18 +5,9 @@ use Rattle.session.proofs.role_above.Statement.{statement}
 use Rattle.session.proofs.role_above.Tie as tie
 use borrow.Author.Needs.{needs}
 
-enum-told : tie.Need-enum-told
-enum-told c = search needs
-
-enum-known-fact : tie.Need-enum-known-fact
-enum-known-fact c = search needs
-
-returns : tie.Need-returns
-returns c = search needs
-
 returns-2 : tie.Need-returns-2
 returns-2 c =
     role-link _ _ _ ((c .before .before .before .args .fact)) ((c .before .fact .given .1))
 
 pub role-above-spec : {M : Type 1} → statement M
-role-above-spec = tie.close (tie.spec enum-told enum-known-fact returns returns-2)
+role-above-spec = tie.close (tie.spec (λ c. search needs) (λ c. search needs) (λ c. search needs) returns-2)

@@ -17,12 +17,6 @@ use Rattle.setting.specs.Setting.{SettingOf}
 as-it-was : (s after : List ℕ) (fact : Fact) (r : Setting) (was : Bool) {b : Bool} → SettingOf s fact b after r → b ≡ was → SettingOf s fact was after r
 as-it-was s after fact r was h e = subst (λ (z : Bool). SettingOf s fact z after r) e h
 
-room-requires : tie.Need-room-requires
-room-requires c κs = search needs
-
-on-call-requires : tie.Need-on-call-requires
-on-call-requires c κs = search needs
-
 returns : tie.Need-returns
 returns c =
     let c2 = c .before .before in
@@ -31,9 +25,6 @@ returns c =
     (undo-17 ((c4 .args .s .now)) ((c4 .args .log)) ((c4 .args .count)) ((c4 .args .last)) ((c4 .args .items)) ((c4 .args .links)) ((c2 .room .result)) _ _
     (c4 .pre) ((c2 .room .ensures)) refl refl ((c .before .if1 .taken)))
 
-on-call-requires-2 : tie.Need-on-call-requires-2
-on-call-requires-2 c κs = search needs
-
 returns-2 : tie.Need-returns-2
 returns-2 c =
     let c3 = c .before .before .before in
@@ -41,12 +32,6 @@ returns-2 c =
     undo-no ((c5 .args .s .now)) ((c5 .args .log)) ((c5 .args .count)) ((c5 .args .last)) ((c .on-call2 .result)) _ ((c .on-call2 .ensures))
     (undo-19 ((c5 .args .s .now)) ((c5 .args .log)) ((c5 .args .count)) ((c5 .args .last)) ((c5 .args .items)) ((c5 .args .links)) ((c3 .room .result)) _ _
     (c5 .pre) ((c3 .room .ensures)) refl refl ((c .before .before .if1 .left)) ((c .before .if2 .taken)))
-
-out-of-range-requires : tie.Need-out-of-range-requires
-out-of-range-requires c κs = search needs
-
-on-call-requires-3 : tie.Need-on-call-requires-3
-on-call-requires-3 c κs = search needs
 
 returns-3 : tie.Need-returns-3
 returns-3 c =
@@ -57,12 +42,6 @@ returns-3 c =
     undo-no ((c7 .args .s .now)) ((c7 .args .log)) ((c7 .args .count)) ((c7 .args .last)) ((c .on-call3 .result)) _ ((c .on-call3 .ensures))
     (undo-range ((c7 .args .s .now)) ((c7 .args .log)) ((c7 .args .count)) ((c7 .args .last)) ((c7 .args .items)) ((c7 .args .links)) ((c5 .room .result))
     ((c2 .out-of-range .result)) _ (c7 .pre) ((c5 .room .ensures)) ((c2 .out-of-range .ensures)) refl ((c4 .if1 .left)) ((c .before .before .before .if2 .left)) ((c .before .if3 .taken)))
-
-role-above-requires : tie.Need-role-above-requires
-role-above-requires c κs = search needs
-
-on-call-requires-4 : tie.Need-on-call-requires-4
-on-call-requires-4 c κs = search needs
 
 returns-4 : tie.Need-returns-4
 returns-4 c =
@@ -93,21 +72,6 @@ set-fact-requires c κs =
       ),
     )
 
-enum-told : tie.Need-enum-told
-enum-told c = search needs
-
-sub-t20 : tie.Need-sub-t20
-sub-t20 c = search needs
-
-enum-told-2 : tie.Need-enum-told-2
-enum-told-2 c = search needs
-
-on-call-requires-5 : tie.Need-on-call-requires-5
-on-call-requires-5 c κs = search needs
-
-same-length : tie.Need-same-length
-same-length c = search needs
-
 returns-5 : tie.Need-returns-5
 returns-5 c =
     let c4 = c .before .before .before .before in
@@ -123,9 +87,6 @@ returns-5 c =
     ((c9 .out-of-range .result)) ((c7 .role-above .result)) (c14 .pre) ((c12 .room .ensures)) ((c9 .out-of-range .ensures)) ((c7 .role-above .ensures))
     ((c11 .if1 .left)) ((c10 .if2 .left)) ((c8 .if3 .left)) ((c6 .if4 .left)) _ _ ((c4 .set-fact .result)) ((c .enum-told .given .1))
     (as-it-was _ _ _ (c4 .set-fact .result) (c14 .args .last .was) (c4 .set-fact .ensures) refl)
-
-same-length-2 : tie.Need-same-length-2
-same-length-2 c = search needs
 
 returns-6 : tie.Need-returns-6
 returns-6 c =
@@ -147,23 +108,23 @@ pub undo-read-spec : {M : Type 1} → statement M
 undo-read-spec =
     tie.close
     (tie.spec
-    room-requires
-    on-call-requires
+    (λ c κs. search needs)
+    (λ c κs. search needs)
     returns
-    on-call-requires-2
+    (λ c κs. search needs)
     returns-2
-    out-of-range-requires
-    on-call-requires-3
+    (λ c κs. search needs)
+    (λ c κs. search needs)
     returns-3
-    role-above-requires
-    on-call-requires-4
+    (λ c κs. search needs)
+    (λ c κs. search needs)
     returns-4
     set-fact-requires
-    enum-told
-    sub-t20
-    enum-told-2
-    on-call-requires-5
-    same-length
+    (λ c. search needs)
+    (λ c. search needs)
+    (λ c. search needs)
+    (λ c κs. search needs)
+    (λ c. search needs)
     returns-5
-    same-length-2
+    (λ c. search needs)
     returns-6)

@@ -6,27 +6,6 @@ use Rattle.fields.proofs.Known.{bytes-known}
 use Rattle.setting.proofs.Set.{asked-is}
 use Rattle.setting.proofs.Chains.{insert-chain}
 
-link-at-requires : tie.Need-link-at-requires
-link-at-requires c κs = search needs
-
-image-len-requires : tie.Need-image-len-requires
-image-len-requires c κs = search needs
-
-move-up-requires : tie.Need-move-up-requires
-move-up-requires c κs = search needs
-
-put-requires : tie.Need-put-requires
-put-requires c κs = search needs
-
-add-put-counts : tie.Need-add-put-counts
-add-put-counts c = search needs
-
-put-counts-requires : tie.Need-put-counts-requires
-put-counts-requires c κs = search needs
-
-same-length : tie.Need-same-length
-same-length c = search needs
-
 returns : tie.Need-returns
 returns c =
     let c6 = c .before .before .before .before .before .before in
@@ -45,11 +24,11 @@ pub insert-spec : {M : Type 1} → statement M
 insert-spec =
     tie.close
     (tie.spec
-    link-at-requires
-    image-len-requires
-    move-up-requires
-    put-requires
-    add-put-counts
-    put-counts-requires
-    same-length
+    (λ c κs. search needs)
+    (λ c κs. search needs)
+    (λ c κs. search needs)
+    (λ c κs. search needs)
+    (λ c. search needs)
+    (λ c κs. search needs)
+    (λ c. search needs)
     returns)

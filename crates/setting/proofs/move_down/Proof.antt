@@ -21,12 +21,6 @@ loop-holds : tie.Need-loop-holds Inv-loop μ-loop
 loop-holds c =
     (omega arith, c .pre .0, refl, sym (down-none (c .args .s .now) (c .args .from)))
 
-add-loop : tie.Need-add-loop Inv-loop μ-loop
-add-loop c = search needs
-
-add-s : tie.Need-add-s Inv-loop μ-loop
-add-s c = search needs
-
 slice-read-s : tie.Need-slice-read-s Inv-loop μ-loop
 slice-read-s c =
     omega (arith, c .before .loop-test .taken, c .before .before .loop .inv .2, c .before .before .before .pre .1)
@@ -34,12 +28,6 @@ slice-read-s c =
 slice-write-s : tie.Need-slice-write-s Inv-loop μ-loop
 slice-write-s c =
     omega (arith, c .before .loop-test .taken, c .before .before .loop .inv .2, c .before .before .before .pre .1)
-
-add-i : tie.Need-add-i Inv-loop μ-loop
-add-i c = search needs
-
-loop-less : tie.Need-loop-less Inv-loop μ-loop
-loop-less c = search needs
 
 loop-again : tie.Need-loop-again Inv-loop μ-loop
 loop-again c =
@@ -69,12 +57,12 @@ move-down-spec =
     Inv-loop
     μ-loop
     loop-holds
-    add-loop
-    add-s
+    (λ c. search needs)
+    (λ c. search needs)
     slice-read-s
     slice-write-s
-    add-i
-    loop-less
+    (λ c. search needs)
+    (λ c. search needs)
     loop-again
     same-length
     returns)

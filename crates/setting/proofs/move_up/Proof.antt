@@ -21,9 +21,6 @@ loop-holds : tie.Need-loop-holds Inv-loop μ-loop
 loop-holds c =
     (c .pre .0, omega arith, refl, sym (up-none (c .args .s .now) (c .args .end)))
 
-sub-i : tie.Need-sub-i Inv-loop μ-loop
-sub-i c = search needs
-
 slice-read-s : tie.Need-slice-read-s Inv-loop μ-loop
 slice-read-s c =
     omega (arith, c .before .before .loop .inv .1, c .before .before .loop .inv .2, c .before .before .before .pre .1)
@@ -35,9 +32,6 @@ add-s c =
 slice-write-s : tie.Need-slice-write-s Inv-loop μ-loop
 slice-write-s c =
     omega (arith, c .before .before .loop .inv .1, c .before .before .loop .inv .2, c .before .before .before .pre .1)
-
-loop-less : tie.Need-loop-less Inv-loop μ-loop
-loop-less c = search needs
 
 loop-again : tie.Need-loop-again Inv-loop μ-loop
 loop-again c =
@@ -66,11 +60,11 @@ move-up-spec =
     Inv-loop
     μ-loop
     loop-holds
-    sub-i
+    (λ c. search needs)
     slice-read-s
     add-s
     slice-write-s
-    loop-less
+    (λ c. search needs)
     loop-again
     same-length
     returns)

@@ -23,22 +23,10 @@ loop-holds : tie.Need-loop-holds Inv-loop μ-loop
 loop-holds c =
     (omega arith, omega arith, λ g h. narrowed-none (λ j. key (linkNo g j)) (length (g .links)) _ _ (asked-image (c .before .pre) g h .1))
 
-sub-mid : tie.Need-sub-mid Inv-loop μ-loop
-sub-mid c = search needs
-
-add-mid : tie.Need-add-mid Inv-loop μ-loop
-add-mid c = search needs
-
 key-of-requires : tie.Need-key-of-requires Inv-loop μ-loop
 key-of-requires c κs =
     let p = c .before .before .before .pre in
     record { register = p .register; read = p .read; holds = (p .holds .0, omega (arith, p .holds .1)) }
-
-add-low : tie.Need-add-low Inv-loop μ-loop
-add-low c = search needs
-
-loop-less : tie.Need-loop-less Inv-loop μ-loop
-loop-less c = search needs
 
 loop-again : tie.Need-loop-again Inv-loop μ-loop
 loop-again c =
@@ -50,9 +38,6 @@ loop-again c =
           narrowed-up (λ j. key (linkNo g j)) (length (g .links)) (a .number) (keys-rise (a .s .now) (bytes-known (a .s .now) (c .before .before .before .before .shared-slice-known .given)) g h)
           _ _ _ _ (c .before .before .before .loop .inv .2 g h) (omega (arith, asked-image p g h .1)) (c .before .key-of .ensures g h) (c .if1 .taken),
     )
-
-loop-less-2 : tie.Need-loop-less-2 Inv-loop μ-loop
-loop-less-2 c = search needs
 
 loop-again-2 : tie.Need-loop-again-2 Inv-loop μ-loop
 loop-again-2 c =
@@ -76,12 +61,12 @@ place-of-spec =
     Inv-loop
     μ-loop
     loop-holds
-    sub-mid
-    add-mid
+    (λ c. search needs)
+    (λ c. search needs)
     key-of-requires
-    add-low
-    loop-less
+    (λ c. search needs)
+    (λ c. search needs)
     loop-again
-    loop-less-2
+    (λ c. search needs)
     loop-again-2
     returns)

@@ -7,21 +7,6 @@ use Prim.Native.Nat.{ℕ}
 use lib.Seq.{sets}
 use Rattle.meaning.specs.Bytes.{bytes}
 
-count-at-requires : tie.Need-count-at-requires
-count-at-requires c κs = search needs
-
-put-requires : tie.Need-put-requires
-put-requires c κs = search needs
-
-body-len-requires : tie.Need-body-len-requires
-body-len-requires c κs = search needs
-
-put-requires-2 : tie.Need-put-requires-2
-put-requires-2 c κs = search needs
-
-same-length : tie.Need-same-length
-same-length c = search needs
-
 returns : tie.Need-returns
 returns c =
     let c7 = c .before .before .before .before .before .before .before in
@@ -35,4 +20,4 @@ returns c =
 pub put-counts-spec : {M : Type 1} → statement M
 put-counts-spec =
     tie.close
-    (tie.spec count-at-requires put-requires body-len-requires put-requires-2 same-length returns)
+    (tie.spec (λ c κs. search needs) (λ c κs. search needs) (λ c κs. search needs) (λ c κs. search needs) (λ c. search needs) returns)

@@ -6,30 +6,6 @@ use Rattle.fields.proofs.Known.{bytes-known}
 use Rattle.setting.proofs.Set.{asked-is}
 use Rattle.setting.proofs.Chains.{remove-chain}
 
-link-at-requires : tie.Need-link-at-requires
-link-at-requires c κs = search needs
-
-image-len-requires : tie.Need-image-len-requires
-image-len-requires c κs = search needs
-
-move-down-requires : tie.Need-move-down-requires
-move-down-requires c κs = search needs
-
-sub-put : tie.Need-sub-put
-sub-put c = search needs
-
-put-requires : tie.Need-put-requires
-put-requires c κs = search needs
-
-sub-put-counts : tie.Need-sub-put-counts
-sub-put-counts c = search needs
-
-put-counts-requires : tie.Need-put-counts-requires
-put-counts-requires c κs = search needs
-
-same-length : tie.Need-same-length
-same-length c = search needs
-
 returns : tie.Need-returns
 returns c =
     let c6 = c .before .before .before .before .before .before in
@@ -48,12 +24,12 @@ pub remove-spec : {M : Type 1} → statement M
 remove-spec =
     tie.close
     (tie.spec
-    link-at-requires
-    image-len-requires
-    move-down-requires
-    sub-put
-    put-requires
-    sub-put-counts
-    put-counts-requires
-    same-length
+    (λ c κs. search needs)
+    (λ c κs. search needs)
+    (λ c κs. search needs)
+    (λ c. search needs)
+    (λ c κs. search needs)
+    (λ c. search needs)
+    (λ c κs. search needs)
+    (λ c. search needs)
     returns)

@@ -7,18 +7,12 @@ use Rattle.meaning.specs.declared.Fact.{Fact}
 use Rattle.setting.specs.Setting.{Ranged}
 use Rattle.setting.proofs.Set.{name-set, link-set}
 
-enum-known-fact : tie.Need-enum-known-fact
-enum-known-fact c = search needs
-
 set-name-requires : tie.Need-set-name-requires
 set-name-requires c κs =
     let p = c .before .before .before .before .before .pre in
     let q = subst (λ (z : Fact). Ranged (c .before .before .before .before .before .args .items) z) (c .before .before .fact .given .1) (p .1 .0) in
     let z = p .1 .1 in
     (record { register = p .0 .register; read = p .0 .read; holds = omega (arith, p .0 .holds .0, q .0) }, (omega (arith, q .0, z .0), q .1, omega (arith, q .0, z .2)))
-
-enum-known-fact-2 : tie.Need-enum-known-fact-2
-enum-known-fact-2 c = search needs
 
 set-link-requires : tie.Need-set-link-requires
 set-link-requires c κs =
@@ -27,9 +21,6 @@ set-link-requires c κs =
     let z = p .1 .1 in
     (p .0, (q .0, q .1, q .2, z .0, z .1, z .2))
 
-same-length : tie.Need-same-length
-same-length c = search needs
-
 returns : tie.Need-returns
 returns c =
     let c2 = c .before .before in
@@ -37,9 +28,6 @@ returns c =
     let c8 = c5 .before .before .before in
     let a = c8 .args in
     name-set (a .s .now) _ (a .fact) _ _ (a .adds) (c2 .set-name .result) (c5 .fact .given .1) (c2 .set-name .ensures .0) (c2 .set-name .ensures .1)
-
-same-length-2 : tie.Need-same-length-2
-same-length-2 c = search needs
 
 returns-2 : tie.Need-returns-2
 returns-2 c =
@@ -50,11 +38,11 @@ pub set-fact-spec : {M : Type 1} → statement M
 set-fact-spec =
     tie.close
     (tie.spec
-    enum-known-fact
+    (λ c. search needs)
     set-name-requires
-    enum-known-fact-2
+    (λ c. search needs)
     set-link-requires
-    same-length
+    (λ c. search needs)
     returns
-    same-length-2
+    (λ c. search needs)
     returns-2)

@@ -7,18 +7,6 @@ use borrow.Author.Tests.{not-true, not-false}
 use Rattle.fields.proofs.Known.{bytes-known}
 use Rattle.setting.proofs.Set.{Looked, stands-within, place-within, set-stays, set-goes, set-full, set-tight, set-comes}
 
-number-of-requires : tie.Need-number-of-requires
-number-of-requires c κs = search needs
-
-place-of-requires : tie.Need-place-of-requires
-place-of-requires c κs = search needs
-
-stands-at-requires : tie.Need-stands-at-requires
-stands-at-requires c κs = search needs
-
-same-length : tie.Need-same-length
-same-length c = search needs
-
 returns : tie.Need-returns
 returns c =
     let c2 = c .before .before in
@@ -61,9 +49,6 @@ remove-requires c κs =
     } in
     (p .0, (stands-within w (c .before .before .if1 .taken), p .1 .3, p .1 .4, p .1 .5))
 
-same-length-2 : tie.Need-same-length-2
-same-length-2 c = search needs
-
 returns-2 : tie.Need-returns-2
 returns-2 c =
     let c4 = c .before .before .before .before in
@@ -87,9 +72,6 @@ returns-2 c =
     } in
     set-goes w (c5 .if1 .taken) (c4 .if2 .left) (c .before .before .remove .ensures)
 
-same-length-3 : tie.Need-same-length-3
-same-length-3 c = search needs
-
 returns-3 : tie.Need-returns-3
 returns-3 c =
     let c2 = c .before .before in
@@ -111,9 +93,6 @@ returns-3 c =
     } in
     set-stays w false (c .before .if1 .left) (not-true _ (c .if3 .taken))
 
-same-length-4 : tie.Need-same-length-4
-same-length-4 c = search needs
-
 returns-4 : tie.Need-returns-4
 returns-4 c =
     let c3 = c .before .before .before in
@@ -134,15 +113,6 @@ returns-4 c =
       stands = c3 .stands-at .ensures;
     } in
     set-full w (c .before .before .if1 .left) (not-false _ (c .before .if3 .left)) (c .if4 .taken)
-
-add-image-len : tie.Need-add-image-len
-add-image-len c = search needs
-
-image-len-requires : tie.Need-image-len-requires
-image-len-requires c κs = search needs
-
-same-length-5 : tie.Need-same-length-5
-same-length-5 c = search needs
 
 returns-5 : tie.Need-returns-5
 returns-5 c =
@@ -187,9 +157,6 @@ insert-requires c κs =
     } in
     (p .0, (place-within w, p .1 .3, c .before .before .before .if4 .left, omega (arith, c .before .before .image-len .ensures, c .before .if5 .left)))
 
-same-length-6 : tie.Need-same-length-6
-same-length-6 c = search needs
-
 returns-6 : tie.Need-returns-6
 returns-6 c =
     let c4 = c .before .before .before .before in
@@ -220,22 +187,22 @@ pub set-link-spec : {M : Type 1} → statement M
 set-link-spec =
     tie.close
     (tie.spec
-    number-of-requires
-    place-of-requires
-    stands-at-requires
-    same-length
+    (λ c κs. search needs)
+    (λ c κs. search needs)
+    (λ c κs. search needs)
+    (λ c. search needs)
     returns
     remove-requires
-    same-length-2
+    (λ c. search needs)
     returns-2
-    same-length-3
+    (λ c. search needs)
     returns-3
-    same-length-4
+    (λ c. search needs)
     returns-4
-    add-image-len
-    image-len-requires
-    same-length-5
+    (λ c. search needs)
+    (λ c κs. search needs)
+    (λ c. search needs)
     returns-5
     insert-requires
-    same-length-6
+    (λ c. search needs)
     returns-6)

@@ -8,24 +8,6 @@ use Rattle.meaning.specs.Bytes.{bytes}
 use Rattle.fields.proofs.Known.{bytes-known}
 use Rattle.setting.proofs.Set.{asked-is, renames, name-was}
 
-names-of-requires : tie.Need-names-of-requires
-names-of-requires c κs = search needs
-
-on-requires : tie.Need-on-requires
-on-requires c κs = search needs
-
-with-bit-requires : tie.Need-with-bit-requires
-with-bit-requires c κs = search needs
-
-names-at-requires : tie.Need-names-at-requires
-names-at-requires c κs = search needs
-
-put-requires : tie.Need-put-requires
-put-requires c κs = search needs
-
-same-length : tie.Need-same-length
-same-length c = search needs
-
 returns : tie.Need-returns
 returns c =
     let c5 = c .before .before .before .before .before in
@@ -45,10 +27,10 @@ pub set-name-spec : {M : Type 1} → statement M
 set-name-spec =
     tie.close
     (tie.spec
-    names-of-requires
-    on-requires
-    with-bit-requires
-    names-at-requires
-    put-requires
-    same-length
+    (λ c κs. search needs)
+    (λ c κs. search needs)
+    (λ c κs. search needs)
+    (λ c κs. search needs)
+    (λ c κs. search needs)
+    (λ c. search needs)
     returns)

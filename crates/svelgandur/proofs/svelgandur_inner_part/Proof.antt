@@ -6,12 +6,6 @@ use Rattle.svelgandur.proofs.svelgandur_inner_part.Tie as tie
 use mathlib.Core.Path.{_∙_, ap}
 use Rattle.answers.specs.Numbers.{placeNumbers}
 
-find-inner-requires : tie.Need-find-inner-requires
-find-inner-requires c κs = search needs
-
-of-place-requires : tie.Need-of-place-requires
-of-place-requires c κs = search needs
-
 returns : tie.Need-returns
 returns c =
     c .of-place .ensures ∙ ap placeNumbers (c .before .before .find-inner .ensures .0)
@@ -20,6 +14,6 @@ pub svelgandur-inner-part-spec : {M : Type 1} → statement M
 svelgandur-inner-part-spec =
     tie.close
     (tie.spec
-    find-inner-requires
-    of-place-requires
+    (λ c κs. search needs)
+    (λ c κs. search needs)
     returns)

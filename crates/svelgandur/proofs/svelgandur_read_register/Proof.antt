@@ -6,12 +6,6 @@ use Rattle.svelgandur.proofs.svelgandur_read_register.Tie as tie
 use mathlib.Core.Path.{_∙_, ap}
 use Rattle.answers.specs.Numbers.{numbers, counts}
 
-read-requires : tie.Need-read-requires
-read-requires c κs = search needs
-
-of-reading-requires : tie.Need-of-reading-requires
-of-reading-requires c κs = search needs
-
 returns : tie.Need-returns
 returns c =
     c .of-reading .ensures ∙ ap (numbers counts) (c .before .before .read .ensures)
@@ -20,6 +14,6 @@ pub svelgandur-read-register-spec : {M : Type 1} → statement M
 svelgandur-read-register-spec =
     tie.close
     (tie.spec
-    read-requires
-    of-reading-requires
+    (λ c κs. search needs)
+    (λ c κs. search needs)
     returns)

@@ -6,12 +6,6 @@ use Rattle.svelgandur.proofs.svelgandur_read_requirement.Tie as tie
 use mathlib.Core.Path.{_∙_}
 use Rattle.answers.proofs.Messages.{message-told}
 
-read-requires : tie.Need-read-requires
-read-requires c κs = search needs
-
-of-message-requires : tie.Need-of-message-requires
-of-message-requires c κs = search needs
-
 returns : tie.Need-returns
 returns c = c .of-message .ensures ∙ message-told _ (c .before .before .read .result) (c .before .before .read .ensures)
 
@@ -19,6 +13,6 @@ pub svelgandur-read-requirement-spec : {M : Type 1} → statement M
 svelgandur-read-requirement-spec =
     tie.close
     (tie.spec
-    read-requires
-    of-message-requires
+    (λ c κs. search needs)
+    (λ c κs. search needs)
     returns)

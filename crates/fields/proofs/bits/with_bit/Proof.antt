@@ -5,12 +5,6 @@ use Rattle.fields.proofs.bits.with_bit.Tie as tie
 use Prim.Native.Nat.{_-_}
 use Rattle.meaning.proofs.NamesChanged.{off-le, name-off, name-on, on-fits}
 
-returns : tie.Need-returns
-returns c = search needs
-
-shl-result : tie.Need-shl-result
-shl-result c = search needs
-
 sub-result : tie.Need-sub-result
 sub-result c =
     let c2 = c .before .before in
@@ -20,9 +14,6 @@ returns-2 : tie.Need-returns-2
 returns-2 c =
     let c2 = c .before .before in
     name-off (c2 .args .set) (c2 .args .k) (c2 .args .there) (c2 .args .yes) (c2 .pre .0) (c2 .pre .1) (c .before .if1 .taken) (c .if2 .left)
-
-shl-result-2 : tie.Need-shl-result-2
-shl-result-2 c = search needs
 
 add-result : tie.Need-add-result
 add-result c =
@@ -34,10 +25,7 @@ returns-3 c =
     let c2 = c .before .before in
     name-on (c2 .args .set) (c2 .args .k) (c2 .args .there) (c2 .args .yes) (c2 .pre .0) (c2 .pre .1) (c .before .if1 .left) (c .if3 .taken)
 
-returns-4 : tie.Need-returns-4
-returns-4 c = search needs
-
 pub with-bit-spec : {M : Type 1} → statement M
 with-bit-spec =
     tie.close
-    (tie.spec returns shl-result sub-result returns-2 shl-result-2 add-result returns-3 returns-4)
+    (tie.spec (λ c. search needs) (λ c. search needs) sub-result returns-2 (λ c. search needs) add-result returns-3 (λ c. search needs))

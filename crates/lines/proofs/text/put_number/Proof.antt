@@ -10,9 +10,6 @@ put-digits-requires : tie.Need-put-digits-requires
 put-digits-requires c κs =
     number-fits _ _ _ (omega arith)
 
-same-length : tie.Need-same-length
-same-length c = search needs
-
 returns : tie.Need-returns
 returns c =
     let start = c .before .before .before .before .before in
@@ -23,5 +20,5 @@ put-number-spec =
     tie.close
     (tie.spec
     put-digits-requires
-    same-length
+    (λ c. search needs)
     returns)

@@ -6,15 +6,6 @@ use Rattle.svelgandur.proofs.asks.svelgandur_degree.Tie as tie
 use mathlib.Core.Path.{_∙_, ap}
 use Rattle.answers.specs.Numbers.{numbers, degreeNumbers}
 
-degree-of-requires : tie.Need-degree-of-requires
-degree-of-requires c κs = search needs
-
-of-degree-requires : tie.Need-of-degree-requires
-of-degree-requires c κs = search needs
-
-same-length : tie.Need-same-length
-same-length c = search needs
-
 returns : tie.Need-returns
 returns c =
     let at-degree-of = c .before .before .before .before in
@@ -24,7 +15,7 @@ pub svelgandur-degree-spec : {M : Type 1} → statement M
 svelgandur-degree-spec =
     tie.close
     (tie.spec
-    degree-of-requires
-    of-degree-requires
-    same-length
+    (λ c κs. search needs)
+    (λ c κs. search needs)
+    (λ c. search needs)
     returns)

@@ -8,9 +8,6 @@ use Rattle.asking.proofs.Promise.{margin-within}
 use Rattle.answers.specs.Numbers.{numbers, marginNumbers}
 use Rattle.answers.proofs.Margins.{small-enough}
 
-margin-of-requires : tie.Need-margin-of-requires
-margin-of-requires c κs = search needs
-
 of-margin-requires : tie.Need-of-margin-requires
 of-margin-requires c κs =
     let at-margin-of = c .before in
@@ -27,6 +24,6 @@ pub svelgandur-margin-spec : {M : Type 1} → statement M
 svelgandur-margin-spec =
     tie.close
     (tie.spec
-    margin-of-requires
+    (λ c κs. search needs)
     of-margin-requires
     returns)

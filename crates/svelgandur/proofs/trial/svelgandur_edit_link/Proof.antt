@@ -6,18 +6,6 @@ use Rattle.svelgandur.proofs.trial.svelgandur_edit_link.Tie as tie
 use mathlib.Core.Path.{_∙_, ap}
 use Rattle.answers.specs.Numbers.{numbers, inUse}
 
-edit-requires : tie.Need-edit-requires
-edit-requires c κs = search needs
-
-of-count-requires : tie.Need-of-count-requires
-of-count-requires c κs = search needs
-
-same-length : tie.Need-same-length
-same-length c = search needs
-
-same-length-2 : tie.Need-same-length-2
-same-length-2 c = search needs
-
 returns : tie.Need-returns
 returns c =
     let edited = c .before .before .before .before .before .before .edit .ensures .promised in
@@ -25,4 +13,4 @@ returns c =
 
 pub svelgandur-edit-link-spec : {M : Type 1} → statement M
 svelgandur-edit-link-spec =
-    tie.close (tie.spec edit-requires of-count-requires same-length same-length-2 returns)
+    tie.close (tie.spec (λ c κs. search needs) (λ c κs. search needs) (λ c. search needs) (λ c. search needs) returns)

@@ -6,16 +6,10 @@ use Rattle.svelgandur.proofs.trial.svelgandur_keep.Tie as tie
 use mathlib.Core.Path.{_∙_, ap}
 use Rattle.answers.specs.Numbers.{numbers, inUse}
 
-keep-requires : tie.Need-keep-requires
-keep-requires c κs = search needs
-
-of-count-requires : tie.Need-of-count-requires
-of-count-requires c κs = search needs
-
 returns : tie.Need-returns
 returns c =
     c .of-count .ensures ∙ ap (numbers inUse) (c .before .before .keep .ensures .promised .0)
 
 pub svelgandur-keep-spec : {M : Type 1} → statement M
 svelgandur-keep-spec =
-    tie.close (tie.spec keep-requires of-count-requires returns)
+    tie.close (tie.spec (λ c κs. search needs) (λ c κs. search needs) returns)

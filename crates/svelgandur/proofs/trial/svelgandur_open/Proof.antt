@@ -6,19 +6,10 @@ use Rattle.svelgandur.proofs.trial.svelgandur_open.Tie as tie
 use mathlib.Core.Path.{_∙_, ap}
 use Rattle.answers.specs.Numbers.{numbers, inUse}
 
-open-requires : tie.Need-open-requires
-open-requires c κs = search needs
-
-of-count-requires : tie.Need-of-count-requires
-of-count-requires c κs = search needs
-
-same-length : tie.Need-same-length
-same-length c = search needs
-
 returns : tie.Need-returns
 returns c =
     (c .of-count .ensures ∙ ap (numbers inUse) (c .before .before .before .before .«open» .ensures .0), c .before .before .before .before .«open» .ensures .1)
 
 pub svelgandur-open-spec : {M : Type 1} → statement M
 svelgandur-open-spec =
-    tie.close (tie.spec open-requires of-count-requires same-length returns)
+    tie.close (tie.spec (λ c κs. search needs) (λ c κs. search needs) (λ c. search needs) returns)

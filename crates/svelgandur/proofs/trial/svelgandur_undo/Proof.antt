@@ -6,15 +6,6 @@ use Rattle.svelgandur.proofs.trial.svelgandur_undo.Tie as tie
 use mathlib.Core.Path.{_∙_, ap}
 use Rattle.answers.specs.Numbers.{numbers, inUse}
 
-undo-requires : tie.Need-undo-requires
-undo-requires c κs = search needs
-
-of-count-requires : tie.Need-of-count-requires
-of-count-requires c κs = search needs
-
-same-length : tie.Need-same-length
-same-length c = search needs
-
 returns : tie.Need-returns
 returns c =
     let d = c .before .before .before .before .undo .ensures .promised in
@@ -22,4 +13,4 @@ returns c =
 
 pub svelgandur-undo-spec : {M : Type 1} → statement M
 svelgandur-undo-spec =
-    tie.close (tie.spec undo-requires of-count-requires same-length returns)
+    tie.close (tie.spec (λ c κs. search needs) (λ c κs. search needs) (λ c. search needs) returns)

@@ -6,15 +6,6 @@ use Rattle.svelgandur.proofs.yes_no.svelgandur_member.Tie as tie
 use mathlib.Core.Path.{_∙_, ap}
 use Rattle.answers.specs.Numbers.{numbers, verdicts}
 
-decide-requires : tie.Need-decide-requires
-decide-requires c κs = search needs
-
-of-verdict-requires : tie.Need-of-verdict-requires
-of-verdict-requires c κs = search needs
-
-same-length : tie.Need-same-length
-same-length c = search needs
-
 returns : tie.Need-returns
 returns c =
     let at-decide = c .before .before .before .before in
@@ -24,7 +15,7 @@ pub svelgandur-member-spec : {M : Type 1} → statement M
 svelgandur-member-spec =
     tie.close
     (tie.spec
-    decide-requires
-    of-verdict-requires
-    same-length
+    (λ c κs. search needs)
+    (λ c κs. search needs)
+    (λ c. search needs)
     returns)
