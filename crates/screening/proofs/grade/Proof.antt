@@ -29,11 +29,16 @@ read-concept-requires c κs =
     let len = c .before .two in
     (inner-here (start .args .message .now) (start .args .first) (one .threshold) (one .stands) (len .result) (len .ensures .0), search needs)
 
+abbrev began : tie.After-ends → tie.Start
+began c = c .before .before .before .before .before .before .before .before .before .before .before .before .before .before .before
+
 -- the rows of the inner concept, as arrays
-rows : (c : tie.After-ends) → ConceptDone (c .before .before .before .before .before .before .before .before .before .before .before .before .before .before .before .args .message .now) (c .before .before .before .before .before .before .before .before .before .before .before .before .before .before .before .args .first + 7 + c .before .before .before .before .before .before .before .before .before .two .result) (c .before .before .before .before .before .before .before .before .before .before .before .before .before .before .before .args .first + 7)
+rows : (c : tie.After-ends)
+    → ConceptDone (began c .args .message .now) (began c .args .first + 7 + c .before .before .before .before .before .before .before .before .before .two .result) (began c .args .first + 7)
     (c .before .before .before .before .names .result) (c .before .before .roles .result) (c .ends .result)
 rows c =
-    concept-arrays _ _ _ _ (c .before .before .before .before .names .ensures) (c .before .before .roles .ensures) (c .ends .ensures) (c .before .before .before .before .before .before .before .read-concept .ensures)
+    concept-arrays _ _ _ _ (c .before .before .before .before .names .ensures) (c .before .before .roles .ensures) (c .ends .ensures)
+    (c .before .before .before .before .before .before .before .read-concept .ensures)
 
 reduce-requires : tie.Need-reduce-requires
 reduce-requires c κs =

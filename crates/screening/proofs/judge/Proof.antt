@@ -4,7 +4,6 @@ use Rattle.screening.proofs.judge.Tie as tie
 use mathlib.Core.Path.{_≡_, sym, _∙_}
 use Prim.Native.Nat.{_+_}
 use native.Mathlib.Omega.{arith}
-use lib.ListN.{length}
 use Rattle.meaning.specs.Bytes.{number}
 use Rattle.screening.proofs.Sifting.{none-found, none-stays}
 use Rattle.screening.proofs.Inner.{sifted-passes, scale-fits, numbers-length}
