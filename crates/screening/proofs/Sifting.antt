@@ -1,13 +1,13 @@
 -- A set of which the items that say yes stay, one item after the other.
 -- Assumes nothing.
 use mathlib.Core.Path.{_≡_, refl, sym, ap, _∙_}
-use mathlib.Core.Bool.{Bool, true, false, _&&_, and-true}
+use mathlib.Core.Bool.{Bool, true, false, _&&_}
 use mathlib.Core.List.{List}
 use Prim.Native.Nat.{ℕ, _+_, _≤_, _<_}
 use native.Mathlib.Decide.{decLt}
 use native.Mathlib.Omega.{arith}
 use lib.ListN.{length}
-use Rattle.meaning.proofs.Tests.{true-false, is-false}
+use Rattle.meaning.proofs.Tests.{true-false}
 use Rattle.graph.specs.Sets.{inSet, Among, Next, Without}
 use Rattle.graph.proofs.Members.{member-few}
 use Rattle.screening.specs.Sifting.{Sifted, Retained}

@@ -8,26 +8,17 @@ use Rattle.fields.proofs.Known.{bytes-known}
 use Rattle.shown.proofs.Entry.{graded-fits}
 use Rattle.asking.proofs.Calls.{degree-stopped, Known, known, gradable, room, degree-no-item, degree-no-room, degree-answer}
 
+abbrev began : tie.After-b → tie.Start
+began c = c .before .before .before .before .before .before .before .before .before .before
+
 -- a register and a requirement that were read
-read : (c : tie.After-b) → Known (c .before .before .before .before .before .before .before .before .before .before .args .image .now) (c .before .before .before .before .before .before .before .before .before .before .args .message .now) (c .before .before .before .before .before .before .before .before .before .before .args .item)
-    _ _ (c .before .before .read-both .ensures) _ _ _ (c .b .given .1)
-read c = known _ _ _ _ _ _ _ _ _ _ (bytes-known (c .before .before .before .before .before .before .before .before .before .before .args .image .now) (c .before .before .before .before .before .before .before .before .before .shared-slice-known .given))
-
-read-both-requires : tie.Need-read-both-requires
-read-both-requires c κs = search needs
-
-enum-known-b : tie.Need-enum-known-b
-enum-known-b c = search needs
-
-degree-refused-requires : tie.Need-degree-refused-requires
-degree-refused-requires c κs = search needs
+read : (c : tie.After-b)
+    → Known (began c .args .image .now) (began c .args .message .now) (began c .args .item) _ _ (c .before .before .read-both .ensures) _ _ _ (c .b .given .1)
+read c = known _ _ _ _ _ _ _ _ _ _ (bytes-known (began c .args .image .now) (c .before .before .before .before .before .before .before .before .before .shared-slice-known .given))
 
 returns : tie.Need-returns
 returns c =
     degree-no-item _ _ _ (read (c .before .before .before)) (omega (arith, c .before .if1 .taken)) _ (c .degree-refused .result) (search needs)
-
-degree-refused-requires-2 : tie.Need-degree-refused-requires-2
-degree-refused-requires-2 c κs = search needs
 
 returns-2 : tie.Need-returns-2
 returns-2 c =
@@ -44,12 +35,6 @@ lowest-requires : tie.Need-lowest-requires
 lowest-requires c κs =
     let k = gradable _ _ _ (read (c .before .before .before .before .before .before .before .before .before .before .before)) in
     graded-fits (k .posed .graph .register) (k .tree) _ _ (c .before .before .shown-at .ensures k .0) .0
-
-enum-known-b-2 : tie.Need-enum-known-b-2
-enum-known-b-2 c = search needs
-
-same-length : tie.Need-same-length
-same-length c = search needs
 
 returns-3 : tie.Need-returns-3
 returns-3 c =
@@ -68,15 +53,15 @@ pub degree-of-spec : {M : Type 1} → statement M
 degree-of-spec =
     tie.close
     (tie.spec
-    read-both-requires
-    enum-known-b
-    degree-refused-requires
+    (λ c κs. search needs)
+    (λ c. search needs)
+    (λ c κs. search needs)
     returns
-    degree-refused-requires-2
+    (λ c κs. search needs)
     returns-2
     shown-at-requires
     lowest-requires
-    enum-known-b-2
-    same-length
+    (λ c. search needs)
+    (λ c. search needs)
     returns-3
     returns-4)

@@ -8,29 +8,17 @@ use Rattle.fields.proofs.Known.{bytes-known}
 use Rattle.shown.proofs.Entry.{graded-fits}
 use Rattle.asking.proofs.Calls.{margin-stopped, Known, known, gradable, margin-no-item, margin-no-threshold, margin-small, margin-answer}
 
+abbrev began : tie.After-b → tie.Start
+began c = c .before .before .before .before .before .before .before .before .before
+
 -- a register and a requirement that were read
-read : (c : tie.After-b) → Known (c .before .before .before .before .before .before .before .before .before .args .image .now) (c .before .before .before .before .before .before .before .before .before .args .message .now) (c .before .before .before .before .before .before .before .before .before .args .item)
-    _ _ (c .before .before .read-both .ensures) _ _ _ (c .b .given .1)
-read c = known _ _ _ _ _ _ _ _ _ _ (bytes-known (c .before .before .before .before .before .before .before .before .before .args .image .now) (c .before .before .before .before .before .before .before .before .shared-slice-known .given))
-
-read-both-requires : tie.Need-read-both-requires
-read-both-requires c κs = search needs
-
-enum-known-b : tie.Need-enum-known-b
-enum-known-b c = search needs
-
-margin-refused-requires : tie.Need-margin-refused-requires
-margin-refused-requires c κs = search needs
+read : (c : tie.After-b)
+    → Known (began c .args .image .now) (began c .args .message .now) (began c .args .item) _ _ (c .before .before .read-both .ensures) _ _ _ (c .b .given .1)
+read c = known _ _ _ _ _ _ _ _ _ _ (bytes-known (began c .args .image .now) (c .before .before .before .before .before .before .before .before .shared-slice-known .given))
 
 returns : tie.Need-returns
 returns c =
     margin-no-item _ _ _ (read (c .before .before .before)) (omega (arith, c .before .if1 .taken)) _ _ (c .margin-refused .result) (search needs)
-
-wrong-requires : tie.Need-wrong-requires
-wrong-requires c κs = search needs
-
-margin-refused-requires-2 : tie.Need-margin-refused-requires-2
-margin-refused-requires-2 c κs = search needs
 
 returns-2 : tie.Need-returns-2
 returns-2 c =
@@ -55,9 +43,6 @@ against-requires c κs =
     let w = read (at-wrong .before .before .before) in
     margin-small _ _ _ w _ _ _ (at-wrong .wrong .ensures) (at-if2 .if2 .left) _ _ (c .before .degree-at .ensures (gradable _ _ _ w)) (c .lowest .ensures)
 
-enum-known-b-2 : tie.Need-enum-known-b-2
-enum-known-b-2 c = search needs
-
 returns-3 : tie.Need-returns-3
 returns-3 c =
     let at-degree-at = c .before .before .before in
@@ -77,16 +62,16 @@ pub margin-of-spec : {M : Type 1} → statement M
 margin-of-spec =
     tie.close
     (tie.spec
-    read-both-requires
-    enum-known-b
-    margin-refused-requires
+    (λ c κs. search needs)
+    (λ c. search needs)
+    (λ c κs. search needs)
     returns
-    wrong-requires
-    margin-refused-requires-2
+    (λ c κs. search needs)
+    (λ c κs. search needs)
     returns-2
     degree-at-requires
     lowest-requires
     against-requires
-    enum-known-b-2
+    (λ c. search needs)
     returns-3
     returns-4)

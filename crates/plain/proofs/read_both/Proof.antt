@@ -5,24 +5,6 @@ use Rattle.plain.proofs.read_both.Statement.{statement}
 use Rattle.plain.proofs.read_both.Tie as tie
 use Rattle.plain.proofs.ReadBoth.{register-refused, both-refused, both-good}
 
-read-requires : tie.Need-read-requires
-read-requires c κs = search needs
-
-enum-known-r : tie.Need-enum-known-r
-enum-known-r c = search needs
-
-read-plain-requires : tie.Need-read-plain-requires
-read-plain-requires c κs = search needs
-
-enum-known-p : tie.Need-enum-known-p
-enum-known-p c = search needs
-
-enum-known-p-2 : tie.Need-enum-known-p-2
-enum-known-p-2 c = search needs
-
-enum-known-r-2 : tie.Need-enum-known-r-2
-enum-known-r-2 c = search needs
-
 returns : tie.Need-returns
 returns c =
     let at-read-plain = c .before .before .before in
@@ -58,12 +40,12 @@ pub read-both-spec : {M : Type 1} → statement M
 read-both-spec =
     tie.close
     (tie.spec
-    read-requires
-    enum-known-r
-    read-plain-requires
-    enum-known-p
-    enum-known-p-2
-    enum-known-r-2
+    (λ c κs. search needs)
+    (λ c. search needs)
+    (λ c κs. search needs)
+    (λ c. search needs)
+    (λ c. search needs)
+    (λ c. search needs)
     returns
     returns-2
     returns-3)

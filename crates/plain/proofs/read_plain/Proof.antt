@@ -10,30 +10,6 @@ use lib.ListN.{getD}
 use native.Mathlib.Omega.{arith}
 use Rattle.plain.proofs.ReadPlain.{plain-refused, plain-first, plain-held, plain-big, plain-good}
 
-slice-aggregate-read-message : tie.Need-slice-aggregate-read-message
-slice-aggregate-read-message c = search needs
-
-read-message-requires : tie.Need-read-message-requires
-read-message-requires c κs = search needs
-
-enum-known-m : tie.Need-enum-known-m
-enum-known-m c = search needs
-
-slice-aggregate-firsts : tie.Need-slice-aggregate-firsts
-slice-aggregate-firsts c = search needs
-
-firsts-requires : tie.Need-firsts-requires
-firsts-requires c κs = search needs
-
-array-read-pair : tie.Need-array-read-pair
-array-read-pair c = search needs
-
-pair-requires : tie.Need-pair-requires
-pair-requires c κs = search needs
-
-plain-refused-requires : tie.Need-plain-refused-requires
-plain-refused-requires c κs = search needs
-
 returns : tie.Need-returns
 returns c =
     let at-if1 = c .before .before .before .before in
@@ -42,24 +18,6 @@ returns c =
     let start = at-read-message .before .before .before in
     let first = c .before .pair .ensures .0 ∙ ap (λ (l : List ℕ). getD l 0 0) (c .before .before .firsts .ensures) in
     plain-first (start .args .message .now) _ _ (at-read-message .read-message .ensures) _ _ (at-m .m .given .1) (omega (arith, at-if1 .if1 .taken)) _ _ _ first (search needs)
-
-slice-aggregate-names : tie.Need-slice-aggregate-names
-slice-aggregate-names c = search needs
-
-names-requires : tie.Need-names-requires
-names-requires c κs = search needs
-
-slice-aggregate-roles : tie.Need-slice-aggregate-roles
-slice-aggregate-roles c = search needs
-
-roles-requires : tie.Need-roles-requires
-roles-requires c κs = search needs
-
-slice-aggregate-ends : tie.Need-slice-aggregate-ends
-slice-aggregate-ends c = search needs
-
-ends-requires : tie.Need-ends-requires
-ends-requires c κs = search needs
 
 reduce-requires : tie.Need-reduce-requires
 reduce-requires c κs =
@@ -86,9 +44,6 @@ size-requires c κs =
           (at-roles .roles .ensures) (at-ends .ends .ensures);
     }
 
-plain-refused-requires-2 : tie.Need-plain-refused-requires-2
-plain-refused-requires-2 c κs = search needs
-
 returns-2 : tie.Need-returns-2
 returns-2 c =
     let at-reduce = c .before .before .before .before .before .before in
@@ -101,9 +56,6 @@ returns-2 c =
     let start = at-read-message .before .before .before in
     plain-big (start .args .message .now) _ _ (at-read-message .read-message .ensures) _ _ (at-m .m .given .1) _ _ _ (at-names .names .ensures) (at-roles .roles .ensures)
     (at-ends .ends .ensures) (omega (arith, at-if1 .if1 .left)) _ (at-reduce .reduce .ensures) _ (c .before .before .size .ensures) (omega (arith, c .before .if2 .taken)) _ _ (search needs)
-
-enum-known-m-2 : tie.Need-enum-known-m-2
-enum-known-m-2 c = search needs
 
 returns-3 : tie.Need-returns-3
 returns-3 c =
@@ -128,25 +80,25 @@ pub read-plain-spec : {M : Type 1} → statement M
 read-plain-spec =
     tie.close
     (tie.spec
-    slice-aggregate-read-message
-    read-message-requires
-    enum-known-m
-    slice-aggregate-firsts
-    firsts-requires
-    array-read-pair
-    pair-requires
-    plain-refused-requires
+    (λ c. search needs)
+    (λ c κs. search needs)
+    (λ c. search needs)
+    (λ c. search needs)
+    (λ c κs. search needs)
+    (λ c. search needs)
+    (λ c κs. search needs)
+    (λ c κs. search needs)
     returns
-    slice-aggregate-names
-    names-requires
-    slice-aggregate-roles
-    roles-requires
-    slice-aggregate-ends
-    ends-requires
+    (λ c. search needs)
+    (λ c κs. search needs)
+    (λ c. search needs)
+    (λ c κs. search needs)
+    (λ c. search needs)
+    (λ c κs. search needs)
     reduce-requires
     size-requires
-    plain-refused-requires-2
+    (λ c κs. search needs)
     returns-2
-    enum-known-m-2
+    (λ c. search needs)
     returns-3
     returns-4)

@@ -1,7 +1,9 @@
 use borrow.Author.Needs.{needs}
 use Rattle.screening.proofs.grade.Statement.{statement}
 use Rattle.screening.proofs.grade.Tie as tie
+use Prim.Native.Nat.{_+_}
 use native.Mathlib.Omega.{arith}
+use Rattle.parts.specs.Inner.{ConceptDone}
 use Rattle.screening.proofs.Inner.{inner-here, concept-arrays, inner-held, inner-gradable}
 
 add-at : tie.Need-add-at
@@ -20,9 +22,6 @@ add-stop : tie.Need-add-stop
 add-stop c =
     let h = c .before .before .before .before .before .before .pre .1 .0 .stands in omega (arith, c .two .ensures .1, h .inside, h .short)
 
-slice-aggregate-read-concept : tie.Need-slice-aggregate-read-concept
-slice-aggregate-read-concept c = search needs
-
 read-concept-requires : tie.Need-read-concept-requires
 read-concept-requires c κs =
     let start = c .before .before .before .before .before .before .before in
@@ -30,73 +29,41 @@ read-concept-requires c κs =
     let len = c .before .two in
     (inner-here (start .args .message .now) (start .args .first) (one .threshold) (one .stands) (len .result) (len .ensures .0), search needs)
 
-slice-aggregate-names : tie.Need-slice-aggregate-names
-slice-aggregate-names c = search needs
+abbrev began : tie.After-ends → tie.Start
+began c = c .before .before .before .before .before .before .before .before .before .before .before .before .before .before .before
 
-names-requires : tie.Need-names-requires
-names-requires c κs = search needs
-
-slice-aggregate-roles : tie.Need-slice-aggregate-roles
-slice-aggregate-roles c = search needs
-
-roles-requires : tie.Need-roles-requires
-roles-requires c κs = search needs
-
-slice-aggregate-ends : tie.Need-slice-aggregate-ends
-slice-aggregate-ends c = search needs
-
-ends-requires : tie.Need-ends-requires
-ends-requires c κs = search needs
+-- the rows of the inner concept, as arrays
+rows : (c : tie.After-ends)
+    → ConceptDone (began c .args .message .now) (began c .args .first + 7 + c .before .before .before .before .before .before .before .before .before .two .result) (began c .args .first + 7)
+    (c .before .before .before .before .names .result) (c .before .before .roles .result) (c .ends .result)
+rows c =
+    concept-arrays _ _ _ _ (c .before .before .before .before .names .ensures) (c .before .before .roles .ensures) (c .ends .ensures)
+    (c .before .before .before .before .before .before .before .read-concept .ensures)
 
 reduce-requires : tie.Need-reduce-requires
 reduce-requires c κs =
     let at-ends = c .before .before .before .before in
-    let at-roles = at-ends .before .before in
-    let at-names = at-roles .before .before in
-    let at-read-concept = at-names .before .before .before in
-    let at-two = at-read-concept .before .before in
-    let at-19 = at-two .before .before .before .before .before .before in
-    let start = at-19 in
-    let one = start .pre .1 .0 in
-    let len = at-two .two in
-    let rows = concept-arrays (start .args .message .now) _ _ _ (at-names .names .ensures) (at-roles .roles .ensures) (at-ends .ends .ensures) (at-read-concept .read-concept .ensures) in
-    inner-held (start .args .message .now) (start .args .first) (one .threshold) (one .stands) (len .result) (len .ensures .0) _ _ _ rows
+    let at-two = at-ends .before .before .before .before .before .before .before .before .before in
+    let one = at-two .before .before .before .before .before .before .pre .1 .0 in
+    inner-held _ _ (one .threshold) (one .stands) _ (at-two .two .ensures .0) _ _ _ (rows at-ends)
 
 degrees-requires : tie.Need-degrees-requires
 degrees-requires c κs =
     let at-reduce = c .before .before .before .before .before in
     let at-ends = at-reduce .before .before .before .before .before in
-    let at-roles = at-ends .before .before in
-    let at-names = at-roles .before .before in
-    let at-read-concept = at-names .before .before .before in
-    let at-two = at-read-concept .before .before in
-    let at-25 = at-two .before .before .before .before .before .before in
-    let start = at-25 in
+    let at-two = at-ends .before .before .before .before .before .before .before .before .before in
+    let start = at-two .before .before .before .before .before .before in
     let one = start .pre .1 .0 in
-    let len = at-two .two in
-    let rows = concept-arrays (start .args .message .now) _ _ _ (at-names .names .ensures) (at-roles .roles .ensures) (at-ends .ends .ensures) (at-read-concept .read-concept .ensures) in
-    let marks = at-reduce .reduce .ensures in
     let p = start .pre .1 .1 in
-    (inner-gradable (start .args .message .now) (start .args .first) (one .threshold) (one .stands) (len .result) (len .ensures .0) _ _ _ rows (start .pre .0) _ marks, ((p .0, p .1), p .2))
-
-same-length : tie.Need-same-length
-same-length c = search needs
+    (inner-gradable _ _ (one .threshold) (one .stands) _ (at-two .two .ensures .0) _ _ _ (rows at-ends) (start .pre .0) _ (at-reduce .reduce .ensures), ((p .0, p .1), p .2))
 
 returns : tie.Need-returns
 returns c =
     let at-degrees = c .before .before in
     let at-reduce = at-degrees .before .before .before .before .before .before in
     let at-ends = at-reduce .before .before .before .before .before in
-    let at-roles = at-ends .before .before in
-    let at-names = at-roles .before .before in
-    let at-read-concept = at-names .before .before .before in
-    let at-two = at-read-concept .before .before in
-    let at-28 = at-two .before .before .before .before .before .before in
-    let start = at-28 in
-    let len = at-two .two in
-    let rows = concept-arrays (start .args .message .now) _ _ _ (at-names .names .ensures) (at-roles .roles .ensures) (at-ends .ends .ensures) (at-read-concept .read-concept .ensures) in
-    let marks = at-reduce .reduce .ensures in
-    λ j h st. at-degrees .degrees .ensures (inner-gradable (start .args .message .now) (start .args .first) h st (len .result) (len .ensures .0) _ _ _ rows j _ marks)
+    let len = at-ends .before .before .before .before .before .before .before .before .before .two .ensures .0 in
+    λ j h st. at-degrees .degrees .ensures (inner-gradable _ _ h st _ len _ _ _ (rows at-ends) j _ (at-reduce .reduce .ensures))
 
 pub grade-spec : {M : Type 1} → statement M
 grade-spec =
@@ -106,15 +73,15 @@ grade-spec =
     add-two
     two-requires
     add-stop
-    slice-aggregate-read-concept
+    (λ c. search needs)
     read-concept-requires
-    slice-aggregate-names
-    names-requires
-    slice-aggregate-roles
-    roles-requires
-    slice-aggregate-ends
-    ends-requires
+    (λ c. search needs)
+    (λ c κs. search needs)
+    (λ c. search needs)
+    (λ c κs. search needs)
+    (λ c. search needs)
+    (λ c κs. search needs)
     reduce-requires
     degrees-requires
-    same-length
+    (λ c. search needs)
     returns)

@@ -4,7 +4,6 @@ use Rattle.screening.proofs.judge.Tie as tie
 use mathlib.Core.Path.{_≡_, sym, _∙_}
 use Prim.Native.Nat.{_+_}
 use native.Mathlib.Omega.{arith}
-use lib.ListN.{length}
 use Rattle.meaning.specs.Bytes.{number}
 use Rattle.screening.proofs.Sifting.{none-found, none-stays}
 use Rattle.screening.proofs.Inner.{sifted-passes, scale-fits, numbers-length}
@@ -13,15 +12,9 @@ next-in-requires : tie.Need-next-in-requires
 next-in-requires c κs =
     (c .before .before .before .before .before .pre .1 .1 .0, omega arith)
 
-same-length : tie.Need-same-length
-same-length c = search needs
-
 returns : tie.Need-returns
 returns c =
     λ j h st. none-stays _ _ (none-found _ (c .before .before .before .before .before .before .before .pre .1 .1 .0) _ (c .before .next-in .ensures) (c .if1 .taken))
-
-slice-aggregate-grade : tie.Need-slice-aggregate-grade
-slice-aggregate-grade c = search needs
 
 grade-requires : tie.Need-grade-requires
 grade-requires c κs =
@@ -69,9 +62,6 @@ sift-requires c κs =
       omega (arith, q, st .den, st .low .1),
     )
 
-same-length-2 : tie.Need-same-length-2
-same-length-2 c = search needs
-
 returns-2 : tie.Need-returns-2
 returns-2 c =
     let start = c .before .before .before .before .before .before .before .before .before .before .before .before .before .before .before .before .before .before .before in
@@ -90,9 +80,9 @@ judge-spec =
     tie.close
     (tie.spec
     next-in-requires
-    same-length
+    (λ c. search needs)
     returns
-    slice-aggregate-grade
+    (λ c. search needs)
     grade-requires
     add-two
     two-requires
@@ -101,5 +91,5 @@ judge-spec =
     slice-aggregate-sift
     shared-slice-read-sift
     sift-requires
-    same-length-2
+    (λ c. search needs)
     returns-2)

@@ -7,15 +7,9 @@ returns : tie.Need-returns
 returns c =
     retained-yes _ _ _ (c .before .before .pre .2) (c .if1 .taken)
 
-exclude-requires : tie.Need-exclude-requires
-exclude-requires c κs = search needs
-
-same-length : tie.Need-same-length
-same-length c = search needs
-
 returns-2 : tie.Need-returns-2
 returns-2 c =
     retained-no _ _ _ _ (c .before .before .exclude .ensures) (c .before .before .before .before .if1 .left)
 
 pub retain-spec : {M : Type 1} → statement M
-retain-spec = tie.close (tie.spec returns exclude-requires same-length returns-2)
+retain-spec = tie.close (tie.spec returns (λ c κs. search needs) (λ c. search needs) returns-2)

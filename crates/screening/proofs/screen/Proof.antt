@@ -25,32 +25,11 @@ loop-holds : tie.Need-loop-holds Inv-loop μ-loop
 loop-holds c =
     (c .before .before .before .before .pre .1 .1 .1, omega arith, c .before .before .before .before .pre .1 .1 .2, λ j a. through-none _ _ _ _ _)
 
-add-k : tie.Need-add-k Inv-loop μ-loop
-add-k c = search needs
-
-element-copy-out-octet : tie.Need-element-copy-out-octet Inv-loop μ-loop
-element-copy-out-octet c = search needs
-
-octet-requires : tie.Need-octet-requires Inv-loop μ-loop
-octet-requires c κs = search needs
-
-loop-less : tie.Need-loop-less Inv-loop μ-loop
-loop-less c = search needs
-
 loop-again : tie.Need-loop-again Inv-loop μ-loop
 loop-again c =
     let at-octet = c .before in
     let at-loop = at-octet .before .before .before in
     (at-loop .loop .inv .0, omega arith, at-loop .loop .inv .2, λ j a. through-pass _ _ _ _ _ _ _ _ (at-loop .loop .inv .3 j a) (at-octet .octet .ensures .0) (c .if1 .taken))
-
-mul-pair : tie.Need-mul-pair Inv-loop μ-loop
-mul-pair c = search needs
-
-element-copy-out-pair : tie.Need-element-copy-out-pair Inv-loop μ-loop
-element-copy-out-pair c = search needs
-
-pair-requires : tie.Need-pair-requires Inv-loop μ-loop
-pair-requires c κs = search needs
 
 judge-requires : tie.Need-judge-requires Inv-loop μ-loop
 judge-requires c κs =
@@ -63,9 +42,6 @@ judge-requires c κs =
     let there = subst (λ (z : ℕ). StandsAt (start .args .message .now) z (getD (p .1 .0 .thresholds) k noThreshold)) (sym (at-pair .pair .ensures .0))
     (p .1 .0 .each k (at-loop-test .loop-test .taken)) in
     (p .0, (record { threshold = getD (p .1 .0 .thresholds) k noThreshold; stands = there }, (at-loop .loop .inv .0, at-loop .loop .inv .2)))
-
-loop-less-2 : tie.Need-loop-less-2 Inv-loop μ-loop
-loop-less-2 c = search needs
 
 loop-again-2 : tie.Need-loop-again-2 Inv-loop μ-loop
 loop-again-2 c =
@@ -109,16 +85,16 @@ screen-spec =
     Inv-loop
     μ-loop
     loop-holds
-    add-k
-    element-copy-out-octet
-    octet-requires
-    loop-less
+    (λ c. search needs)
+    (λ c. search needs)
+    (λ c κs. search needs)
+    (λ c. search needs)
     loop-again
-    mul-pair
-    element-copy-out-pair
-    pair-requires
+    (λ c. search needs)
+    (λ c. search needs)
+    (λ c κs. search needs)
     judge-requires
-    loop-less-2
+    (λ c. search needs)
     loop-again-2
     same-length
     returns)

@@ -25,15 +25,6 @@ loop-holds : tie.Need-loop-holds Inv-loop μ-loop
 loop-holds c =
     (c .before .before .before .before .pre .1, sifting-start _ _ _ (c .next-in .ensures))
 
-mul-quad : tie.Need-mul-quad Inv-loop μ-loop
-mul-quad c = search needs
-
-shared-slice-read-quad : tie.Need-shared-slice-read-quad Inv-loop μ-loop
-shared-slice-read-quad c = search needs
-
-quad-requires : tie.Need-quad-requires Inv-loop μ-loop
-quad-requires c κs = search needs
-
 satisfies-requires : tie.Need-satisfies-requires Inv-loop μ-loop
 satisfies-requires c κs =
     let start = c .before .before .before .before .before .before .before .before in
@@ -44,9 +35,6 @@ retain-requires c κs =
     let at-loop-test = c .before .before .before .before in
     let at-loop = at-loop-test .before in
     (at-loop .loop .inv .0, at-loop-test .loop-test .taken, at-loop .loop .inv .1 .member (at-loop-test .loop-test .taken))
-
-add-next-in : tie.Need-add-next-in Inv-loop μ-loop
-add-next-in c = search needs
 
 next-in-requires-2 : tie.Need-next-in-requires-2 Inv-loop μ-loop
 next-in-requires-2 c κs =
@@ -87,12 +75,12 @@ sift-spec =
     μ-loop
     next-in-requires
     loop-holds
-    mul-quad
-    shared-slice-read-quad
-    quad-requires
+    (λ c. search needs)
+    (λ c. search needs)
+    (λ c κs. search needs)
     satisfies-requires
     retain-requires
-    add-next-in
+    (λ c. search needs)
     next-in-requires-2
     loop-less
     loop-again
