@@ -16,9 +16,11 @@ use Rattle.meaning.specs.Register.{judged}
 use Rattle.meaning.specs.Reduce.{dropped}
 use Rattle.meaning.specs.Degree.{orOne, best}
 use Rattle.meaning.specs.InPlace.{countIn, scaleIn, scaleInF, degreeIn, degreeInF}
-use Rattle.meaning.specs.Rows.{Holds, Marked, MarkedF}
+use Rattle.meaning.specs.Bytes.{Bytes}
+use Rattle.meaning.specs.Rows.{Holds, HoldsF, Marked, MarkedF}
 use Rattle.register.specs.Image.{Asked, Image}
 use Rattle.graph.specs.Judged.{Judged}
+use Rattle.graph.proofs.Use.{next-inside}
 use Rattle.degrees.specs.Gradable.{Gradable, Member, Items}
 use Rattle.degrees.specs.Room.{Lent}
 use Rattle.degrees.specs.Notes.{Outside}
@@ -30,7 +32,7 @@ use Rattle.heaviest.proofs.Stands.{Place}
 use Rattle.degrees.proofs.But.{mark-zero}
 use Rattle.degrees.proofs.Folding.{Head, head, given}
 use Rattle.degrees.proofs.Noted.{outside-then, noted-node}
-use Rattle.degrees.proofs.Reaching.{graph, items-named, done-for, reach-best, reach-one}
+use Rattle.degrees.proofs.Reaching.{graph, rows, items-named, done-for, reach-best, reach-one}
 
 module _ {s : List ℕ} {items : ℕ} {index names roles ends marks : List ℕ} {node left : ℕ} (k : Gradable (Judged s items index) names roles ends marks node left) where
   -- ---- no child is kept
@@ -56,18 +58,38 @@ module _ {s : List ℕ} {items : ℕ} {index names roles ends marks : List ℕ} 
         let z : many a + 0 ≡ many a = omega arith in
         rw (same, q .0, q .1, z) (omega arith, λ x. rw (q .2 x) (ap (orOne (many a)) (omega arith)))
 
-    pub alone-done : (set : List ℕ) (at scale : ℕ) (notes numbers out : List ℕ) → scale ≡ max 1 (many (getD names node 0))
-        → Image s (λ g. (x : ℕ) → Member set x → rowAt out at x ≡ orOne (many (getD names node 0)) (common (getD names node 0) (judged g .names x)))
-        → Kept at numbers out → (j : Gradable (Judged s items index) names roles ends marks node left) → Done j (Member set) at scale notes notes numbers out
-    alone-done set at scale notes numbers out es eo kept =
+    pub alone-done : (X : ℕ → Type 0) (at scale : ℕ) (notes numbers out : List ℕ) → scale ≡ max 1 (many (getD names node 0))
+        → Image s (λ g. (x : ℕ) → X x → rowAt out at x ≡ orOne (many (getD names node 0)) (common (getD names node 0) (judged g .names x)))
+        → Kept at numbers out → (j : Gradable (Judged s items index) names roles ends marks node left) → Done j X at scale notes notes numbers out
+    alone-done X at scale notes numbers out es eo kept =
         let q = alone-is (k .tree) (k .posed .held) (k .marked) (h .none refl) in
         done-for k (record {
           worked = record { scaled = es ∙ q .0; each = λ x m. eo (k .posed .graph .register) (k .posed .graph .read) x m ∙ q .1 x };
-          noted = noted-node names roles ends marks (k .posed .graph .register) (Member set) notes (k .tree) left node (getD ends node 0) (k .posed .held)
+          noted = noted-node names roles ends marks (k .posed .graph .register) X notes (k .tree) left node (getD ends node 0) (k .posed .held)
               (λ c u s m. absurd (m (h .none refl c u s)));
           outside = λ j l o. refl;
           kept = kept;
         })
+
+  -- ---- no names, and no child is written
+
+  childless : (f : Forest ℕ) (i e c : ℕ) (u : Concept) → HoldsF names roles ends f (left - 1) i e → e ≤ i → Stands ends f i c u → ⊥
+  unfolding HoldsF Holds Stands
+  childless none i e c u h l q = q
+  childless (more r (rooted a g) f) i e c u h l q = omega (arith, h .1, h .2 .1)
+
+  -- it is worth 1 everywhere
+  pub empty-done : Bytes s → (set : List ℕ) (at scale : ℕ) (notes numbers out : List ℕ) → many (getD names node 0) ≡ 0 → getD ends node 0 ≡ node + 1 → scale ≡ 1
+      → ((x : ℕ) → x < 512 → rowAt out at x ≡ 1) → Kept at numbers out
+      → (j : Gradable (Judged s items index) names roles ends marks node left) → Done j (Below (graph j) set (getD roles node 0)) at scale notes notes numbers out
+  empty-done b set at scale notes numbers out en ee es eo kept j =
+      let heavy : Heavy ends marks (k .tree) node (getD ends node 0) = record {
+        none = λ e c u q. absurd (childless (children (k .tree)) (node + 1) (getD ends node 0) c u (rows k) (omega arith) q);
+        some = λ d. absurd (d refl);
+        most = λ d. absurd (d refl);
+      } in
+      alone-done heavy (Below (graph j) set (getD roles node 0)) at scale notes numbers out (es ∙ rw en refl)
+      (λ g h x m. eo x (omega (arith, next-inside (j .posed .graph) b (m .0) (getD roles node 0) x (m .2), j .posed .graph .most)) ∙ rw en refl) kept j
 
   -- ---- the heaviest child, where one is kept
 

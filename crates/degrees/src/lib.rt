@@ -2,8 +2,10 @@
 // the tree's scale. A node is worked out only at the items that its parent's items reach.
 use folds::ROW;
 ghost use mathlib.Core.Path.{_≡_};
-ghost use Prim.Native.Nat.{_+_, _-_};
+ghost use mathlib.Core.Bool.{true};
+ghost use Prim.Native.Nat.{_+_, _-_, _<_};
 ghost use lib.ListN.{length, getD};
+ghost use Rattle.meaning.specs.Names.{names as many};
 ghost use Rattle.meaning.specs.Register.{judged};
 ghost use Rattle.graph.specs.Judged.{Judged};
 ghost use Rattle.degrees.specs.Gradable.{Gradable, Member, Items};
@@ -92,7 +94,19 @@ pub fn work(
     )
 }
 
-// The same at the child at a node, for the items that the members of its parent's set reach.
+// A node has no names, and no children below it.
+fn empty(names: u64, end: u8, node: usize) -> bool
+    requires { ⌜ node < 64 ⌝ }
+    ensures { λ r. ⌜ (r ≡ true → (many names ≡ 0) × (end ≡ node + 1)) ⌝ }
+{
+    if 0 < u64::count_ones(names) {
+        return false;
+    }
+    fields::octet(end) == node + 1
+}
+
+// The same at the child at a node, for the items that the members of its parent's set reach. One without names and children is worth 1 at every item,
+// and need not be worked out.
 fn reach(
     s: &[u8],
     items: usize,
@@ -114,6 +128,9 @@ fn reach(
         → Done k (Below (judged (k .posed .graph .register)) (now (set .entry)) (getD (now (roles .entry)) node 0)) at r
         (now (notes .entry)) (now (notes .exit)) (now (numbers .entry)) (now (numbers .exit))) ⌝ }
 {
+    if empty(names[node], ends[node], node) {
+        return folds::ones(at, numbers);
+    }
     let mut below = [0u64; 8];
     let role = fields::octet(roles[node]);
     graph::spread(s, items, index, set, role, &mut below[..8]);

@@ -165,6 +165,21 @@ pub fn alone(s: &[u8], names: u64, set: &[u64], at: usize, numbers: &mut [u32]) 
     at_least_one(fields::quad(u64::count_ones(names)))
 }
 
+// The numbers of all items at a node without names and children, which is worth 1 at each; its scale is answered.
+pub fn ones(at: usize, numbers: &mut [u32]) -> u64
+    requires { ⌜ at + 512 ≤ length (now numbers) ⌝ }
+    ensures { λ r. ⌜ r ≡ 1 ⌝ }
+    ensures { λ _. ⌜ ((x : ℕ) → x < 512 → rowAt (now (numbers .exit)) at x ≡ 1) ⌝ }
+    ensures { λ _. ⌜ Kept at (now (numbers .entry)) (now (numbers .exit)) ⌝ }
+{
+    let mut x = 0;
+    while x < ROW {
+        numbers[at + x] = 1;
+        x += 1;
+    }
+    1
+}
+
 fn at_least_one(n: u64) -> u64
     ensures { λ r. ⌜ r ≡ max 1 n ⌝ }
 {

@@ -18,6 +18,10 @@ use Rattle.heaviest.proofs.passed.Reads as passed-reads
 use Rattle.fields.proofs.octet.Reads as octet-reads
 use Rattle.fields.proofs.quad.Reads as quad-reads
 use Rattle.graph.proofs.spread.Reads as spread-reads
+use Rattle.degrees.proofs.empty.Reads as empty-reads
+use Rattle.folds.proofs.ones.Reads as ones-reads
+use Rattle.fields.proofs.Known.{bytes-known}
+use Rattle.folds.specs.Members.{Member}
 use Rattle.degrees.proofs.+others+reach+work.{statement}
 use Rattle.degrees.proofs.+others+reach+work.Tie.{close}
 use mathlib.Core.Path.{refl, sym, subst, _∙_}
@@ -26,7 +30,7 @@ use native.Mathlib.Omega.{arith}
 use Rattle.graph.proofs.Empty.{among-none}
 use Rattle.heaviest.specs.Heavy.{Heavy}
 use Rattle.degrees.proofs.Reaching.{written, here, lent-here, reach-done}
-use Rattle.degrees.proofs.Head.{alone-done, First, first-low, first-asked, first-lent, first-two, first-folding, first-own, first-headed, first-done}
+use Rattle.degrees.proofs.Head.{alone-done, empty-done, First, first-low, first-asked, first-lent, first-two, first-folding, first-own, first-headed, first-done}
 use Rattle.degrees.proofs.Going.{Going, going-start, going-low, going-less, going-pass, going-fits, going-done}
 use Rattle.degrees.proofs.Going.{Hand, at-hand, child-asked, child-lent, child-count, child-two, child-product, child-folding, child-next}
 use borrow.Author.Needs.{needs}
@@ -76,7 +80,18 @@ others-claims t = (
 )
 
 abbrev reach-claims : ℕ → reach-lts.Claims
-reach-claims t = (octet-reads.Asked, octet-reads.Learnt, spread-reads.Asked, spread-reads.Learnt, work-below t, work.Post)
+reach-claims t = (
+  empty-reads.Asked,
+  empty-reads.Learnt,
+  ones-reads.Asked,
+  ones-reads.Learnt,
+  octet-reads.Asked,
+  octet-reads.Learnt,
+  spread-reads.Asked,
+  spread-reads.Learnt,
+  work-below t,
+  work.Post,
+)
 
 abbrev work-claims : ℕ → work-lts.Claims
 work-claims t = (
@@ -190,15 +205,34 @@ pub +others+reach+work-spec : {M : Type 1} → statement M
     (reach-at t)
     reach.Post
     (λ c. omega (arith, here (c .before .before .before .before .before .pre .1 .0) .1))
+    (λ c. omega (arith, here (c .before .before .before .before .before .pre .1 .0) .1))
+    (λ c. omega (arith, here (c .before .before .before .before .before .before .pre .1 .0) .1))
+    (λ c κs. here (c .before .before .before .before .before .before .before .pre .1 .0) .1)
+    (λ c κs.
+    let start = c .before .before .before .before .before .before .before .before .before .before in
+    lent-here (start .pre .1 .0) (start .pre .1 .1) .1)
+    (λ c. c .before .before .ones .kept .1 .0)
+    (λ c.
+    let at-ones = c .before .before in
+    let at-then1 = at-ones .before .before in
+    let at-empty = at-then1 .before in
+    let known = at-empty .before .before .before .before .before .before .before in
+    let start = known .before in
+    let said = at-empty .empty .ensures (at-then1 .if1 .taken) in
+    let did = at-ones .ones .ensures in
+    empty-done (start .pre .1 .0) (bytes-known (start .args .s .now) (known .shared-slice-known .given)) (start .args .set .now) _ _ _ _ _ (said .0) (said .1)
+    (did .0) (did .1 .0) (did .1 .1))
+    (λ c. omega (arith, here (c .before .before .before .before .before .before .before .before .before .pre .1 .0) .1))
     (λ c κs. search needs)
     (λ c. search needs)
     (λ c κs.
-    let start = c .before .before .before .before .before .before .before .before in
+    let start = c .before .before .before .before .before .before .before .before .before .before .before .before in
     (start .pre .1 .0 .posed .graph, (start .pre .1 .1 .members, (refl, among-none _))))
     (λ c. search needs)
     (λ c κs.
     let at-spread = c .before .before .before .before in
-    let start = at-spread .before .before .before .before .before .before .before .before .before in
+    let at-else1 = at-spread .before .before .before .before in
+    let start = at-else1 .before .before .before .before .before .before .before .before .before in
     let lent = start .pre .1 .1 in (
       omega (arith, start .pre .0),
       (
@@ -216,7 +250,8 @@ pub +others+reach+work-spec : {M : Type 1} → statement M
     let at-work = c .before .before .before .before in
     let at-spread = at-work .before .before .before .before .before in
     let at-octet = at-spread .before .before in
-    let start = at-octet .before .before .before .before .before .before .before in
+    let at-else1 = at-octet .before .before in
+    let start = at-else1 .before .before .before .before .before .before .before .before .before in
     λ k. reach-done k (start .args .set .now) _ _ _ _ _ _ _ _ (at-octet .octet .ensures .0) (at-spread .spread .ensures (k .posed .graph)) (at-work .work .ensures k)))
     λ t. work-lts.spec (work-claims t)
     (work-at t)
@@ -235,7 +270,7 @@ pub +others+reach+work-spec : {M : Type 1} → statement M
     let start = at-heaviest .before .before .before .before .before .before in
     let k = start .pre .1 .0 in
     alone-done k (subst (λ (z : ℕ). Heavy (start .args .ends .now) (start .args .marks .now) (k .tree) (start .args .node) z)
-    (at-if1 .if1 .taken ∙ at-if1 .before .octet .ensures .0) (at-heaviest .heaviest .ensures (written k))) (start .args .set .now) _ _ _ _ _ (at-alone .alone .ensures .0)
+    (at-if1 .if1 .taken ∙ at-if1 .before .octet .ensures .0) (at-heaviest .heaviest .ensures (written k))) (Member (start .args .set .now)) _ _ _ _ _ (at-alone .alone .ensures .0)
     (at-alone .alone .ensures .1 .0) (at-alone .alone .ensures .1 .1))
     (λ c. omega (arith, here (c .before .before .before .before .before .before .before .before .before .pre .1 .0) .0))
     (λ c κs.

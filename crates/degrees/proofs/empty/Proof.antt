@@ -1,0 +1,16 @@
+use Rattle.degrees.proofs.empty.Statement.{statement}
+use Rattle.degrees.proofs.empty.Tie as tie
+use mathlib.Core.Path.{_≡_, refl, sym, _∙_}
+use native.Mathlib.Omega.{arith}
+use borrow.Author.Tests.{eqb-true}
+use borrow.Author.Needs.{needs}
+use Rattle.meaning.proofs.Tests.{true-false}
+
+pub empty-spec : {M : Type 1} → statement M
+empty-spec =
+    tie.close
+    (tie.spec
+    (λ c e. absurd (true-false e refl))
+    (λ c κs. search needs)
+    (λ c. omega (arith, c .before .before .pre))
+    (λ c e. (omega (arith, c .before .if1 .left), sym (c .octet .ensures .0) ∙ eqb-true _ _ e)))
