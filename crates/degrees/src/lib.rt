@@ -94,11 +94,15 @@ pub fn work(
     )
 }
 
-// A node has no names, and no children below it.
-fn empty(names: u64, end: u8, node: usize) -> bool
+// A node has no names, and no children below it, and to say at once what it is worth at all items pays: its parent's set is not small, which its first 64
+// items show.
+fn empty(names: u64, end: u8, node: usize, first: u64) -> bool
     requires { ⌜ node < 64 ⌝ }
     ensures { λ r. ⌜ (r ≡ true → (many names ≡ 0) × (end ≡ node + 1)) ⌝ }
 {
+    if u64::count_ones(first) < 2 {
+        return false;
+    }
     if 0 < u64::count_ones(names) {
         return false;
     }
@@ -128,7 +132,7 @@ fn reach(
         → Done k (Below (judged (k .posed .graph .register)) (now (set .entry)) (getD (now (roles .entry)) node 0)) at r
         (now (notes .entry)) (now (notes .exit)) (now (numbers .entry)) (now (numbers .exit))) ⌝ }
 {
-    if empty(names[node], ends[node], node) {
+    if empty(names[node], ends[node], node, set[0]) {
         return folds::ones(at, numbers);
     }
     let mut below = [0u64; 8];

@@ -207,32 +207,33 @@ pub +others+reach+work-spec : {M : Type 1} → statement M
     (λ c. omega (arith, here (c .before .before .before .before .before .pre .1 .0) .1))
     (λ c. omega (arith, here (c .before .before .before .before .before .pre .1 .0) .1))
     (λ c. omega (arith, here (c .before .before .before .before .before .before .pre .1 .0) .1))
-    (λ c κs. here (c .before .before .before .before .before .before .before .pre .1 .0) .1)
+    (λ c. omega (arith, c .before .before .before .before .before .before .before .before .pre .1 .1 .members .0))
+    (λ c κs. here (c .before .before .before .before .before .before .before .before .pre .1 .0) .1)
     (λ c κs.
-    let start = c .before .before .before .before .before .before .before .before .before .before in
+    let start = c .before .before .before .before .before .before .before .before .before .before .before in
     lent-here (start .pre .1 .0) (start .pre .1 .1) .1)
     (λ c. c .before .before .ones .kept .1 .0)
     (λ c.
     let at-ones = c .before .before in
     let at-then1 = at-ones .before .before in
     let at-empty = at-then1 .before in
-    let known = at-empty .before .before .before .before .before .before .before in
+    let known = at-empty .before .before .before .before .before .before .before .before in
     let start = known .before in
     let said = at-empty .empty .ensures (at-then1 .if1 .taken) in
     let did = at-ones .ones .ensures in
     empty-done (start .pre .1 .0) (bytes-known (start .args .s .now) (known .shared-slice-known .given)) (start .args .set .now) _ _ _ _ _ (said .0) (said .1)
     (did .0) (did .1 .0) (did .1 .1))
-    (λ c. omega (arith, here (c .before .before .before .before .before .before .before .before .before .pre .1 .0) .1))
+    (λ c. omega (arith, here (c .before .before .before .before .before .before .before .before .before .before .pre .1 .0) .1))
     (λ c κs. search needs)
     (λ c. search needs)
     (λ c κs.
-    let start = c .before .before .before .before .before .before .before .before .before .before .before .before in
+    let start = c .before .before .before .before .before .before .before .before .before .before .before .before .before in
     (start .pre .1 .0 .posed .graph, (start .pre .1 .1 .members, (refl, among-none _))))
     (λ c. search needs)
     (λ c κs.
     let at-spread = c .before .before .before .before in
     let at-else1 = at-spread .before .before .before .before in
-    let start = at-else1 .before .before .before .before .before .before .before .before .before in
+    let start = at-else1 .before .before .before .before .before .before .before .before .before .before in
     let lent = start .pre .1 .1 in (
       omega (arith, start .pre .0),
       (
@@ -251,7 +252,7 @@ pub +others+reach+work-spec : {M : Type 1} → statement M
     let at-spread = at-work .before .before .before .before .before in
     let at-octet = at-spread .before .before in
     let at-else1 = at-octet .before .before in
-    let start = at-else1 .before .before .before .before .before .before .before .before .before in
+    let start = at-else1 .before .before .before .before .before .before .before .before .before .before in
     λ k. reach-done k (start .args .set .now) _ _ _ _ _ _ _ _ (at-octet .octet .ensures .0) (at-spread .spread .ensures (k .posed .graph)) (at-work .work .ensures k)))
     λ t. work-lts.spec (work-claims t)
     (work-at t)

@@ -11,6 +11,7 @@ empty-spec =
     tie.close
     (tie.spec
     (λ c e. absurd (true-false e refl))
+    (λ c e. absurd (true-false e refl))
     (λ c κs. search needs)
-    (λ c. omega (arith, c .before .before .pre))
-    (λ c e. (omega (arith, c .before .if1 .left), sym (c .octet .ensures .0) ∙ eqb-true _ _ e)))
+    (λ c. omega (arith, c .before .before .before .pre))
+    (λ c e. (omega (arith, c .before .if2 .left), sym (c .octet .ensures .0) ∙ eqb-true _ _ e)))
