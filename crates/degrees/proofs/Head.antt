@@ -7,6 +7,7 @@ use mathlib.Core.List.{List}
 use Prim.Native.Nat.{ℕ, _+_, _-_, _*_, _≤_, _<_, max}
 use native.Mathlib.Nat.{le-trans}
 use native.Mathlib.Omega.{arith}
+use lib.Count.{ones-ones}
 use lib.ListN.{length, getD}
 use Rattle.meaning.specs.Names.{common}
 use Rattle.meaning.specs.Names.{names as many}
@@ -79,10 +80,11 @@ module _ {s : List ℕ} {items : ℕ} {index names roles ends marks : List ℕ} 
   childless (more r (rooted a g) f) i e c u h l q = omega (arith, h .1, h .2 .1)
 
   -- it is worth 1 everywhere
-  pub empty-done : Bytes s → (set : List ℕ) (at scale : ℕ) (notes numbers out : List ℕ) → many (getD names node 0) ≡ 0 → getD ends node 0 ≡ node + 1 → scale ≡ 1
+  pub empty-done : Bytes s → (set : List ℕ) (at scale : ℕ) (notes numbers out : List ℕ) → getD names node 0 ≡ 0 → getD ends node 0 ≡ node + 1 → scale ≡ 1
       → ((x : ℕ) → x < 512 → rowAt out at x ≡ 1) → Kept at numbers out
       → (j : Gradable (Judged s items index) names roles ends marks node left) → Done j (Below (graph j) set (getD roles node 0)) at scale notes notes numbers out
-  empty-done b set at scale notes numbers out en ee es eo kept j =
+  empty-done b set at scale notes numbers out bare′ ee es eo kept j =
+      let en : many (getD names node 0) ≡ 0 = ap many bare′ ∙ ones-ones 0 in
       let heavy : Heavy ends marks (k .tree) node (getD ends node 0) = record {
         none = λ e c u q. absurd (childless (children (k .tree)) (node + 1) (getD ends node 0) c u (rows k) (omega arith) q);
         some = λ d. absurd (d refl);

@@ -5,7 +5,6 @@ ghost use mathlib.Core.Path.{_≡_};
 ghost use mathlib.Core.Bool.{true};
 ghost use Prim.Native.Nat.{_+_, _-_, _<_};
 ghost use lib.ListN.{length, getD};
-ghost use Rattle.meaning.specs.Names.{names as many};
 ghost use Rattle.meaning.specs.Register.{judged};
 ghost use Rattle.graph.specs.Judged.{Judged};
 ghost use Rattle.degrees.specs.Gradable.{Gradable, Member, Items};
@@ -94,19 +93,27 @@ pub fn work(
     )
 }
 
+// A number has more than one bit.
+fn several(bits: u64) -> bool {
+    if bits == 0 {
+        return false;
+    }
+    bits & (bits - 1) != 0
+}
+
 // A node has no names, and no children below it, and to say at once what it is worth at all items pays: its parent's set is not small, which its first 64
 // items show.
 fn empty(names: u64, end: u8, node: usize, first: u64) -> bool
     requires { ⌜ node < 64 ⌝ }
-    ensures { λ r. ⌜ (r ≡ true → (many names ≡ 0) × (end ≡ node + 1)) ⌝ }
+    ensures { λ r. ⌜ (r ≡ true → (names ≡ 0) × (end ≡ node + 1)) ⌝ }
 {
-    if u64::count_ones(first) < 2 {
+    if names != 0 {
         return false;
     }
-    if 0 < u64::count_ones(names) {
+    if fields::octet(end) != node + 1 {
         return false;
     }
-    fields::octet(end) == node + 1
+    several(first)
 }
 
 // The same at the child at a node, for the items that the members of its parent's set reach. One without names and children is worth 1 at every item,

@@ -2,7 +2,6 @@ use Rattle.degrees.proofs.empty.Statement.{statement}
 use Rattle.degrees.proofs.empty.Tie as tie
 use mathlib.Core.Path.{_≡_, refl, sym, _∙_}
 use native.Mathlib.Omega.{arith}
-use borrow.Author.Tests.{eqb-true}
 use borrow.Author.Needs.{needs}
 use Rattle.meaning.proofs.Tests.{true-false}
 
@@ -11,7 +10,8 @@ empty-spec =
     tie.close
     (tie.spec
     (λ c e. absurd (true-false e refl))
+    (λ c κs. search needs)
+    (λ c. omega (arith, c .before .before .pre))
     (λ c e. absurd (true-false e refl))
     (λ c κs. search needs)
-    (λ c. omega (arith, c .before .before .before .pre))
-    (λ c e. (omega (arith, c .before .if2 .left), sym (c .octet .ensures .0) ∙ eqb-true _ _ e)))
+    (λ c e. (omega (arith, c .before .before .before .if1 .left), omega (arith, c .before .if2 .left, c .before .before .octet .ensures .0))))
