@@ -1,11 +1,10 @@
 -- The yes/no call, end by end: at each of them the answer and the map are those of `memberCall`.
 -- Assumes nothing.
-use mathlib.Core.Path.{_≡_, refl, sym, ap, subst, _∙_}
+use mathlib.Core.Path.{_≡_, refl, sym, ap, _∙_}
 use mathlib.Core.Bool.{Bool, true, false, cond}
 use mathlib.Core.List.{List}
 use Prim.Native.Nat.{ℕ, _≤_, _<_}
 use native.Mathlib.Omega.{arith}
-use lib.Dec.{T}
 use lib.ListN.{length}
 use lib.Seq.{sets}
 use Rattle.fields.specs.Head.{wrongIn}
@@ -13,20 +12,21 @@ use Rattle.meaning.specs.declared.Refusal.{Refusal}
 use Rattle.meaning.specs.Bytes.{Bytes}
 use Rattle.meaning.specs.Refusal.{Answer, good, refused, onCall, _>>=_}
 use Rattle.meaning.specs.Tree.{nodes}
+use Rattle.meaning.specs.Graph.{Graph}
 use Rattle.meaning.specs.Register.{Register, judged, readRegisterBy, readRegister}
-use Rattle.meaning.specs.Requirement.{Requirement, bare, fulfils, member}
+use Rattle.meaning.specs.Requirement.{Requirement, bare, fulfils}
 use Rattle.meaning.specs.Message.{Part, readRequirement}
 use Rattle.meaning.specs.Shown.{yesMap}
 use Rattle.meaning.specs.Calls.{Decision, memberCall, afterMember}
 use Rattle.meaning.specs.Calls.{decide as decision}
-use Rattle.meaning.proofs.Reading.{taken, good-inj}
+use Rattle.meaning.proofs.Tests.{holds}
+use Rattle.meaning.proofs.Reading.{taken, good-inj, not-good}
 use Rattle.meaning.proofs.Rows.{opened, holds-ended}
 use Rattle.meaning.proofs.Image.{whole-buffer}
 use Rattle.meaning.proofs.YesShown.{yes-shows}
 use Rattle.register.specs.declared.Reading.{Reading}
 use Rattle.register.specs.declared.Reading.the-variants.{Good as GoodReading, Refused as RefusedReading}
-use Rattle.register.specs.Reading.{Counts, counted}
-use Rattle.register.specs.Reading.{paperReading}
+use Rattle.register.specs.Reading.{Counts, counted, paperReading}
 use Rattle.requirement.specs.declared.Message.{Message}
 use Rattle.requirement.specs.declared.Message.the-variants.{Good as GoodMessage, Refused as RefusedMessage}
 use Rattle.rows.specs.Packed.{namesIn, rolesIn, endsIn}
@@ -37,7 +37,7 @@ use Rattle.meeting.specs.Required.{Settled}
 use Rattle.deciding.specs.Answers.{yes, said, paperVerdict, refusedCall}
 use Rattle.deciding.specs.BothRead.{Imaged, BothRead}
 use Rattle.deciding.specs.Refusing.{DecideRow, badImage, badMessage, noItem, noRoom}
-use Rattle.deciding.proofs.Decided.{refused-inj, refuses-answer, member-answer}
+use Rattle.deciding.proofs.Decided.{refuses-answer, member-answer}
 
 -- ---- what was read
 
@@ -53,11 +53,11 @@ unfolding counted _>>=_
 image-refused s x r e d = go (readRegister s) (sym (ap paperReading e) ∙ d)
   where
     go : (a : Answer Register) → refused x ≡ counted a → a ≡ refused x
-    go (good g) h = let z : _≡_ {A = ℕ} 0 1 = cc in absurd (omega arith)
-    go (refused y) h = ap refused (sym (refused-inj h))
+    go (good g) h = absurd (not-good h)
+    go (refused y) h = let z : _≡_ {A = Answer Counts} (refused x) (refused y) = h in cc
 
 -- a message that was read into rows as so many nodes and thresholds
-pub record Understood (s B : List ℕ) (r : Message) (n parts : ℕ) : Type 0 where
+pub record Understood (s B : List ℕ) {r : Message} {n parts : ℕ} (e : r ≡ GoodMessage n parts) : Type 0 where
   pub requirement : Requirement
   pub places : List Part
   pub wanted : readRequirement s ≡ good (requirement, places)
@@ -65,10 +65,10 @@ pub record Understood (s B : List ℕ) (r : Message) (n parts : ℕ) : Type 0 wh
   pub parts-are : parts ≡ length places
   pub rows : MessageGood B requirement places r
 
-pub understood : {s B : List ℕ} {r : Message} {n parts : ℕ} → MessageDone s B r → r ≡ GoodMessage n parts → Understood s B r n parts
-understood {s} {B} {r} {n} {parts} h e = go (readRequirement s) refl h
+pub understood : (s B : List ℕ) {r : Message} {n parts : ℕ} → MessageDone s B r → (e : r ≡ GoodMessage n parts) → Understood s B e
+understood s B {r} {n} {parts} h e = go (readRequirement s) refl h
   where
-    go : (a : Answer (Requirement × List Part)) → readRequirement s ≡ a → MessageOutcome B a r → Understood s B r n parts
+    go : (a : Answer (Requirement × List Part)) → readRequirement s ≡ a → MessageOutcome B a r → Understood s B e
     go (good x) d m =
         let z : GoodMessage (nodes (x .0)) (length (x .1)) ≡ GoodMessage n parts = sym (m .answer) ∙ e in
         let en : n ≡ nodes (x .0) = cc in
@@ -104,7 +104,7 @@ module _ (image message : List ℕ) (item : ℕ) (map : List ℕ) where
     pub message-unread : (x : Refusal) → readRequirement message ≡ refused x → Ends map (Refused x)
     message-unread x e = ends-refused x _ refl (badMessage (i .register) (i .read) e)
 
-    module _ {B : List ℕ} {m : Message} {n parts : ℕ} (u : Understood message B m n parts) where
+    module _ {B : List ℕ} {m : Message} {n parts : ℕ} {e : m ≡ GoodMessage n parts} (u : Understood message B e) where
       abbrev q : Requirement
       q = u .requirement
 
@@ -137,26 +137,21 @@ module _ (image message : List ℕ) (item : ℕ) (map : List ℕ) where
               room-enough = omega (arith, ended, u .nodes-are);
             }
 
-        decided : answer ≡ good (decision (member (judged (i .register)) q item) (yesMap (judged (i .register)) q item))
-        decided =
-            member-answer image message item (length map) (i .register) q (u .places) (i .read) (u .wanted) (omega (arith, i .items-are)) (omega (arith, u .nodes-are))
-
         module _ (b : Bytes image) (t : List ℕ) (r : Bool)
             (s : (k : BothRead image items links message B parts item (length map)) → Settled (k .posed .graph .register) (k .requirement) item map t r) where
-          abbrev shown : List ℕ
-          shown = yesMap (judged (i .register)) q item
+          abbrev G : Graph ℕ
+          G = judged (i .register)
 
-          says : (c : Bool) → r ≡ c → answer ≡ good (decision c shown)
-          says c e = decided ∙ ap (λ (z : Bool). good (decision z shown)) (sym (s (both-read b) .answer) ∙ e)
+          says : (c : Bool) → r ≡ c → answer ≡ good (decision c (yesMap G q item))
+          says c e =
+              member-answer image message item (length map) (i .register) q (u .places) (i .read) (u .wanted)
+              (omega (arith, i .items-are)) (omega (arith, u .nodes-are)) ∙ ap (λ (z : Bool). good (decision z (yesMap G q item))) (sym (s (both-read b) .answer) ∙ e)
 
-          after : (c : Bool) → r ≡ c → t ≡ cond c (sets map 0 shown) map
-          after c e = s (both-read b) .map ∙ ap (λ (z : Bool). cond z (sets map 0 shown) map) e
+          after : (c : Bool) → r ≡ c → t ≡ cond c (sets map 0 (yesMap G q item)) map
+          after c e = s (both-read b) .map ∙ ap (λ (z : Bool). cond z (sets map 0 (yesMap G q item)) map) e
 
-          pub answers-yes : r ≡ true → Ends t (Yes n)
-          answers-yes e =
-              let G = judged (i .register) in
-              let long = yes-shows (fulfils G) G q item (subst T (sym (sym (s (both-read b) .answer) ∙ e)) tt) .long in
+          pub answers : (c : Bool) → r ≡ c → Ends t (cond c (Yes n) No)
+          answers true e =
+              let long = yes-shows (fulfils G) G q item (holds (sym (s (both-read b) .answer) ∙ e)) .long in
               (ap (λ (z : ℕ). good (yes z)) (u .nodes-are ∙ sym long) ∙ sym (ap said (says true e)), after true e ∙ sym (ap (afterMember map) (says true e)))
-
-          pub answers-no : r ≡ false → Ends t No
-          answers-no e = (sym (ap said (says false e)), after false e ∙ sym (ap (afterMember map) (says false e)))
+          answers false e = (sym (ap said (says false e)), after false e ∙ sym (ap (afterMember map) (says false e)))

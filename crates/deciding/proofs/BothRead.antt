@@ -6,7 +6,7 @@ use mathlib.Core.List.{List, Forall₂, Forall₂·nil, Forall₂·cons}
 use Prim.Native.Nat.{ℕ, zero, suc, _+_, _≤_, _<_}
 use native.Mathlib.Nat.{le-trans}
 use native.Mathlib.Omega.{arith}
-use lib.ListN.{length, getD, replicate, length-replicate}
+use lib.ListN.{length, getD}
 use Rattle.meaning.specs.Bytes.{Bytes}
 use Rattle.meaning.specs.Graph.{Graph}
 use Rattle.meaning.specs.Register.{Register, judged}
@@ -90,9 +90,3 @@ module _ {image : List ℕ} {items links : ℕ} {message B : List ℕ} {parts it
       → Settled (k .posed .graph .register) t item old new r
   settled-by j t old new r s =
       subst (λ (g : Register). Settled g t item old new r) (one-register j (k .posed .graph .register) (k .posed .graph .read)) s
-
-abbrev noIndex : List ℕ
-noIndex = replicate 513 0
-
-pub index-length : length noIndex ≡ 513
-index-length = length-replicate {A = ℕ} 513 0

@@ -9,7 +9,7 @@ use lib.Dec.{T, ltb, leb}
 use lib.ListN.{length}
 use borrow.Author.Tests.{lt-leb, le-ltb}
 use Rattle.meaning.specs.declared.Refusal.{Refusal}
-use Rattle.meaning.specs.Refusal.{Answer, good, refused}
+use Rattle.meaning.specs.Refusal.{good, refused}
 use Rattle.meaning.specs.Tree.{nodes}
 use Rattle.meaning.specs.Graph.{Graph}
 use Rattle.meaning.specs.Register.{Register, judged, readRegister}
@@ -24,9 +24,6 @@ use Rattle.meaning.proofs.Whole.{meets-whole}
 use Rattle.meaning.proofs.One.{answered-one}
 use Rattle.meaning.proofs.Member.{bare-member}
 use Rattle.deciding.specs.Refusing.{DecideRow, badImage, badMessage, noItem, noRoom}
-
-pub refused-inj : {A : Type 0} {x y : Refusal} → _≡_ {A = Answer A} (refused x) (refused y) → x ≡ y
-refused-inj e = cc
 
 -- each row of the table refuses
 pub refuses-answer : (image message : List ℕ) (item room : ℕ) (x : Refusal) → DecideRow image message item room x → memberCall image message item room ≡ refused x

@@ -1,13 +1,13 @@
 -- The thresholds of a requirement in reading order, each with the written node that it is of: those of node i are its label's.
 -- Assumes nothing.
-use mathlib.Core.Path.{_≡_, refl, sym, ap, ap₂, subst, _∙_}
-use mathlib.Core.Bool.{Bool, true, false, _&&_, _||_, not, and-true}
+use mathlib.Core.Path.{_≡_, sym, ap, ap₂, subst, _∙_}
+use mathlib.Core.Bool.{Bool, _&&_, _||_, not, and-true}
 use mathlib.Core.List.{List, [], _∷_}
 use Prim.Native.Nat.{ℕ, zero, suc, _+_, _-_, _≤_, _<_}
+use native.Mathlib.Decide.{decLt}
 use native.Mathlib.Omega.{arith}
-use lib.Dec.{ltb}
 use lib.ListN.{length, getD}
-use borrow.Author.Tests.{eq-eqb, ne-eqb, ltb-true, ltb-false}
+use borrow.Author.Tests.{eq-eqb, ne-eqb}
 use Rattle.meaning.specs.Tree.{node, Forest, none, more, relabel, nodes, nodesF}
 use Rattle.meaning.specs.Graph.{Graph}
 use Rattle.meaning.specs.Requirement.{Threshold, Label, Requirement, every, passes, bare}
@@ -24,6 +24,14 @@ unfoldable mutual
   pub manyF : Forest Label → ℕ
   manyF none = 0
   manyF (more r t f) = many t + manyF f
+
+-- a place is before another one, or not
+sided : {P : Type 0} (j k : ℕ) → (j < k → P) → (k ≤ j → P) → P
+sided {P} j k a b = go (decLt j k)
+  where
+    go : Dec (j < k) → P
+    go (yes l) = a l
+    go (no l) = b (omega (arith, l))
 
 module _ (G : Graph ℕ) (owners : List ℕ) (all : List Threshold) where
   -- the thresholds from the k-th on are these, of the written node i
@@ -47,11 +55,8 @@ module _ (G : Graph ℕ) (owners : List ℕ) (all : List Threshold) where
   own-owner : (hs : List Threshold) (i k j : ℕ) → Own hs i k → k ≤ j → j < k + length hs → getD owners j 0 ≡ i
   unfolding Own
   own-owner [] i k j w l m = absurd (omega arith)
-  own-owner (h ∷ hs) i k j w l m = go (ltb k j) refl (λ p q. own-owner hs i (suc k) j (w .2) p q)
-    where
-      go : (b : Bool) → ltb k j ≡ b → (suc k ≤ j → j < suc k + length hs → getD owners j 0 ≡ i) → getD owners j 0 ≡ i
-      go true e n = n (ltb-true k j e) (omega arith)
-      go false e n = let q = ltb-false k j e in let z : j ≡ k = omega arith in rw z (w .0)
+  own-owner (h ∷ hs) i k j w l m =
+      sided j (suc k) (λ p. let z : j ≡ k = omega arith in rw z (w .0)) (λ p. own-owner hs i (suc k) j (w .2) p (omega arith))
 
   abbrev Among : ℕ → ℕ → ℕ → Type 0
   Among i e j = (i ≤ getD owners j 0) × (getD owners j 0 < e)
@@ -61,22 +66,15 @@ module _ (G : Graph ℕ) (owners : List ℕ) (all : List Threshold) where
 
     listed-among : (t : Requirement) (i k j : ℕ) → Listed t i k → k ≤ j → j < k + many t → Among i (i + nodes t) j
     listed-among (node a f) i k j w l m =
-        go (ltb j (k + length (a .thresholds))) refl (λ p. listedF-among f (i + 1) (k + length (a .thresholds)) j (w .1) p (omega arith))
-      where
-        go : (b : Bool) → ltb j (k + length (a .thresholds)) ≡ b → (k + length (a .thresholds) ≤ j → Among (i + 1) (i + 1 + nodesF f) j)
-            → Among i (i + suc (nodesF f)) j
-        go true e n = let q = own-owner (a .thresholds) i k j (w .0) l (ltb-true j (k + length (a .thresholds)) e) in (omega arith, omega arith)
-        go false e n = let q = n (ltb-false j (k + length (a .thresholds)) e) in (omega arith, omega arith)
+        let own = k + length (a .thresholds) in
+        sided j own (λ p. let q = own-owner (a .thresholds) i k j (w .0) l p in (omega arith, omega arith))
+        (λ p. let q = listedF-among f (i + 1) own j (w .1) p (omega arith) in (omega arith, omega arith))
 
     listedF-among : (f : Forest Label) (i k j : ℕ) → ListedF f i k → k ≤ j → j < k + manyF f → Among i (i + nodesF f) j
     listedF-among none i k j w l m = absurd (omega arith)
     listedF-among (more r t f) i k j w l m =
-        go (ltb j (k + many t)) refl (λ p. listed-among t i k j (w .0) l p) (λ p. listedF-among f (i + nodes t) (k + many t) j (w .1) p (omega arith))
-      where
-        go : (b : Bool) → ltb j (k + many t) ≡ b → (j < k + many t → Among i (i + nodes t) j)
-            → (k + many t ≤ j → Among (i + nodes t) (i + nodes t + nodesF f) j) → Among i (i + (nodes t + nodesF f)) j
-        go true e n o = let q = n (ltb-true j (k + many t) e) in (omega arith, omega arith)
-        go false e n o = let q = o (ltb-false j (k + many t) e) in (omega arith, omega arith)
+        sided j (k + many t) (λ p. let q = listed-among t i k j (w .0) l p in (omega arith, omega arith))
+        (λ p. let q = listedF-among f (i + nodes t) (k + many t) j (w .1) p (omega arith) in (omega arith, omega arith))
 
   -- ---- what they say at an item
 
@@ -103,76 +101,54 @@ module _ (G : Graph ℕ) (owners : List ℕ) (all : List Threshold) where
       ∙ ap₂ (λ (b c : Bool). (ruledAt G owners all k i x && (not b || c)) && every (λ z. passes G z x) hs) (eq-eqb (getD owners k 0) i (w .0)) (ap (λ (z : Threshold). passes G z x) (w .1))
       ∙ and-assoc (ruledAt G owners all k i x) (passes G h x) (every (λ z. passes G z x) hs))
 
-  ruled-node : (hs : List Threshold) (i k n x : ℕ) → Own hs i k → ((j : ℕ) → j < k → getD owners j 0 < i)
-      → ((j : ℕ) → k + length hs ≤ j → j < n → i < getD owners j 0) → k + length hs ≤ n
-      → ruledAt G owners all n i x ≡ every (λ h. passes G h x) hs
-  unfolding ruledAt
-  ruled-node hs i k n x w before behind m =
-      let e : k + length hs + (n - (k + length hs)) ≡ n = omega arith in
-      let f : 0 + k ≡ k = omega arith in
-      ap (λ (z : ℕ). ruledAt G owners all z i x) (sym e)
-      ∙ ruled-skip (k + length hs) (n - (k + length hs)) i x (λ j p q d. let z = behind j p (omega arith) in let y : getD owners j 0 ≡ i = d in omega arith)
-      ∙ ruled-own hs i k x w
-      ∙ ap (λ (b : Bool). b && every (λ h. passes G h x) hs)
-      (ap (λ (z : ℕ). ruledAt G owners all z i x) (sym f)
-      ∙ ruled-skip 0 k i x (λ j p q d. let z = before j (omega arith) in let y : getD owners j 0 ≡ i = d in omega arith))
-
   module _ (names roles ends : List ℕ) (n : ℕ) where
+    -- of n thresholds those before the k-th are of nodes before i, and those from the m-th on of nodes from e on
+    abbrev Around : ℕ → ℕ → ℕ → ℕ → Type 0
+    Around k m i e = ((j : ℕ) → j < k → getD owners j 0 < i) × ((j : ℕ) → m ≤ j → j < n → e ≤ getD owners j 0) × (m ≤ n)
+
+    ruled-node : (hs : List Threshold) (i k x : ℕ) → Own hs i k → Around k (k + length hs) i (i + 1) → ruledAt G owners all n i x ≡ every (λ h. passes G h x) hs
+    unfolding ruledAt
+    ruled-node hs i k x w z =
+        let e : k + length hs + (n - (k + length hs)) ≡ n = omega (arith, z .2) in
+        let f : 0 + k ≡ k = omega arith in
+        ap (λ (z : ℕ). ruledAt G owners all z i x) (sym e)
+        ∙ ruled-skip (k + length hs) (n - (k + length hs)) i x (λ j p q d. let y : getD owners j 0 ≡ i = d in omega (arith, z .1 j p (omega arith)))
+        ∙ ruled-own hs i k x w
+        ∙ ap (λ (b : Bool). b && every (λ h. passes G h x) hs)
+        (ap (λ (z : ℕ). ruledAt G owners all z i x) (sym f)
+        ∙ ruled-skip 0 k i x (λ j p q d. let y : getD owners j 0 ≡ i = d in omega (arith, z .0 j (omega arith))))
+
     mutual
       unfolding Holds relabel Listed many nodes Ruled
 
       listed-ruled : (t : Requirement) (left i e k : ℕ) → Holds names roles ends (bare t) left i e → Listed t i k
-          → ((j : ℕ) → j < k → getD owners j 0 < i) → ((j : ℕ) → k + many t ≤ j → j < n → i + nodes t ≤ getD owners j 0) → k + many t ≤ n
-          → Ruled G owners all ends n t i
-      listed-ruled (node a f) left i e k h w before behind m =
-          let len : ℕ = length (a .thresholds) in (
-            (λ x. ruled-node (a .thresholds) i k n x (w .0) before (λ j p q. later j p q) (omega arith)),
-            listedF-ruled f (left - 1) (i + 1) e (k + len) (h .4) (w .1) (λ j p. sooner j p) (λ j p q. let z = behind j (omega arith) q in omega arith) (omega arith),
+          → Around k (k + many t) i (i + nodes t) → Ruled G owners all ends n t i
+      listed-ruled (node a f) left i e k h w z =
+          let own : ℕ = k + length (a .thresholds) in
+          let later : (j : ℕ) → own ≤ j → j < n → i + 1 ≤ getD owners j 0 =
+          λ j p q. sided j (own + manyF f) (λ r. omega (arith, listedF-among f (i + 1) own j (w .1) p r .0)) (λ r. omega (arith, z .1 j (omega arith) q)) in
+          let sooner : (j : ℕ) → j < own → getD owners j 0 < i + 1 =
+          λ j p. sided j k (λ r. omega (arith, z .0 j r)) (λ r. omega (arith, own-owner (a .thresholds) i k j (w .0) r p)) in (
+            (λ x. ruled-node (a .thresholds) i k x (w .0) (z .0, later, omega (arith, z .2))),
+            listedF-ruled f (left - 1) (i + 1) e own (h .4) (w .1) (sooner, (λ j p q. omega (arith, z .1 j (omega arith) q)), omega (arith, z .2)),
           )
-        where
-          later : (j : ℕ) → k + length (a .thresholds) ≤ j → j < n → i < getD owners j 0
-          later j p q = go (ltb j (k + (length (a .thresholds) + manyF f))) refl
-            where
-              go : (b : Bool) → ltb j (k + (length (a .thresholds) + manyF f)) ≡ b → i < getD owners j 0
-              go true d =
-                  let c = ltb-true j (k + (length (a .thresholds) + manyF f)) d in
-                  let z = listedF-among f (i + 1) (k + length (a .thresholds)) j (w .1) p (omega arith) in
-                  omega arith
-              go false d = let z = behind j (ltb-false j (k + (length (a .thresholds) + manyF f)) d) q in omega arith
-
-          sooner : (j : ℕ) → j < k + length (a .thresholds) → getD owners j 0 < i + 1
-          sooner j p = go (ltb j k) refl
-            where
-              go : (b : Bool) → ltb j k ≡ b → getD owners j 0 < i + 1
-              go true d = let z = before j (ltb-true j k d) in omega arith
-              go false d = let z = own-owner (a .thresholds) i k j (w .0) (ltb-false j k d) p in omega arith
 
       listedF-ruled : (f : Forest Label) (left i e k : ℕ) → HoldsF names roles ends (bareF f) left i e → ListedF f i k
-          → ((j : ℕ) → j < k → getD owners j 0 < i) → ((j : ℕ) → k + manyF f ≤ j → j < n → i + nodesF f ≤ getD owners j 0) → k + manyF f ≤ n
-          → RuledF G owners all ends n f i
-      listedF-ruled none left i e k h w before behind m = tt
-      listedF-ruled (more r t f) left i e k h w before behind m =
-          let p = holds-nodes names roles ends t left i (getD ends i 0) (h .2) in (
-            listed-ruled t left i (getD ends i 0) k (h .2) (w .0) before (λ j c d. later j c d) (omega arith),
-            listedF-ruled f left (getD ends i 0) e (k + many t) (h .3) (subst (λ (z : ℕ). ListedF f z (k + many t)) (sym p) (w .1))
-                (λ j c. let z = sooner j c in omega arith) (λ j c d. let z = behind j (omega arith) d in omega arith) (omega arith),
+          → Around k (k + manyF f) i (i + nodesF f) → RuledF G owners all ends n f i
+      listedF-ruled none left i e k h w z = tt
+      listedF-ruled (more r t f) left i e k h w z =
+          let own : ℕ = k + many t in
+          let later : (j : ℕ) → own ≤ j → j < n → i + nodes t ≤ getD owners j 0 =
+          λ j p q. sided j (own + manyF f) (λ r. listedF-among f (i + nodes t) own j (w .1) p r .0) (λ r. omega (arith, z .1 j (omega arith) q)) in
+          let sooner : (j : ℕ) → j < own → getD owners j 0 < i + nodes t =
+          λ j p. sided j k (λ r. omega (arith, z .0 j r)) (λ r. listed-among t i k j (w .0) r p .1) in
+          let end = holds-nodes names roles ends t left i (getD ends i 0) (h .2) in (
+            listed-ruled t left i (getD ends i 0) k (h .2) (w .0) (z .0, later, omega (arith, z .2)),
+            listedF-ruled f left (getD ends i 0) e own (h .3) (subst (λ (z : ℕ). ListedF f z own) (sym end) (w .1))
+                ((λ j p. rw end (sooner j p)), (λ j p q. omega (arith, end, z .1 j (omega arith) q)), omega (arith, z .2)),
           )
-        where
-          later : (j : ℕ) → k + many t ≤ j → j < n → i + nodes t ≤ getD owners j 0
-          later j c d = go (ltb j (k + many t + manyF f)) refl
-            where
-              go : (b : Bool) → ltb j (k + many t + manyF f) ≡ b → i + nodes t ≤ getD owners j 0
-              go true q = listedF-among f (i + nodes t) (k + many t) j (w .1) c (ltb-true j (k + many t + manyF f) q) .0
-              go false q = let y = ltb-false j (k + many t + manyF f) q in let z = behind j (omega arith) d in omega arith
-
-          sooner : (j : ℕ) → j < k + many t → getD owners j 0 < i + nodes t
-          sooner j c = go (ltb j k) refl
-            where
-              go : (b : Bool) → ltb j k ≡ b → getD owners j 0 < i + nodes t
-              go true q = let z = before j (ltb-true j k q) in omega arith
-              go false q = listed-among t i k j (w .0) (ltb-false j k q) c .1
 
     -- the whole requirement
     pub ruled-all : (q : Requirement) (left e : ℕ) → Holds names roles ends (bare q) left 0 e → Listed q 0 0 → n ≡ many q → Ruled G owners all ends n q 0
     ruled-all q left e h w m =
-        listed-ruled q left 0 e 0 h w (λ j p. absurd (let z : j < 0 = p in omega arith)) (λ j p c. absurd (omega arith)) (omega arith)
+        listed-ruled q left 0 e 0 h w ((λ j p. absurd (let z : j < 0 = p in omega arith)), (λ j p c. absurd (omega arith)), omega arith)

@@ -4,19 +4,19 @@
 -- Assumes nothing.
 use mathlib.Core.Path.{_≡_, refl, sym, ap, ap₂, subst, _∙_}
 use mathlib.Core.Bool.{Bool, true, false}
-use mathlib.Core.Logic.{_↔_}
+use mathlib.Core.Logic.{_↔_, _⊎_, inl, inr}
 use mathlib.Core.List.{List, [], _∷_, _++_}
 use mathlib.Core.Option.{some}
 use Prim.Native.Nat.{ℕ, _≤_, _<_, _∣_}
 use native.Mathlib.Nat.{dvd-refl}
+use native.Mathlib.Decide.{decLt}
 use native.Mathlib.Omega.{arith}
-use lib.Dec.{T, ltb, leb}
+use lib.Dec.{T}
 use lib.ListN.{length}
 use lib.Seq.{sets}
-use borrow.Author.Tests.{leb-true, ltb-true}
 use Rattle.meaning.specs.declared.Refusal.{Refusal}
 use Rattle.meaning.specs.Bytes.{Bytes}
-use Rattle.meaning.specs.Refusal.{Answer, good, refused}
+use Rattle.meaning.specs.Refusal.{Answer, good, refused, onCall, Exactly}
 use Rattle.meaning.specs.Tree.{Tree, nodes, subtree, roleAt}
 use Rattle.meaning.specs.Graph.{Graph}
 use Rattle.meaning.specs.Fraction.{Frac, _//_, Lowest}
@@ -29,7 +29,7 @@ use Rattle.meaning.specs.Shown.{yesMap}
 use Rattle.meaning.specs.Calls.{Decision, met, unmet, memberCall, afterMember}
 use Rattle.meaning.specs.Calls.{decide as decision}
 use Rattle.meaning.proofs.Tests.{is-true, is-false}
-use Rattle.meaning.proofs.Reading.{pass, stop, stopped, took, not-le, lt-of-not-le, le-of-not-below, good-inj, not-good}
+use Rattle.meaning.proofs.Refusing.{exactly, carried}
 use Rattle.meaning.proofs.Image.{read-image}
 use Rattle.meaning.proofs.Degree.{answered-lowest}
 use Rattle.meaning.proofs.Rising.{LowestOf}
@@ -38,15 +38,16 @@ use Rattle.meaning.proofs.YesShown.{YesShows, yes-shows, yes-lowest}
 use Rattle.fields.proofs.Once.{Apart, told-back, once-left}
 use Rattle.deciding.specs.declared.Verdict.{Verdict}
 use Rattle.deciding.specs.declared.Verdict.the-variants.{Yes, No, Refused}
-use Rattle.deciding.specs.Answers.{Said, yes, no, said, paperVerdict}
+use Rattle.deciding.specs.Answers.{Said, says, said, paperVerdict}
+use Rattle.deciding.specs.Answers.{yes as saidYes, no as saidNo}
 use Rattle.deciding.specs.Refusing.{DecidePromise, DecideRow, badImage, badMessage, noItem, noRoom}
-use Rattle.deciding.proofs.Decided.{refused-inj, refuses-answer, member-answer, plain-one}
+use Rattle.deciding.proofs.Decided.{refuses-answer, member-answer, plain-one}
 
 -- ---- one result
 
 abbrev back : Answer Said → Verdict
-back (good (yes n)) = Yes n
-back (good no) = No
+back (good (saidYes n)) = Yes n
+back (good saidNo) = No
 back (refused x) = Refused x
 
 -- the document's words tell all results apart
@@ -65,49 +66,38 @@ decide-one image message item old new new′ r r′ = once-left paperVerdict ver
 
 -- ---- refusals
 
-said-refused : (a : Answer Decision) (x : Refusal) → said a ≡ refused x → a ≡ refused x
-said-refused (good d) x e = absurd (not-good (sym e))
-said-refused (refused y) x e = ap refused (refused-inj e)
+-- a row of the table holds, or there is an answer
+module _ (image message : List ℕ) (item room : ℕ) where
+  abbrev Row : Refusal → Type 0
+  Row x = DecideRow image message item room x
 
-module _ (image message : List ℕ) (item room : ℕ) (x : Refusal) where
-  answer-refuses : memberCall image message item room ≡ refused x → DecideRow image message item room x
-  unfolding memberCall
-  answer-refuses e = image-read (readRegister image) refl
+  abbrev Takes : Type 0
+  Takes = (d : Decision) × (memberCall image message item room ≡ good d)
+
+  either : ((x : Refusal) × Row x) ⊎ Takes
+  either = read (readRegister image) refl (readRequirement message) refl
     where
-      room-tested : (g : Register) (q : Requirement) (ps : List Part) → readRegister image ≡ good g → readRequirement message ≡ good (q, ps)
-          → item < length (g .names) → (b : Bool) → ltb room (nodes q) ≡ b → DecideRow image message item room x
-      room-tested g q ps eg em l true d =
-          let w = took (readRegister image) _ g eg ∙ took (readRequirement message) _ (q, ps) em
-          ∙ pass (leb (length (g .names)) item) _ _ (not-le (length (g .names)) item l) ∙ stop (ltb room (nodes q)) _ _ d in
-          noRoom g q ps eg em l (ltb-true room (nodes q) d) (refused-inj (sym e ∙ w))
-      room-tested g q ps eg em l false d =
-          absurd (not-good (sym e ∙ member-answer image message item room g q ps eg em l (le-of-not-below room (nodes q) d)))
+      tested : (g : Register) (q : Requirement) (ps : List Part) → readRegister image ≡ good g → readRequirement message ≡ good (q, ps)
+          → Dec (item < length (g .names)) → Dec (room < nodes q) → ((x : Refusal) × Row x) ⊎ Takes
+      tested g q ps eg em (no l) s = inl (onCall 15, noItem g q ps eg em (omega (arith, l)) refl)
+      tested g q ps eg em (yes l) (yes s) = inl (onCall 16, noRoom g q ps eg em l s refl)
+      tested g q ps eg em (yes l) (no s) = inr (_, member-answer image message item room g q ps eg em l (omega (arith, s)))
 
-      item-tested : (g : Register) (q : Requirement) (ps : List Part) → readRegister image ≡ good g → readRequirement message ≡ good (q, ps)
-          → (b : Bool) → leb (length (g .names)) item ≡ b → DecideRow image message item room x
-      item-tested g q ps eg em true d =
-          let w = took (readRegister image) _ g eg ∙ took (readRequirement message) _ (q, ps) em ∙ stop (leb (length (g .names)) item) _ _ d in
-          noItem g q ps eg em (leb-true (length (g .names)) item d) (refused-inj (sym e ∙ w))
-      item-tested g q ps eg em false d = room-tested g q ps eg em (lt-of-not-le (length (g .names)) item d) (ltb room (nodes q)) refl
+      read : (a : Answer Register) → readRegister image ≡ a → (m : Answer (Requirement × List Part)) → readRequirement message ≡ m
+          → ((x : Refusal) × Row x) ⊎ Takes
+      read (refused y) eg m em = inl (y, badImage eg)
+      read (good g) eg (refused y) em = inl (y, badMessage g eg em)
+      read (good g) eg (good y) em = tested g (y .0) (y .1) eg em (decLt item (length (g .names))) (decLt room (nodes (y .0)))
 
-      message-read : (g : Register) → readRegister image ≡ good g → (m : Answer (Requirement × List Part)) → readRequirement message ≡ m
-          → DecideRow image message item room x
-      message-read g eg (good y) em = item-tested g (y .0) (y .1) eg em (leb (length (g .names)) item) refl
-      message-read g eg (refused y) em =
-          let w = took (readRegister image) _ g eg ∙ stopped (readRequirement message) _ y em in
-          badMessage g eg (em ∙ ap refused (refused-inj (sym w ∙ e)))
-
-      image-read : (a : Answer Register) → readRegister image ≡ a → DecideRow image message item room x
-      image-read (good g) eg = message-read g eg (readRequirement message) refl
-      image-read (refused y) eg = badImage (eg ∙ ap refused (refused-inj (sym (stopped (readRegister image) _ y eg) ∙ e)))
+  said-exactly : Exactly (said (memberCall image message item room)) Row Takes
+  said-exactly = carried said says (λ d. refl) (λ x. refl) _ Row Takes (exactly _ Row Takes (refuses-answer image message item room) (λ d. d) either)
 
 -- "A number is given exactly when its row holds and nothing earlier in the order below applies."
 pub decide-refused : (image message : List ℕ) (item : ℕ) (old new : List ℕ) (r : Verdict) → DecidePromise image message item old new r → (x : Refusal)
     → (r ≡ Refused x) ↔ DecideRow image message item (length old) x
-decide-refused image message item old new r p x = (
-  (λ e. answer-refuses image message item (length old) x (said-refused _ x (sym (p .0) ∙ ap paperVerdict e))),
-  (λ h. verdict-told r (Refused x) (p .0 ∙ ap said (refuses-answer image message item (length old) x h))),
-)
+decide-refused image message item old new r p x =
+    let same = said-exactly image message item (length old) .refuses x in
+    ((λ e. same .0 (sym (p .0) ∙ ap paperVerdict e)), (λ h. verdict-told r (Refused x) (p .0 ∙ same .1 h)))
 
 -- a refusal and a no write nothing
 pub decide-kept : (image message : List ℕ) (item : ℕ) (old new : List ℕ) (r : Verdict) → DecidePromise image message item old new r
@@ -135,22 +125,16 @@ module _ (image message : List ℕ) (item : ℕ) (old new : List ℕ) (r : Verdi
   abbrev G : Graph ℕ
   G = judged g
 
-  decided : memberCall image message item (length old) ≡ good (decision (member G q item) (yesMap G q item))
-  decided = member-answer image message item (length old) g q ps eg em inside fits
-
-  when-met : T (member G q item) → memberCall image message item (length old) ≡ good (met (yesMap G q item))
-  when-met t = decided ∙ ap (λ (b : Bool). good (decision b (yesMap G q item))) (is-true (member G q item) t)
-
-  when-unmet : (T (member G q item) → ⊥) → memberCall image message item (length old) ≡ good unmet
-  when-unmet f = decided ∙ ap (λ (b : Bool). good (decision b (yesMap G q item))) (is-false (member G q item) f)
+  when : (b : Bool) → member G q item ≡ b → memberCall image message item (length old) ≡ good (decision b (yesMap G q item))
+  when b e = member-answer image message item (length old) g q ps eg em inside fits ∙ ap (λ (z : Bool). good (decision z (yesMap G q item))) e
 
   met-yes : T (member G q item) → r ≡ Yes (nodes q)
   met-yes t =
       let long = yes-shows (fulfils G) G q item t .long in
-      verdict-told r (Yes (nodes q)) (promised .0 ∙ ap said (when-met t) ∙ ap (λ (n : ℕ). good (yes n)) long)
+      verdict-told r (Yes (nodes q)) (promised .0 ∙ ap said (when true (is-true _ t)) ∙ ap (λ (n : ℕ). good (saidYes n)) long)
 
   unmet-no : (T (member G q item) → ⊥) → r ≡ No
-  unmet-no f = verdict-told r No (promised .0 ∙ ap said (when-unmet f))
+  unmet-no f = verdict-told r No (promised .0 ∙ ap said (when false (is-false _ f)))
 
   apart : r ≡ Yes (nodes q) → r ≡ No → ⊥
   apart e d = let z : _≡_ {A = Verdict} (Yes (nodes q)) No = sym e ∙ d in let y : _≡_ {A = ℕ} 0 1 = cc in omega arith
@@ -174,7 +158,7 @@ module _ (image message : List ℕ) (item : ℕ) (old new : List ℕ) (r : Verdi
       let t = yes-met e in
       let shows = yes-shows (fulfils G) G q item t in
       record {
-        written = promised .1 ∙ ap (afterMember old) (when-met t);
+        written = promised .1 ∙ ap (afterMember old) (when true (is-true _ t));
         map = shows;
         lowest = yes-lowest (fulfils G) g (read-image image g b eg .0) q item shows;
       }

@@ -50,13 +50,15 @@ module _ (names roles ends : List ℕ) (G : Graph ℕ) where
         )
 
   module _ (owners : List ℕ) (hs : List Threshold) (parts : ℕ) (t : Requirement) (left n e : ℕ) (all : List ℕ) where
-    -- The children of t, which stands at row n, are left from row c on; `set` has of `all` what meets the others.
-    pub record Rest (set m : List ℕ) (c : ℕ) : Type 0 where
-      pub rest : Forest Label
-      pub held : HoldsF names roles ends (bareF rest) left c e
-      pub ruled : RuledF G owners hs ends parts rest c
-      pub row : (x : ℕ) → (inSet set x && meetsByF (fulfils G) G rest x) ≡ (inSet all x && meetsByF (fulfils G) G (children t) x)
-      pub so-far : (x : ℕ) → inSet set x ≡ true → (new : List ℕ) → SameRows m new (n + 1) c → RightF ends G new rest c x → RightF ends G new (children t) (n + 1) x
+    -- Of t, which stands at row n, the children f are left from row c on; `set` has of `all` what meets the others.
+    pub record RestOf (f : Forest Label) (set m : List ℕ) (c : ℕ) : Type 0 where
+      pub held : HoldsF names roles ends (bareF f) left c e
+      pub ruled : RuledF G owners hs ends parts f c
+      pub row : (x : ℕ) → (inSet set x && meetsByF (fulfils G) G f x) ≡ (inSet all x && meetsByF (fulfils G) G (children t) x)
+      pub so-far : (x : ℕ) → inSet set x ≡ true → (new : List ℕ) → SameRows m new (n + 1) c → RightF ends G new f c x → RightF ends G new (children t) (n + 1) x
+
+    abbrev pub Rest : List ℕ → List ℕ → ℕ → Type 0
+    Rest set m c = (f : Forest Label) × RestOf f set m c
 
     -- the child at row c
     pub record Child (set m : List ℕ) (c : ℕ) : Type 0 where
@@ -73,43 +75,43 @@ module _ (names roles ends : List ℕ) (G : Graph ℕ) where
 
     pub rest-child : (set m : List ℕ) (c : ℕ) → Rest set m c → n < c → c < e → Child set m c
     unfolding Holds relabel Ruled Right meetsBy
-    rest-child set m c w d l = go (w .rest) (w .held) (w .ruled) (w .row) (w .so-far)
+    rest-child set m c w d l = go (w .0) (w .1)
       where
-        go : (f : Forest Label) → HoldsF names roles ends (bareF f) left c e → RuledF G owners hs ends parts f c
-            → ((x : ℕ) → (inSet set x && meetsByF (fulfils G) G f x) ≡ (inSet all x && meetsByF (fulfils G) G (children t) x))
-            → ((x : ℕ) → inSet set x ≡ true → (new : List ℕ) → SameRows m new (n + 1) c → RightF ends G new f c x → RightF ends G new (children t) (n + 1) x)
-            → Child set m c
-        go none h k row so = absurd (let z : c ≡ e = h in omega arith)
-        go (more r u f) h k row so =
+        go : (f : Forest Label) → RestOf f set m c → Child set m c
+        go none rest = absurd (let z : c ≡ e = rest .held in omega arith)
+        go (more r u f) rest =
+            let h = rest .held in
             let o = opened names roles ends (bare u) left c (getD ends c 0) (h .2) in
             let i : c < getD ends c 0 = o .inside in
             record {
               tree = u;
               held = h .2;
-              ruled = k .0;
+              ruled = rest .ruled .0;
               inside = i;
               within = h .1;
-              then = λ set′ new q same g. record {
-                rest = f;
-                held = h .3;
-                ruled = k .1;
-                row = λ x.
-                    ap (λ (b : Bool). b && meetsByF (fulfils G) G f x) (q .each x)
-                    ∙ and-assoc (inSet set x) (any (λ y. member G u y) (G .next x (getD roles c 0))) (meetsByF (fulfils G) G f x)
-                    ∙ ap (λ (z : ℕ). inSet set x && (any (λ y. member G u y) (G .next x z) && meetsByF (fulfils G) G f x)) (h .0)
-                    ∙ row x;
-                so-far = λ x z new′ s v.
-                    let was = stayed (λ y. any (λ y. member G u y) (G .next y (getD roles c 0))) set set′ q x z .0 in
-                    so x was new′ (λ j a b. s j a (omega arith) ∙ same j a b) (
-                      (λ y mem.
-                          let mem′ : List·Memᴰ y (G .next x (getD roles c 0)) = subst (λ (v : ℕ). List·Memᴰ y (G .next x v)) (sym (h .0)) mem in
-                          let p = g x y was mem′ in (
-                            same-cell new new′ (n + 1) (getD ends c 0) c s (omega arith) (omega arith) y ∙ p .0,
-                            λ yes. right-kept new new′ u left c (getD ends c 0) y (h .2) (λ j a b. s j (omega arith) b) (p .1 yes),
-                          )),
-                      v,
-                    );
-              };
+              then = λ set′ new q same g. (
+                f,
+                record {
+                  held = h .3;
+                  ruled = rest .ruled .1;
+                  row = λ x.
+                      ap (λ (b : Bool). b && meetsByF (fulfils G) G f x) (q .each x)
+                      ∙ and-assoc (inSet set x) (any (λ y. member G u y) (G .next x (getD roles c 0))) (meetsByF (fulfils G) G f x)
+                      ∙ ap (λ (z : ℕ). inSet set x && (any (λ y. member G u y) (G .next x z) && meetsByF (fulfils G) G f x)) (h .0)
+                      ∙ rest .row x;
+                  so-far = λ x z new′ s v.
+                      let was = stayed (λ y. any (λ y. member G u y) (G .next y (getD roles c 0))) set set′ q x z .0 in
+                      rest .so-far x was new′ (λ j a b. s j a (omega arith) ∙ same j a b) (
+                        (λ y mem.
+                            let mem′ : List·Memᴰ y (G .next x (getD roles c 0)) = subst (λ (v : ℕ). List·Memᴰ y (G .next x v)) (sym (h .0)) mem in
+                            let p = g x y was mem′ in (
+                              same-cell new new′ (n + 1) (getD ends c 0) c s (omega arith) (omega arith) y ∙ p .0,
+                              λ yes. right-kept new new′ u left c (getD ends c 0) y (h .2) (λ j a b. s j (omega arith) b) (p .1 yes),
+                            )),
+                        v,
+                      );
+                },
+              );
             }
 
     -- the child is met from a closed set on, and then folded in
@@ -133,15 +135,10 @@ module _ (names roles ends : List ℕ) (G : Graph ℕ) where
     -- nothing stays, so the others need not be looked at
     pub rest-empty : (set m : List ℕ) (c : ℕ) → Rest set m c → ((x : ℕ) → inSet set x ≡ false) → Rest set m e
     unfolding Holds relabel Ruled Right meetsBy
-    rest-empty set m c w h = record {
-      rest = none;
-      held = refl;
-      ruled = tt;
-      row = λ x. go x (inSet set x) (h x) (w .row x);
-      so-far = λ x y. absurd (true-false y (h x));
-    }
+    rest-empty set m c w h =
+        (none, record { held = refl; ruled = tt; row = λ x. go x (inSet set x) (h x) (w .1 .row x); so-far = λ x y. absurd (true-false y (h x)) })
       where
-        go : (x : ℕ) (b : Bool) → b ≡ false → (b && meetsByF (fulfils G) G (w .rest) x) ≡ (inSet all x && meetsByF (fulfils G) G (children t) x)
+        go : (x : ℕ) (b : Bool) → b ≡ false → (b && meetsByF (fulfils G) G (w .0) x) ≡ (inSet all x && meetsByF (fulfils G) G (children t) x)
             → (b && true) ≡ (inSet all x && meetsByF (fulfils G) G (children t) x)
         go x true q r = absurd (true-false refl q)
         go x false q r = r
@@ -150,33 +147,30 @@ module _ (names roles ends : List ℕ) (G : Graph ℕ) where
     pub rest-whole : (set m : List ℕ) (c : ℕ) → Rest set m c → e ≤ c
         → Sifted (λ x. meetsByF (fulfils G) G (children t) x) all set × ((x : ℕ) → inSet set x ≡ true → (new : List ℕ) → SameRows m new (n + 1) e → Right ends G new t n x)
     unfolding Holds relabel Right meetsBy
-    rest-whole set m c w l = go (w .rest) (w .held) (w .row) (w .so-far)
+    rest-whole set m c w l = go (w .0) (w .1)
       where
         open′ : (u : Requirement) (new : List ℕ) (x : ℕ) → RightF ends G new (children u) (n + 1) x → Right ends G new u n x
         open′ (node a f) new x r = r
 
-        go : (f : Forest Label) → HoldsF names roles ends (bareF f) left c e
-            → ((x : ℕ) → (inSet set x && meetsByF (fulfils G) G f x) ≡ (inSet all x && meetsByF (fulfils G) G (children t) x))
-            → ((x : ℕ) → inSet set x ≡ true → (new : List ℕ) → SameRows m new (n + 1) c → RightF ends G new f c x → RightF ends G new (children t) (n + 1) x)
+        go : (f : Forest Label) → RestOf f set m c
             → Sifted (λ x. meetsByF (fulfils G) G (children t) x) all set × ((x : ℕ) → inSet set x ≡ true → (new : List ℕ) → SameRows m new (n + 1) e → Right ends G new t n x)
-        go none h row so =
-            let z : c ≡ e = h in
-            (record { each = λ x. sym (and-true (inSet set x)) ∙ row x }, (λ x y new s. open′ t new x (so x y new (λ k a b. s k a (omega arith)) tt)))
-        go (more r u f) h row so =
-            absurd (let o = opened names roles ends (bare u) left c (getD ends c 0) (h .2) in let z : getD ends c 0 ≤ e = h .1 in let y = o .inside in omega arith)
+        go none rest =
+            let z : c ≡ e = rest .held in (
+              record { each = λ x. sym (and-true (inSet set x)) ∙ rest .row x },
+              (λ x y new s. open′ t new x (rest .so-far x y new (λ k a b. s k a (omega arith)) tt)),
+            )
+        go (more r u f) rest =
+            let h = rest .held in
+            let z : getD ends c 0 ≤ e = h .1 in
+            absurd (omega (arith, opened names roles ends (bare u) left c (getD ends c 0) (h .2) .inside))
 
 -- at first all are left
 pub rest-start : (names roles ends : List ℕ) (G : Graph ℕ) (owners : List ℕ) (hs : List Threshold) (parts : ℕ) (t : Requirement) (left n e : ℕ)
     (set m : List ℕ) → Holds names roles ends (bare t) left n e → Ruled G owners hs ends parts t n
     → Rest names roles ends G owners hs parts t (left - 1) n e set set m (n + 1)
 unfolding Holds relabel Ruled Right meetsBy
-rest-start names roles ends G owners hs parts (node a f) left n e set m h r = record {
-  rest = f;
-  held = h .4;
-  ruled = r .1;
-  row = λ x. refl;
-  so-far = λ x y new s w. w;
-}
+rest-start names roles ends G owners hs parts (node a f) left n e set m h r =
+    (f, record { held = h .4; ruled = r .1; row = λ x. refl; so-far = λ x y new s w. w })
 
 -- the items that hold the node's names, of these those that satisfy its thresholds, and of these those that meet its children: they meet the node
 pub all-met : (names roles ends : List ℕ) (G : Graph ℕ) (owners : List ℕ) (hs : List Threshold) (parts : ℕ) (t : Requirement) (left n e : ℕ)

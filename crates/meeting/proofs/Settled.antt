@@ -50,8 +50,5 @@ module _ {s : List ℕ} {items : ℕ} {index message names roles ends owners fir
   pub settled-yes : not b ≡ false → (old new : List ℕ) → new ≡ sets old 0 (yesMap G (k .tree) item) → Settled (k .posed .graph .register) (k .tree) item old new true
   settled-yes n old new q = record { answer = sym (not-false b n) ∙ says; map = q }
 
-pub zeros-length : length (zeros 8) ≡ 8
-zeros-length = length-replicate {A = ℕ} 8 0
-
-pub zeros-all : length (zeros 512) ≡ 512
-zeros-all = length-replicate {A = ℕ} 512 0
+pub zeros-length : (n : ℕ) → length (zeros n) ≡ n
+zeros-length n = length-replicate {A = ℕ} n 0

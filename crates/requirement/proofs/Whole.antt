@@ -32,7 +32,7 @@ use Rattle.requirement.proofs.Bare.{names, bareTree, bare-node}
 mutual
   unfolding nodes relabel
 
-  bare-nodes : (t : Requirement) → nodes (bare t) ≡ nodes t
+  pub bare-nodes : (t : Requirement) → nodes (bare t) ≡ nodes t
   bare-nodes (node a f) = ap suc (bare-nodesF f)
 
   bare-nodesF : (f : Forest Label) → nodesF (relabelF names f) ≡ nodesF f

@@ -18,9 +18,6 @@ word-at m n i l = getD-take 8 (drop (n * 8) m) i 0 l ∙ getD-drop (n * 8) m i 0
 row-short : (m : List ℕ) (n : ℕ) → length (rowOf m n) ≤ 8
 row-short m n = omega (arith, length-take 8 (drop (n * 8) m))
 
-word-none : (m : List ℕ) (n i : ℕ) → 8 ≤ i → getD (rowOf m n) i 0 ≡ 0
-word-none m n i l = List·getD-eq-default (rowOf m n) 0 {n = i} (omega (arith, row-short m n))
-
 pub row-length : (m : List ℕ) (n : ℕ) → length m ≡ 512 → n < 64 → length (rowOf m n) ≡ 8
 row-length m n e l = length-take-le 8 (drop (n * 8) m) (omega (arith, length-drop (n * 8) m))
 
@@ -31,23 +28,25 @@ part-row m n = let e : n * 8 + 8 - n * 8 ≡ 8 = omega arith in ap (λ (z : ℕ)
 pub part-length : (m : List ℕ) (n : ℕ) → length m ≡ 512 → n < 64 → length (take (n * 8 + 8 - n * 8) (drop (n * 8) m)) ≡ 8
 part-length m n e l = ap length (part-row m n) ∙ row-length m n e l
 
+-- a row is a set where its eight numbers are the set's
+row-cell : (m : List ℕ) (n : ℕ) (set : List ℕ) → length set ≤ 8 → ((i : ℕ) → i < 8 → getD m (n * 8 + i) 0 ≡ getD set i 0) → (x : ℕ) → cell m n x ≡ inSet set x
+row-cell m n set short same x = ap (λ (z : ℕ). has z (x % 64)) (go (decLt (x / 64) 8))
+  where
+    go : Dec (x / 64 < 8) → getD (rowOf m n) (x / 64) 0 ≡ getD set (x / 64) 0
+    go (yes l) = word-at m n (x / 64) l ∙ same (x / 64) l
+    go (no l) =
+        List·getD-eq-default (rowOf m n) 0 {n = x / 64} (omega (arith, l, row-short m n))
+        ∙ sym (List·getD-eq-default set 0 {n = x / 64} (omega (arith, l, short)))
+
 -- the rows from i up to e are the same in both
 abbrev pub SameRows : List ℕ → List ℕ → ℕ → ℕ → Type 0
 SameRows m new i e = (k : ℕ) → i * 8 ≤ k → k < e * 8 → getD new k 0 ≡ getD m k 0
 
 pub same-cell : (m new : List ℕ) (i e n : ℕ) → SameRows m new i e → i ≤ n → n < e → (x : ℕ) → cell new n x ≡ cell m n x
-same-cell m new i e n s a b x = ap (λ (z : ℕ). has z (x % 64)) (go (decLt (x / 64) 8))
-  where
-    go : Dec (x / 64 < 8) → getD (rowOf new n) (x / 64) 0 ≡ getD (rowOf m n) (x / 64) 0
-    go (yes l) = word-at new n (x / 64) l ∙ s (n * 8 + x / 64) (omega arith) (omega arith) ∙ sym (word-at m n (x / 64) l)
-    go (no l) = word-none new n (x / 64) (omega (arith, l)) ∙ sym (word-none m n (x / 64) (omega (arith, l)))
+same-cell m new i e n s a b = row-cell new n (rowOf m n) (row-short m n) (λ j l. s (n * 8 + j) (omega arith) (omega arith) ∙ sym (word-at m n j l))
 
 pub stored-cell : (n : ℕ) (set old new : List ℕ) → length set ≡ 8 → Stored n set old new → (x : ℕ) → cell new n x ≡ inSet set x
-stored-cell n set old new e w x = ap (λ (z : ℕ). has z (x % 64)) (go (decLt (x / 64) 8))
-  where
-    go : Dec (x / 64 < 8) → getD (rowOf new n) (x / 64) 0 ≡ getD set (x / 64) 0
-    go (yes l) = word-at new n (x / 64) l ∙ w .row (x / 64) l
-    go (no l) = word-none new n (x / 64) (omega (arith, l)) ∙ sym (List·getD-eq-default set 0 {n = x / 64} (omega (arith, l)))
+stored-cell n set old new e w = row-cell new n set (omega (arith, e)) (w .row)
 
 -- ---- writing a row, number by number
 

@@ -10,7 +10,7 @@ use native.Mathlib.Omega.{arith}
 use lib.Dec.{T}
 use lib.ListN.{length, getD, set}
 use lib.Seq.{sets}
-use Rattle.meaning.specs.Tree.{node, Forest, none, more, children, relabel, relabelF, nodes, nodesF}
+use Rattle.meaning.specs.Tree.{node, Forest, none, more, children, relabel, relabelF, nodes}
 use Rattle.meaning.specs.Graph.{Graph}
 use Rattle.meaning.specs.Whole.{any, meetsBy, meetsByF}
 use Rattle.meaning.specs.Requirement.{Label, Requirement, fulfils, member, bare}
@@ -18,8 +18,10 @@ use Rattle.meaning.specs.Rows.{Holds, HoldsF}
 use Rattle.meaning.specs.Shown.{first, yesBy, yesByF, yesMap}
 use Rattle.meaning.proofs.Tests.{and-both, first-found, is-true, holds}
 use Rattle.meaning.proofs.Rows.{opened}
+use Rattle.meaning.proofs.Rows.{holds-nodes as concept-nodes}
 use Rattle.meaning.proofs.Stores.{sets-append}
 use Rattle.meaning.proofs.YesShown.{yes-shows}
+use Rattle.requirement.proofs.Whole.{bare-nodes}
 use Rattle.graph.proofs.Same.{first-same}
 use Rattle.trails.specs.Cells.{cell, Right, RightF}
 
@@ -29,18 +31,8 @@ bareF = relabelF (λ a. a .names)
 
 module _ (names roles ends : List ℕ) where
   -- rows from i up to e hold as many nodes as are written
-  mutual
-    unfolding Holds relabel nodes
-
-    pub holds-nodes : (t : Requirement) (left i e : ℕ) → Holds names roles ends (bare t) left i e → e ≡ i + nodes t
-    holds-nodes (node a f) left i e h = let q = holdsF-nodes f (left - 1) (i + 1) e (h .4) in omega arith
-
-    pub holdsF-nodes : (f : Forest Label) (left i e : ℕ) → HoldsF names roles ends (bareF f) left i e → e ≡ i + nodesF f
-    holdsF-nodes none left i e h = let z : i ≡ e = h in omega arith
-    holdsF-nodes (more r t f) left i e h =
-        let p = holds-nodes t left i (getD ends i 0) (h .2) in
-        let q = holdsF-nodes f left (getD ends i 0) e (h .3) in
-        omega arith
+  pub holds-nodes : (t : Requirement) (left i e : ℕ) → Holds names roles ends (bare t) left i e → e ≡ i + nodes t
+  holds-nodes t left i e h = omega (arith, concept-nodes names roles ends (bare t) left i e h, bare-nodes t)
 
   module _ (G : Graph ℕ) (m : List ℕ) (left e x : ℕ) where
     -- the children from row c on are left, of a node that goes to x

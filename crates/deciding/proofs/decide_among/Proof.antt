@@ -3,92 +3,46 @@
 use borrow.Author.Needs.{needs}
 use Rattle.deciding.proofs.decide_among.Statement.{statement}
 use Rattle.deciding.proofs.decide_among.Tie as tie
+use mathlib.Core.Bool.{true, false}
 use native.Mathlib.Omega.{arith}
+use Rattle.meaning.specs.Bytes.{Bytes}
 use Rattle.fields.proofs.Known.{bytes-known}
-use Rattle.deciding.proofs.Answered.{understood, message-refused, message-unread, no-item, no-room, both-read, answers-yes, answers-no}
+use Rattle.deciding.proofs.Answered.{Understood, understood, message-refused, message-unread, no-item, no-room, both-read, answers}
 
-slice-aggregate-read-message : tie.Need-slice-aggregate-read-message
-slice-aggregate-read-message c = search needs
+-- where the requirement was read: the start, the image's bytes, and what was read
+abbrev start : tie.After-m → tie.Start
+start c = c .before .before .before .before .before .before .before .before
 
-read-message-requires : tie.Need-read-message-requires
-read-message-requires c κs = search needs
+bytes : (c : tie.After-m) → Bytes (start c .args .image .now)
+bytes c = bytes-known (start c .args .image .now) (c .before .before .before .before .before .before .before .shared-slice-known .given)
 
-enum-known-m : tie.Need-enum-known-m
-enum-known-m c = search needs
-
-refused-requires : tie.Need-refused-requires
-refused-requires c κs = search needs
-
-returns : tie.Need-returns
-returns c =
-    let at-m = c .before .before .before in
-    let at-read-message = at-m .before .before .before in
-    let start = at-read-message .before .before .before .before .before in
-    let u = understood (at-read-message .read-message .ensures) (at-m .m .given .1) in
-    no-item _ _ _ _ (start .pre) u _ _ (c .refused .ensures) (omega arith) (omega (arith, c .before .if1 .taken))
-
-refused-requires-2 : tie.Need-refused-requires-2
-refused-requires-2 c κs = search needs
-
-returns-2 : tie.Need-returns-2
-returns-2 c =
-    let at-m = c .before .before .before .before in
-    let at-read-message = at-m .before .before .before in
-    let start = at-read-message .before .before .before .before .before in
-    let u = understood (at-read-message .read-message .ensures) (at-m .m .given .1) in
-    no-room _ _ _ _ (start .pre) u _ _ (c .refused2 .ensures) (omega arith) (omega (arith, c .before .before .if1 .left)) (omega (arith, c .before .if2 .taken))
-
-slice-aggregate-decide-read : tie.Need-slice-aggregate-decide-read
-slice-aggregate-decide-read c = search needs
+read : (c : tie.After-m) → Understood (start c .args .message .now) (c .before .before .before .read-message .last .1 .0) (c .m .given .1)
+read c = understood _ _ (c .before .before .before .read-message .ensures) (c .m .given .1)
 
 decide-read-requires : tie.Need-decide-read-requires
 decide-read-requires c κs =
     let at-if2 = c .before .before in
-    let at-m = at-if2 .before .before .before in
-    let at-read-message = at-m .before .before .before in
-    let known = at-read-message .before .before .before .before in
-    let start = known .before in
-    let b = bytes-known (start .args .image .now) (known .shared-slice-known .given) in
-    let u = understood (at-read-message .read-message .ensures) (at-m .m .given .1) in (
-      both-read _ _ (start .args .item) (start .args .map .now) (start .pre) u (omega (arith, at-if2 .before .if1 .left))
-          (omega (arith, at-if2 .if2 .left)) b,
-      omega (arith, at-read-message .read-message .kept .1 .0),
+    let at-m = at-if2 .before .before .before in (
+      both-read _ _ (start at-m .args .item) (start at-m .args .map .now) (start at-m .pre) (read at-m) (omega (arith, at-if2 .before .if1 .left))
+          (omega (arith, at-if2 .if2 .left)) (bytes at-m),
+      omega (arith, at-m .before .before .before .read-message .kept .1 .0),
     )
-
-same-length : tie.Need-same-length
-same-length c = search needs
 
 returns-3 : tie.Need-returns-3
 returns-3 c =
     let at-decide-read = c .before .before .before in
     let at-if2 = at-decide-read .before .before .before in
     let at-m = at-if2 .before .before .before in
-    let at-read-message = at-m .before .before .before in
-    let known = at-read-message .before .before .before .before in
-    let start = known .before in
-    let b = bytes-known (start .args .image .now) (known .shared-slice-known .given) in
-    let u = understood (at-read-message .read-message .ensures) (at-m .m .given .1) in
-    answers-yes _ _ (start .args .item) (start .args .map .now) (start .pre) u (omega (arith, at-if2 .before .if1 .left))
-    (omega (arith, at-if2 .if2 .left)) b _ _ (at-decide-read .decide-read .ensures) (c .if3 .taken)
-
-enum-known-m-2 : tie.Need-enum-known-m-2
-enum-known-m-2 c = search needs
-
-same-length-2 : tie.Need-same-length-2
-same-length-2 c = search needs
+    answers _ _ (start at-m .args .item) (start at-m .args .map .now) (start at-m .pre) (read at-m) (omega (arith, at-if2 .before .if1 .left))
+    (omega (arith, at-if2 .if2 .left)) (bytes at-m) _ _ (at-decide-read .decide-read .ensures) true (c .if3 .taken)
 
 returns-4 : tie.Need-returns-4
 returns-4 c =
     let at-decide-read = c .before .before .before in
     let at-if2 = at-decide-read .before .before .before in
     let at-m = at-if2 .before .before .before in
-    let at-read-message = at-m .before .before .before in
-    let known = at-read-message .before .before .before .before in
-    let start = known .before in
-    let b = bytes-known (start .args .image .now) (known .shared-slice-known .given) in
-    let u = understood (at-read-message .read-message .ensures) (at-m .m .given .1) in
-    answers-no _ _ (start .args .item) (start .args .map .now) (start .pre) u (omega (arith, at-if2 .before .if1 .left))
-    (omega (arith, at-if2 .if2 .left)) b _ _ (at-decide-read .decide-read .ensures) (c .if3 .left)
+    answers _ _ (start at-m .args .item) (start at-m .args .map .now) (start at-m .pre) (read at-m) (omega (arith, at-if2 .before .if1 .left))
+    (omega (arith, at-if2 .if2 .left)) (bytes at-m) _ _ (at-decide-read .decide-read .ensures) false (c .if3 .left)
 
 returns-5 : tie.Need-returns-5
 returns-5 c =
@@ -100,18 +54,23 @@ pub decide-among-spec : {M : Type 1} → statement M
 decide-among-spec =
     tie.close
     (tie.spec
-    slice-aggregate-read-message
-    read-message-requires
-    enum-known-m
-    refused-requires
-    returns
-    refused-requires-2
-    returns-2
-    slice-aggregate-decide-read
+    (λ c. search needs)
+    (λ c κs. search needs)
+    (λ c. search needs)
+    (λ c κs. search needs)
+    (λ c.
+    let at-m = c .before .before .before in
+    no-item _ _ _ _ (start at-m .pre) (read at-m) _ _ (c .refused .ensures) (omega arith) (omega (arith, c .before .if1 .taken)))
+    (λ c κs. search needs)
+    (λ c.
+    let at-m = c .before .before .before .before in
+    no-room _ _ _ _ (start at-m .pre) (read at-m) _ _ (c .refused2 .ensures) (omega arith)
+    (omega (arith, c .before .before .if1 .left)) (omega (arith, c .before .if2 .taken)))
+    (λ c. search needs)
     decide-read-requires
-    same-length
+    (λ c. search needs)
     returns-3
-    enum-known-m-2
-    same-length-2
+    (λ c. search needs)
+    (λ c. search needs)
     returns-4
     returns-5)

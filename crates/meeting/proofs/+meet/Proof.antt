@@ -14,7 +14,7 @@ use Rattle.trails.proofs.store.Reads as store-reads
 use Rattle.meeting.proofs.+meet.{statement}
 use Rattle.meeting.proofs.+meet.Tie.{close}
 use mathlib.Core.Path.{_≡_, sym, _∙_}
-use Prim.Native.Nat.{_-_, _+_}
+use Prim.Native.Nat.{_-_}
 use native.Mathlib.Omega.{arith}
 use lib.ListN.{length, getD}
 use Rattle.graph.specs.Sets.{Among}
@@ -67,19 +67,25 @@ abbrev meet-μ-loop : meet-lts.MeasureT-loop
 meet-μ-loop s items index message names roles ends owners firsts parts node left set₀ met₀ e c₀ set met c =
     e - c
 
--- in a turn of the loop the row is one of the table's
+abbrev Begun : ℕ → Type 0
+Begun t = meet-lts.Start (meet-claims t) (meet-at t) meet.Post meet-Inv-loop meet-μ-loop
+
+abbrev Loop : ℕ → Type 0
+Loop t = meet-lts.At-loop (meet-claims t) (meet-at t) meet.Post meet-Inv-loop meet-μ-loop
+
+abbrev start : (t : ℕ) → Loop t → Begun t
+start t c =
+    let at-entry = c .before .before .before in
+    at-entry .before .before .before .before .before .before .before .before .before .before .before .before .before .before
+
+-- the row that is asked for is one of the table's
+node-low : (t : ℕ) (c : Begun t) → c .args .node < 64
+node-low t c = let h = here (c .pre .1 .0 .posed) in omega (arith, h .1, h .2)
+
+-- and so is that of a turn of the loop
 meet-row : (t : ℕ) (turn : meet-lts.In-loop (meet-claims t) (meet-at t) meet.Post meet-Inv-loop meet-μ-loop) → turn .before .loop .c < 64
 meet-row t turn =
-    let at-entry = turn .before .before .before .before in
-    let start = at-entry .before .before .before .before .before .before .before .before .before .before .before .before .before .before in
-    omega (arith, here (start .pre .1 .0 .posed) .2, turn .loop-test .taken, at-entry .entry .ensures)
-
-meet-hold-requires : (t : ℕ) → meet-lts.Need-hold-requires (meet-claims t) (meet-at t) meet.Post meet-Inv-loop meet-μ-loop
-meet-hold-requires t c κs =
-    let start = c .before .before .before .before .before .before in
-    let p = start .pre .1 in
-    let h = here (p .0 .posed) in
-    (asked-among (p .0 .posed .graph) (start .args .set .now) (p .1 .1), (omega (arith, h .1, h .2), p .1 .0))
+    omega (arith, here (start t (turn .before) .pre .1 .0 .posed) .2, turn .loop-test .taken, turn .before .before .before .before .entry .ensures)
 
 meet-screen-requires : (t : ℕ) → meet-lts.Need-screen-requires (meet-claims t) (meet-at t) meet.Post meet-Inv-loop meet-μ-loop
 meet-screen-requires t c κs =
@@ -88,31 +94,16 @@ meet-screen-requires t c κs =
     let g = p .0 .posed .graph in
     (g, (p .0 .stand, (p .0 .most, at-hold .hold .kept .1 .1 .1 .0 ∙ p .1 .0, stays-among _ _ _ (at-hold .hold .ensures (g .register) (g .read)) _ (p .1 .1))))
 
-meet-entry-requires : (t : ℕ) → meet-lts.Need-entry-requires (meet-claims t) (meet-at t) meet.Post meet-Inv-loop meet-μ-loop
-meet-entry-requires t c κs =
-    let h = here (c .before .before .before .before .before .before .before .before .before .before .before .before .before .pre .1 .0 .posed) in omega (arith, h .1, h .2)
-
-meet-add-next-row : (t : ℕ) → meet-lts.Need-add-next-row (meet-claims t) (meet-at t) meet.Post meet-Inv-loop meet-μ-loop
-meet-add-next-row t c =
-    let h = here (c .before .before .before .before .before .before .before .before .before .before .before .before .before .before .before .pre .1 .0 .posed) in omega (arith, h .1, h .2)
-
-meet-next-row-requires : (t : ℕ) → meet-lts.Need-next-row-requires (meet-claims t) (meet-at t) meet.Post meet-Inv-loop meet-μ-loop
-meet-next-row-requires t c κs =
-    let at-screen = c .before .before .before .before in
-    let at-hold = at-screen .before .before .before .before in
-    at-screen .screen .kept .1 .1 .1 .1 .1 .1 .1 .1 .0 ∙ at-hold .hold .kept .1 .1 .1 .0 ∙ at-hold .before .before .before .before .before .before .before .pre .1 .1 .0
-
 meet-loop-holds : (t : ℕ) → meet-lts.Need-loop-holds (meet-claims t) (meet-at t) meet.Post meet-Inv-loop meet-μ-loop
 meet-loop-holds t c =
-    let at-entry = c .before .before in
-    let at-screen = at-entry .before .before .before in
+    let at-screen = c .before .before .before .before .before in
     let at-hold = at-screen .before .before .before .before in
     let p = at-hold .before .before .before .before .before .before .before .pre .1 in
     let g = p .0 .posed .graph in
     let said = at-hold .hold .ensures (g .register) (g .read) in
     let also = at-screen .screen .ensures g (p .0 .stand) in
     let on = c .next-row .ensures in
-    let e = at-entry .entry .ensures in (
+    let e = c .before .before .entry .ensures in (
       at-screen .screen .kept .1 .1 .1 .1 .1 .1 .1 .1 .0 ∙ at-hold .hold .kept .1 .1 .1 .0 ∙ p .1 .0,
       p .1 .2,
       on-behind _ on (omega arith) (omega (arith, e, here (p .0 .posed) .1)),
@@ -120,46 +111,19 @@ meet-loop-holds t c =
       λ k. (left-on k (left-start k _ _) on e, outside-none _ _ _),
     )
 
-meet-entry-requires-2 : (t : ℕ) → meet-lts.Need-entry-requires-2 (meet-claims t) (meet-at t) meet.Post meet-Inv-loop meet-μ-loop
-meet-entry-requires-2 t c κs = meet-row t c
-
-meet-slice-aggregate-spread : (t : ℕ) → meet-lts.Need-slice-aggregate-spread (meet-claims t) (meet-at t) meet.Post meet-Inv-loop meet-μ-loop
-meet-slice-aggregate-spread t c = search needs
-
-meet-spread-requires : (t : ℕ) → meet-lts.Need-spread-requires (meet-claims t) (meet-at t) meet.Post meet-Inv-loop meet-μ-loop
-meet-spread-requires t c κs =
-    let at-loop = c .before .before .before .before in
-    let start = at-loop .before .before .before .before .before .before .before .before .before .before .before .before .before .before .before .before .before in
-    let w = at-loop .loop .inv in
-    (start .pre .1 .0 .posed .graph, ((w .0, w .3), (zeros-length, among-none _)))
-
-meet-sub-meet : (t : ℕ) → meet-lts.Need-sub-meet (meet-claims t) (meet-at t) meet.Post meet-Inv-loop meet-μ-loop
-meet-sub-meet t c =
-    let at-loop = c .before .before .before .before .before .before in
-    omega (arith, here (at-loop .before .before .before .before .before .before .before .before .before .before .before .before .before .before .before .before .before .pre .1 .0 .posed) .0)
-
-meet-slice-aggregate-meet : (t : ℕ) → meet-lts.Need-slice-aggregate-meet (meet-claims t) (meet-at t) meet.Post meet-Inv-loop meet-μ-loop
-meet-slice-aggregate-meet t c =
-    sym (c .before .before .spread .kept .1 .1 .1 .1 .1 .0 ∙ zeros-length)
-
 meet-meet-requires : (t : ℕ) → meet-lts.Need-meet-requires (meet-claims t) (meet-at t) meet.Post meet-Inv-loop meet-μ-loop
 meet-meet-requires t c κs =
     let at-spread = c .before .before .before in
     let turn = at-spread .before .before .before .before in
-    let at-entry = turn .before .before .before .before in
-    let start = at-entry .before .before .before .before .before .before .before .before .before .before .before .before .before .before in
-    let k = start .pre .1 .0 in
-    let w = turn .before .loop .inv in
-    let e = at-entry .entry .ensures in
-    let l = turn .loop-test .taken in (
-      omega (arith, here (k .posed) .0, start .pre .0),
-      (child-required k (w .4 k .0) (w .2) e l, (at-spread .spread .kept .1 .1 .1 .1 .1 .0 ∙ zeros-length, at-spread .spread .ensures (k .posed .graph) .among, w .1)),
+    let p = start t (turn .before) .pre in
+    let k = p .1 .0 in
+    let w = turn .before .loop .inv in (
+      omega (arith, here (k .posed) .0, p .0),
+      (
+        child-required k (w .4 k .0) (w .2) (turn .before .before .before .before .entry .ensures) (turn .loop-test .taken),
+        (at-spread .spread .kept .1 .1 .1 .1 .1 .0 ∙ zeros-length 8, at-spread .spread .ensures (k .posed .graph) .among, w .1),
+      ),
     )
-
-meet-slice-aggregate-fold : (t : ℕ) → meet-lts.Need-slice-aggregate-fold (meet-claims t) (meet-at t) meet.Post meet-Inv-loop meet-μ-loop
-meet-slice-aggregate-fold t c =
-    let at-meet = c .before .before .before .before in
-    sym (at-meet .meet .kept .1 .1 .1 .1 .1 .1 .1 .1 .1 .1 .1 .1 .0 ∙ at-meet .before .before .before .before .spread .kept .1 .1 .1 .1 .1 .0 ∙ zeros-length)
 
 meet-fold-requires : (t : ℕ) → meet-lts.Need-fold-requires (meet-claims t) (meet-at t) meet.Post meet-Inv-loop meet-μ-loop
 meet-fold-requires t c κs =
@@ -167,48 +131,36 @@ meet-fold-requires t c κs =
     let at-spread = at-meet .before .before .before .before in
     let at-loop = at-spread .before .before .before .before .before in
     let w = at-loop .loop .inv in (
-      at-loop .before .before .before .before .before .before .before .before .before .before .before .before .before .before .before .before .before .pre .1 .0 .posed .graph,
-      (at-meet .meet .kept .1 .1 .1 .1 .1 .1 .1 .1 .1 .1 .1 .1 .0 ∙ at-spread .spread .kept .1 .1 .1 .1 .1 .0 ∙ zeros-length, w .0, w .3),
+      start t at-loop .pre .1 .0 .posed .graph,
+      (at-meet .meet .kept .1 .1 .1 .1 .1 .1 .1 .1 .1 .1 .1 .1 .0 ∙ at-spread .spread .kept .1 .1 .1 .1 .1 .0 ∙ zeros-length 8, w .0, w .3),
     )
-
-meet-entry-requires-3 : (t : ℕ) → meet-lts.Need-entry-requires-3 (meet-claims t) (meet-at t) meet.Post meet-Inv-loop meet-μ-loop
-meet-entry-requires-3 t c κs =
-    let at-spread = c .before .before .before .before .before .before .before .before .before .before .before .before .before in
-    meet-row t (at-spread .before .before .before .before)
-
-meet-next-row-requires-2 : (t : ℕ) → meet-lts.Need-next-row-requires-2 (meet-claims t) (meet-at t) meet.Post meet-Inv-loop meet-μ-loop
-meet-next-row-requires-2 t c κs =
-    let at-fold = c .before .before .before .before in
-    at-fold .fold .kept .1 .1 .1 .1 .1 .0 ∙ at-fold .before .before .before .before .before .before .before .before .before .before .before .before .before .before .before .loop .inv .0
 
 meet-loop-less : (t : ℕ) → meet-lts.Need-loop-less (meet-claims t) (meet-at t) meet.Post meet-Inv-loop meet-μ-loop
 meet-loop-less t c =
-    let at-spread = c .before .before .before .before .before .before .before .before .before .before .before .before .before .before .before in
-    let turn = at-spread .before .before .before .before in
-    let at-entry = turn .before .before .before .before in
-    let k = at-entry .before .before .before .before .before .before .before .before .before .before .before .before .before .before .pre .1 .0 in
+    let at-fold = c .before .before .before .before .before in
+    let turn = at-fold .before .before .before .before .before .before .before .before .before .before .before .before .before .before in
+    let k = start t (turn .before) .pre .1 .0 in
     let w = turn .before .loop .inv in
     let l = turn .loop-test .taken in
-    omega (arith, l, on-behind _ (c .next-row2 .ensures) (omega (arith, c .before .entry3 .ensures, child k (w .4 k .0) (w .2) (at-entry .entry .ensures) l .inside)) l)
+    let at-hand = child k (w .4 k .0) (w .2) (turn .before .before .before .before .entry .ensures) l in
+    omega (arith, l, on-behind _ (c .next-row2 .ensures) (omega (arith, c .before .entry3 .ensures, at-hand .inside)) l)
 
 meet-loop-again : (t : ℕ) → meet-lts.Need-loop-again (meet-claims t) (meet-at t) meet.Post meet-Inv-loop meet-μ-loop
 meet-loop-again t c =
     let at-fold = c .before .before .before .before .before in
     let at-meet = at-fold .before .before .before .before .before .before in
     let at-spread = at-meet .before .before .before .before in
-    let at-role = at-spread .before .before .before in
-    let turn = at-role .before in
-    let at-entry = turn .before .before .before .before in
-    let p = at-entry .before .before .before .before .before .before .before .before .before .before .before .before .before .before .pre .1 .0 in
+    let turn = at-spread .before .before .before .before in
+    let p = start t (turn .before) .pre .1 .0 in
     let w = turn .before .loop .inv in
-    let e = at-entry .entry .ensures in
+    let e = turn .before .before .before .before .entry .ensures in
     let l = turn .loop-test .taken in
     let sp = at-spread .spread .ensures in
     let met = at-meet .meet .ensures in
     let fd = at-fold .fold .ensures in
     let on = c .next-row2 .ensures in
     let en = c .before .entry3 .ensures in
-    let er = at-role .entry2 .ensures in (
+    let er = at-spread .before .before .before .entry2 .ensures in (
       at-fold .fold .kept .1 .1 .1 .1 .1 .0 ∙ w .0,
       at-meet .meet .kept .1 .1 .1 .1 .1 .1 .1 .1 .1 .1 .1 .1 .1 .0 ∙ w .1,
       on-behind _ on (omega (arith, w .2, en, child p (w .4 p .0) (w .2) e l .inside)) (omega (arith, w .2, l)),
@@ -221,37 +173,17 @@ meet-loop-again t c =
           ),
     )
 
-meet-store-requires : (t : ℕ) → meet-lts.Need-store-requires (meet-claims t) (meet-at t) meet.Post meet-Inv-loop meet-μ-loop
-meet-store-requires t c κs =
-    let at-loop = c .before .before .before in
-    let h = here (at-loop .before .before .before .before .before .before .before .before .before .before .before .before .before .before .before .before .before .pre .1 .0 .posed) in
-    (at-loop .loop .inv .1, omega (arith, h .1, h .2), at-loop .loop .inv .0)
-
-meet-same-length : (t : ℕ) → meet-lts.Need-same-length (meet-claims t) (meet-at t) meet.Post meet-Inv-loop meet-μ-loop
-meet-same-length t c =
-    let at-loop = c .before .before .before .before .before .before in
-    at-loop .loop .inv .0 ∙ sym (at-loop .before .before .before .before .before .before .before .before .before .before .before .before .before .before .before .before .before .pre .1 .1 .0)
-
-meet-same-length-2 : (t : ℕ) → meet-lts.Need-same-length-2 (meet-claims t) (meet-at t) meet.Post meet-Inv-loop meet-μ-loop
-meet-same-length-2 t c =
-    let at-store = c .before .before in
-    let at-loop = at-store .before .before .before .before in
-    let start = at-loop .before .before .before .before .before .before .before .before .before .before .before .before .before .before .before .before .before in
-    at-store .store .kept .0 ∙ at-loop .loop .inv .1 ∙ sym (start .pre .1 .1 .2)
-
 meet-returns : (t : ℕ) → meet-lts.Need-returns (meet-claims t) (meet-at t) meet.Post meet-Inv-loop meet-μ-loop
 meet-returns t c =
-    let at-store = c .before .before in
-    let at-loop-test = at-store .before .before .before in
+    let at-loop-test = c .before .before .before .before .before in
     let at-loop = at-loop-test .before in
-    let at-entry = at-loop .before .before .before in
-    let at-screen = at-entry .before .before .before in
-    let at-hold = at-screen .before .before .before .before in
+    let at-screen = at-loop .before .before .before .before .before .before in
     λ k.
     let w = at-loop .loop .inv in
     let g = k .posed .graph in
-    whole k _ _ _ _ _ _ _ _ _ (w .0) (at-hold .hold .ensures (g .register) (g .read)) (at-screen .screen .ensures g (k .stand)) (w .4 k .0)
-    (at-entry .entry .ensures) (at-loop-test .loop-test .left) (w .4 k .1) (at-store .store .ensures)
+    whole k _ _ _ _ _ _ _ _ _ (w .0) (at-screen .before .before .before .before .hold .ensures (g .register) (g .read))
+    (at-screen .screen .ensures g (k .stand)) (w .4 k .0)
+    (at-loop .before .before .before .entry .ensures) (at-loop-test .loop-test .left) (w .4 k .1) (c .before .before .store .ensures)
 
 pub +meet-spec : {M : Type 1} → statement M
 +meet-spec = close μ-meet λ t. meet-lts.spec (meet-claims t)
@@ -259,25 +191,40 @@ pub +meet-spec : {M : Type 1} → statement M
     meet.Post
     meet-Inv-loop
     meet-μ-loop
-    (meet-hold-requires t)
+    (λ c κs.
+    let begun = c .before .before .before .before .before .before in
+    (asked-among (begun .pre .1 .0 .posed .graph) (begun .args .set .now) (begun .pre .1 .1 .1), (node-low t begun, begun .pre .1 .1 .0)))
     (meet-screen-requires t)
-    (meet-entry-requires t)
-    (meet-add-next-row t)
-    (meet-next-row-requires t)
+    (λ c κs. node-low t (c .before .before .before .before .before .before .before .before .before .before .before .before .before))
+    (λ c. omega (arith, node-low t (c .before .before .before .before .before .before .before .before .before .before .before .before .before .before .before)))
+    (λ c κs.
+    let at-screen = c .before .before .before .before in
+    let at-hold = at-screen .before .before .before .before in
+    at-screen .screen .kept .1 .1 .1 .1 .1 .1 .1 .1 .0 ∙ at-hold .hold .kept .1 .1 .1 .0 ∙ at-hold .before .before .before .before .before .before .before .pre .1 .1 .0)
     (meet-loop-holds t)
-    (meet-entry-requires-2 t)
-    (meet-slice-aggregate-spread t)
-    (meet-spread-requires t)
-    (meet-sub-meet t)
-    (meet-slice-aggregate-meet t)
+    (λ c κs. meet-row t c)
+    (λ c. search needs)
+    (λ c κs.
+    let at-loop = c .before .before .before .before in
+    (start t at-loop .pre .1 .0 .posed .graph, ((at-loop .loop .inv .0, at-loop .loop .inv .3), (zeros-length 8, among-none _))))
+    (λ c. omega (arith, here (start t (c .before .before .before .before .before .before) .pre .1 .0 .posed) .0))
+    (λ c. sym (c .before .before .spread .kept .1 .1 .1 .1 .1 .0 ∙ zeros-length 8))
     (meet-meet-requires t)
-    (meet-slice-aggregate-fold t)
+    (λ c.
+    let at-meet = c .before .before .before .before in
+    sym (at-meet .meet .kept .1 .1 .1 .1 .1 .1 .1 .1 .1 .1 .1 .1 .0 ∙ at-meet .before .before .before .before .spread .kept .1 .1 .1 .1 .1 .0 ∙ zeros-length 8))
     (meet-fold-requires t)
-    (meet-entry-requires-3 t)
-    (meet-next-row-requires-2 t)
+    (λ c κs.
+    let at-fold = c .before .before .before in
+    meet-row t (at-fold .before .before .before .before .before .before .before .before .before .before .before .before .before .before))
+    (λ c κs.
+    let at-fold = c .before .before .before .before in
+    at-fold .fold .kept .1 .1 .1 .1 .1 .0 ∙ at-fold .before .before .before .before .before .before .before .before .before .before .before .before .before .before .before .loop .inv .0)
     (meet-loop-less t)
     (meet-loop-again t)
-    (meet-store-requires t)
-    (meet-same-length t)
-    (meet-same-length-2 t)
+    (λ c κs. (c .before .before .before .loop .inv .1, node-low t (start t (c .before .before .before)), c .before .before .before .loop .inv .0))
+    (λ c. c .before .before .before .before .before .before .loop .inv .0 ∙ sym (start t (c .before .before .before .before .before .before) .pre .1 .1 .0))
+    (λ c.
+    let at-loop = c .before .before .before .before .before .before in
+    c .before .before .store .kept .0 ∙ at-loop .loop .inv .1 ∙ sym (start t at-loop .pre .1 .1 .2))
     (meet-returns t)

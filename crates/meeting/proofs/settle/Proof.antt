@@ -2,95 +2,68 @@ use borrow.Author.Needs.{needs}
 use Rattle.meeting.proofs.settle.Statement.{statement}
 use Rattle.meeting.proofs.settle.Tie as tie
 use mathlib.Core.Path.{sym, _∙_}
+use Prim.Native.Nat.{_<_}
 use native.Mathlib.Omega.{arith}
-use Rattle.meeting.proofs.Settled.{one-in, one-among, settled-no, charted, settled-yes, zeros-length, zeros-all}
+use Rattle.meeting.proofs.Settled.{one-in, one-among, settled-no, charted, settled-yes, zeros-length}
 
-slice-aggregate-include : tie.Need-slice-aggregate-include
-slice-aggregate-include c = search needs
+abbrev start : tie.After-meet → tie.Start
+start c = c .before .before .before .before .before .before .before .before .before .before
 
-include-requires : tie.Need-include-requires
-include-requires c κs =
-    (zeros-length, omega (arith, c .before .before .before .before .before .pre .1 .0, c .before .before .before .before .before .pre .0 .posed .graph .most))
-
-slice-aggregate-meet : tie.Need-slice-aggregate-meet
-slice-aggregate-meet c =
-    sym (c .before .before .include .kept .0 ∙ zeros-length)
-
-slice-aggregate-meet-2 : tie.Need-slice-aggregate-meet-2
-slice-aggregate-meet-2 c = search needs
+item-low : (c : tie.Start) → c .args .item < 512
+item-low c = omega (arith, c .pre .1 .0, c .pre .0 .posed .graph .most)
 
 meet-requires : tie.Need-meet-requires
 meet-requires c κs =
-    let at-include = c .before .before .before in
-    let start = at-include .before .before .before .before .before .before in
-    let one = at-include .include in
-    (start .pre .0, (one .kept .0 ∙ zeros-length, one-among _ (one .last .0) (one .ensures) _ (start .pre .1 .0), zeros-all))
-
-slice-aggregate-contains : tie.Need-slice-aggregate-contains
-slice-aggregate-contains c =
-    sym (c .before .before .before .meet .kept .1 .1 .1 .1 .1 .1 .1 .1 .1 .1 .1 .1 .0 ∙ c .before .before .before .before .before .before .before .include .kept .0 ∙ zeros-length)
-
-contains-requires : tie.Need-contains-requires
-contains-requires c κs =
-    let at-meet = c .before .before .before in
-    let at-include = at-meet .before .before .before .before in
-    let start = at-include .before .before .before .before .before .before in
-    (at-meet .meet .kept .1 .1 .1 .1 .1 .1 .1 .1 .1 .1 .1 .1 .0 ∙ at-include .include .kept .0 ∙ zeros-length, omega (arith, start .pre .1 .0, start .pre .0 .posed .graph .most))
+    let one = c .before .before .before .include in
+    let p = c .before .before .before .before .before .before .before .before .before .pre in
+    (p .0, (one .kept .0 ∙ zeros-length 8, one-among _ (one .last .0) (one .ensures) _ (p .1 .0), zeros-length 512))
 
 returns : tie.Need-returns
 returns c =
-    let one = c .before .before .before .before .before .before .before .before .before .include in
-    let done = c .before .before .before .before .before .meet .ensures in
-    let says = c .before .contains .ensures in
-    let no-item = c .if1 .taken in
-    λ k. settled-no k _ _ _ _ _ _ (done k) (one-in _ (one .last .0) (one .ensures)) says no-item _
-
-slice-aggregate-walk : tie.Need-slice-aggregate-walk
-slice-aggregate-walk c =
-    sym (c .before .before .before .before .before .before .meet .kept .1 .1 .1 .1 .1 .1 .1 .1 .1 .1 .1 .1 .1 .0 ∙ zeros-all)
+    let at-meet = c .before .before .before .before .before in
+    let one = at-meet .before .before .before .before .include in
+    λ k. settled-no k _ _ _ _ _ _ (at-meet .meet .ensures k) (one-in _ (one .last .0) (one .ensures)) (c .before .contains .ensures) (c .if1 .taken) _
 
 walk-requires : tie.Need-walk-requires
 walk-requires c κs =
     let at-if1 = c .before .before in
-    let at-contains = at-if1 .before in
-    let at-meet = at-contains .before .before .before .before in
-    let at-include = at-meet .before .before .before .before in
-    let start = at-include .before .before .before .before .before .before in
-    let k = start .pre .0 in
-    let one = at-include .include in
-    let done = at-meet .meet in (
-      charted k _ _ _ _ _ _ (done .ensures k) (one-in _ (one .last .0) (one .ensures)) (at-contains .contains .ensures) (at-if1 .if1 .left) (start .pre .1 .0),
-      (start .pre .1 .1, done .kept .1 .1 .1 .1 .1 .1 .1 .1 .1 .1 .1 .1 .1 .0 ∙ zeros-all),
+    let at-meet = at-if1 .before .before .before .before .before in
+    let one = at-meet .before .before .before .before .include in
+    let p = start at-meet .pre in (
+      charted (p .0) _ _ _ _ _ _ (at-meet .meet .ensures (p .0)) (one-in _ (one .last .0) (one .ensures))
+          (at-if1 .before .contains .ensures) (at-if1 .if1 .left) (p .1 .0),
+      (p .1 .1, at-meet .meet .kept .1 .1 .1 .1 .1 .1 .1 .1 .1 .1 .1 .1 .1 .0 ∙ zeros-length 512),
     )
-
-same-length : tie.Need-same-length
-same-length c = search needs
 
 returns-2 : tie.Need-returns-2
 returns-2 c =
-    let one = c .before .before .before .before .before .before .before .before .before .before .before .before .before .before .include in
-    let done = c .before .before .before .before .before .before .before .before .before .before .meet .ensures in
-    let says = c .before .before .before .before .before .before .contains .ensures in
-    let met = c .before .before .before .before .before .if1 .left in
-    let inside = c .before .before .before .before .before .before .before .before .before .before .before .before .before .before .before .before .before .before .before .before .pre .1 .0 in
-    let mapped = c .before .before .walk .ensures in
-    λ k.
+    let at-if1 = c .before .before .before .before .before in
+    let at-meet = at-if1 .before .before .before .before .before in
+    let one = at-meet .before .before .before .before .include in
     let there = one-in _ (one .last .0) (one .ensures) in
-    settled-yes k _ _ _ _ _ _ (done k) there says met _ _ (mapped (charted k _ _ _ _ _ _ (done k) there says met inside))
+    let says = at-if1 .before .contains .ensures in
+    let met = at-if1 .if1 .left in
+    λ k.
+    let done = at-meet .meet .ensures k in
+    settled-yes k _ _ _ _ _ _ done there says met _ _ (c .before .before .walk .ensures (charted k _ _ _ _ _ _ done there says met (start at-meet .pre .1 .0)))
 
 pub settle-spec : {M : Type 1} → statement M
 settle-spec =
     tie.close
     (tie.spec
-    slice-aggregate-include
-    include-requires
-    slice-aggregate-meet
-    slice-aggregate-meet-2
+    (λ c. search needs)
+    (λ c κs. (zeros-length 8, item-low (c .before .before .before .before .before)))
+    (λ c. sym (c .before .before .include .kept .0 ∙ zeros-length 8))
+    (λ c. search needs)
     meet-requires
-    slice-aggregate-contains
-    contains-requires
+    (λ c.
+    let at-meet = c .before .before .before in
+    sym (at-meet .meet .kept .1 .1 .1 .1 .1 .1 .1 .1 .1 .1 .1 .1 .0 ∙ at-meet .before .before .before .before .include .kept .0 ∙ zeros-length 8))
+    (λ c κs.
+    let at-meet = c .before .before .before in
+    (at-meet .meet .kept .1 .1 .1 .1 .1 .1 .1 .1 .1 .1 .1 .1 .0 ∙ at-meet .before .before .before .before .include .kept .0 ∙ zeros-length 8, item-low (start at-meet)))
     returns
-    slice-aggregate-walk
+    (λ c. sym (c .before .before .before .before .before .before .meet .kept .1 .1 .1 .1 .1 .1 .1 .1 .1 .1 .1 .1 .1 .0 ∙ zeros-length 512))
     walk-requires
-    same-length
+    (λ c. search needs)
     returns-2)

@@ -9,7 +9,7 @@ use Rattle.trails.proofs.seek.Reads as seek-reads
 use Rattle.trails.proofs.+walk.{statement}
 use Rattle.trails.proofs.+walk.Tie.{close}
 use mathlib.Core.Path.{_≡_, refl, _∙_}
-use Prim.Native.Nat.{_-_, _+_}
+use Prim.Native.Nat.{_-_}
 use native.Mathlib.Omega.{arith}
 use lib.ListN.{length, length-set}
 use Rattle.fields.proofs.Known.{bytes-known}
@@ -45,61 +45,11 @@ walk-row t turn =
     let start = turn .before .before .before .before .before .before .before in
     omega (arith, here (start .pre .1 .0 .posed) .2, turn .loop-test .taken, turn .before .before .entry .ensures)
 
-walk-cast-map : (t : ℕ) → walk-lts.Need-cast-map (walk-claims t) (walk-at t) walk.Post walk-Inv-loop walk-μ-loop
-walk-cast-map t c =
-    omega (arith, c .before .before .before .before .pre .1 .0 .inside, c .before .before .before .before .pre .1 .0 .posed .graph .most)
-
-walk-mul-map : (t : ℕ) → walk-lts.Need-mul-map (walk-claims t) (walk-at t) walk.Post walk-Inv-loop walk-μ-loop
-walk-mul-map t c =
-    let h = here (c .before .before .before .before .pre .1 .0 .posed) in omega (arith, h .1, h .2)
-
-walk-slice-write-map : (t : ℕ) → walk-lts.Need-slice-write-map (walk-claims t) (walk-at t) walk.Post walk-Inv-loop walk-μ-loop
-walk-slice-write-map t c =
-    omega (arith, here (c .before .before .before .before .pre .1 .0 .posed) .1, c .before .before .before .before .pre .1 .1 .0)
-
-walk-entry-requires : (t : ℕ) → walk-lts.Need-entry-requires (walk-claims t) (walk-at t) walk.Post walk-Inv-loop walk-μ-loop
-walk-entry-requires t c κs =
-    let h = here (c .before .before .before .before .pre .1 .0 .posed) in omega (arith, h .1, h .2)
-
-walk-add-c : (t : ℕ) → walk-lts.Need-add-c (walk-claims t) (walk-at t) walk.Post walk-Inv-loop walk-μ-loop
-walk-add-c t c =
-    let h = here (c .before .before .before .before .before .pre .1 .0 .posed) in omega (arith, h .1, h .2)
-
-walk-loop-holds : (t : ℕ) → walk-lts.Need-loop-holds (walk-claims t) (walk-at t) walk.Post walk-Inv-loop walk-μ-loop
-walk-loop-holds t c =
-    (refl, λ k. ahead-start k _)
-
-walk-mul-row : (t : ℕ) → walk-lts.Need-mul-row (walk-claims t) (walk-at t) walk.Post walk-Inv-loop walk-μ-loop
-walk-mul-row t c = omega (arith, walk-row t c)
-
-walk-add-stop : (t : ℕ) → walk-lts.Need-add-stop (walk-claims t) (walk-at t) walk.Post walk-Inv-loop walk-μ-loop
-walk-add-stop t c = omega (arith, walk-row t c)
-
-walk-entry-requires-2 : (t : ℕ) → walk-lts.Need-entry-requires-2 (walk-claims t) (walk-at t) walk.Post walk-Inv-loop walk-μ-loop
-walk-entry-requires-2 t c κs = walk-row t c
-
-walk-mul-seek : (t : ℕ) → walk-lts.Need-mul-seek (walk-claims t) (walk-at t) walk.Post walk-Inv-loop walk-μ-loop
-walk-mul-seek t c = omega (arith, walk-row t (c .before))
-
-walk-sub-seek : (t : ℕ) → walk-lts.Need-sub-seek (walk-claims t) (walk-at t) walk.Post walk-Inv-loop walk-μ-loop
-walk-sub-seek t c = search needs
-
-walk-part-seek-start : (t : ℕ) → walk-lts.Need-part-seek-start (walk-claims t) (walk-at t) walk.Post walk-Inv-loop walk-μ-loop
-walk-part-seek-start t c = search needs
-
-walk-part-seek-end : (t : ℕ) → walk-lts.Need-part-seek-end (walk-claims t) (walk-at t) walk.Post walk-Inv-loop walk-μ-loop
-walk-part-seek-end t c =
-    omega (arith, walk-row t (c .before), c .before .before .before .before .before .before .before .before .pre .1 .1 .1)
-
 walk-seek-requires : (t : ℕ) → walk-lts.Need-seek-requires (walk-claims t) (walk-at t) walk.Post walk-Inv-loop walk-μ-loop
 walk-seek-requires t c κs =
     let turn = c .before .before in
     let start = turn .before .before .before .before .before .before .before in
     (start .pre .1 .0 .posed .graph, (start .pre .1 .0 .inside, part-length _ (turn .before .loop .c) (start .pre .1 .1 .1) (walk-row t turn)))
-
-walk-sub-walk : (t : ℕ) → walk-lts.Need-sub-walk (walk-claims t) (walk-at t) walk.Post walk-Inv-loop walk-μ-loop
-walk-sub-walk t c =
-    omega (arith, here (c .before .before .before .before .before .before .before .before .before .before .pre .1 .0 .posed) .0)
 
 walk-walk-requires : (t : ℕ) → walk-lts.Need-walk-requires (walk-claims t) (walk-at t) walk.Post walk-Inv-loop walk-μ-loop
 walk-walk-requires t c κs =
@@ -120,10 +70,6 @@ walk-walk-requires t c κs =
         (omega (arith, start .pre .1 .1 .0, w .0, length-set (start .args .map .now) (start .args .node) (start .args .item), next k b (w .1 k) e l .within), start .pre .1 .1 .1),
       ),
     )
-
-walk-entry-requires-3 : (t : ℕ) → walk-lts.Need-entry-requires-3 (walk-claims t) (walk-at t) walk.Post walk-Inv-loop walk-μ-loop
-walk-entry-requires-3 t c κs =
-    walk-row t (c .before .before .before .before .before .before .before)
 
 walk-loop-less : (t : ℕ) → walk-lts.Need-loop-less (walk-claims t) (walk-at t) walk.Post walk-Inv-loop walk-μ-loop
 walk-loop-less t c =
@@ -154,39 +100,32 @@ walk-loop-again t c =
           next-ahead k b (w .1 k) e l _ _ _ to end (gone (next-charted k b (w .1 k) e l _ to)),
     )
 
-walk-same-length : (t : ℕ) → walk-lts.Need-same-length (walk-claims t) (walk-at t) walk.Post walk-Inv-loop walk-μ-loop
-walk-same-length t c =
-    let start = c .before .before .before .before .before .before .before in
-    c .before .loop .inv .0 ∙ length-set (start .args .map .now) (start .args .node) (start .args .item)
-
-walk-returns : (t : ℕ) → walk-lts.Need-returns (walk-claims t) (walk-at t) walk.Post walk-Inv-loop walk-μ-loop
-walk-returns t c =
-    λ k. ahead-end k _ _ _ _ (c .before .loop .inv .1 k) (c .before .before .entry .ensures) (c .loop-test .left)
-
 pub +walk-spec : {M : Type 1} → statement M
 +walk-spec = close μ-walk λ t. walk-lts.spec (walk-claims t)
     (walk-at t)
     walk.Post
     walk-Inv-loop
     walk-μ-loop
-    (walk-cast-map t)
-    (walk-mul-map t)
-    (walk-slice-write-map t)
-    (walk-entry-requires t)
-    (walk-add-c t)
-    (walk-loop-holds t)
-    (walk-mul-row t)
-    (walk-add-stop t)
-    (walk-entry-requires-2 t)
-    (walk-mul-seek t)
-    (walk-sub-seek t)
-    (walk-part-seek-start t)
-    (walk-part-seek-end t)
+    (λ c. omega (arith, c .before .before .before .before .pre .1 .0 .inside, c .before .before .before .before .pre .1 .0 .posed .graph .most))
+    (λ c. let h = here (c .before .before .before .before .pre .1 .0 .posed) in omega (arith, h .1, h .2))
+    (λ c. omega (arith, here (c .before .before .before .before .pre .1 .0 .posed) .1, c .before .before .before .before .pre .1 .1 .0))
+    (λ c κs. let h = here (c .before .before .before .before .pre .1 .0 .posed) in omega (arith, h .1, h .2))
+    (λ c. let h = here (c .before .before .before .before .before .pre .1 .0 .posed) in omega (arith, h .1, h .2))
+    (λ c. (refl, λ k. ahead-start k _))
+    (λ c. omega (arith, walk-row t c))
+    (λ c. omega (arith, walk-row t c))
+    (λ c κs. walk-row t c)
+    (λ c. omega (arith, walk-row t (c .before)))
+    (λ c. search needs)
+    (λ c. search needs)
+    (λ c. omega (arith, walk-row t (c .before), c .before .before .before .before .before .before .before .before .pre .1 .1 .1))
     (walk-seek-requires t)
-    (walk-sub-walk t)
+    (λ c. omega (arith, here (c .before .before .before .before .before .before .before .before .before .before .pre .1 .0 .posed) .0))
     (walk-walk-requires t)
-    (walk-entry-requires-3 t)
+    (λ c κs. walk-row t (c .before .before .before .before .before .before .before))
     (walk-loop-less t)
     (walk-loop-again t)
-    (walk-same-length t)
-    (walk-returns t)
+    (λ c.
+    let start = c .before .before .before .before .before .before .before in
+    c .before .loop .inv .0 ∙ length-set (start .args .map .now) (start .args .node) (start .args .item))
+    (λ c. λ k. ahead-end k _ _ _ _ (c .before .loop .inv .1 k) (c .before .before .entry .ensures) (c .loop-test .left))

@@ -25,14 +25,6 @@ abbrev μ-loop : tie.MeasureT-loop
 μ-loop s items index role child set₀ x₀ set x =
     512 - x
 
-next-in-requires : tie.Need-next-in-requires Inv-loop μ-loop
-next-in-requires c κs =
-    (c .before .before .before .before .before .pre .1 .1, omega arith)
-
-loop-holds : tie.Need-loop-holds Inv-loop μ-loop
-loop-holds c =
-    (c .before .before .before .before .before .before .pre .1 .1, λ j. sifting-start _ _ _ (c .next-in .ensures))
-
 seek-requires : tie.Need-seek-requires Inv-loop μ-loop
 seek-requires c κs =
     let at-loop = c .before in
@@ -45,17 +37,6 @@ retain-requires c κs =
     let at-loop = at-loop-test .before in
     let start = at-loop .before .before .before .before .before .before .before in
     (at-loop .loop .inv .0, at-loop-test .loop-test .taken, at-loop .loop .inv .1 (start .pre .0) .member (at-loop-test .loop-test .taken))
-
-add-next-in : tie.Need-add-next-in Inv-loop μ-loop
-add-next-in c = search needs
-
-next-in-requires-2 : tie.Need-next-in-requires-2 Inv-loop μ-loop
-next-in-requires-2 c κs =
-    (c .before .before .before .retain .kept .0 ∙ c .before .before .before .before .before .before .before .loop .inv .0, omega arith)
-
-loop-less : tie.Need-loop-less Inv-loop μ-loop
-loop-less c =
-    omega (arith, c .next-in2 .ensures .behind)
 
 loop-again : tie.Need-loop-again Inv-loop μ-loop
 loop-again c =
@@ -71,27 +52,20 @@ loop-again c =
     let h = c .before .before .before .before .before .before .before .loop-test .taken in
     (kept .kept .0 ∙ w .0, λ j. sifting-step _ _ _ _ _ _ _ (w .1 j) h (kept .ensures) (ap (λ (z : ℕ). not (eqb z 65535)) (said j) ∙ found-any _ _ (few j)) on)
 
-same-length : tie.Need-same-length Inv-loop μ-loop
-same-length c =
-    c .before .loop .inv .0 ∙ sym (c .before .before .before .before .before .before .before .before .pre .1 .1)
-
-returns : tie.Need-returns Inv-loop μ-loop
-returns c =
-    λ j. sifting-end _ _ _ _ (c .before .loop .inv .1 j) (c .loop-test .left) (c .before .before .before .before .before .before .before .before .pre .1 .1)
-
 pub fold-spec : {M : Type 1} → statement M
 fold-spec =
     tie.close
     (tie.spec
     Inv-loop
     μ-loop
-    next-in-requires
-    loop-holds
+    (λ c κs. (c .before .before .before .before .before .pre .1 .1, omega arith))
+    (λ c. (c .before .before .before .before .before .before .pre .1 .1, λ j. sifting-start _ _ _ (c .next-in .ensures)))
     seek-requires
     retain-requires
-    add-next-in
-    next-in-requires-2
-    loop-less
+    (λ c. search needs)
+    (λ c κs. (c .before .before .before .retain .kept .0 ∙ c .before .before .before .before .before .before .before .loop .inv .0, omega arith))
+    (λ c. omega (arith, c .next-in2 .ensures .behind))
     loop-again
-    same-length
-    returns)
+    (λ c. c .before .loop .inv .0 ∙ sym (c .before .before .before .before .before .before .before .before .pre .1 .1))
+    (λ c.
+    λ j. sifting-end _ _ _ _ (c .before .loop .inv .1 j) (c .loop-test .left) (c .before .before .before .before .before .before .before .before .pre .1 .1)))

@@ -18,42 +18,12 @@ abbrev μ-loop : tie.MeasureT-loop
 μ-loop s names node set₀ wanted x₀ set x =
     512 - x
 
-mul-wanted : tie.Need-mul-wanted Inv-loop μ-loop
-mul-wanted c = search needs
-
-element-copy-out-wanted : tie.Need-element-copy-out-wanted Inv-loop μ-loop
-element-copy-out-wanted c = search needs
-
-next-in-requires : tie.Need-next-in-requires Inv-loop μ-loop
-next-in-requires c κs =
-    (c .before .before .before .before .pre .1 .1, omega arith)
-
-loop-holds : tie.Need-loop-holds Inv-loop μ-loop
-loop-holds c =
-    (c .before .before .before .before .before .pre .1 .1, λ g h. sifting-start _ _ _ (c .next-in .ensures))
-
-names-requires : tie.Need-names-requires Inv-loop μ-loop
-names-requires c κs =
-    let a = c .before .before .before .before .before .before .before .before .pre .0 in
-    record { register = a .register; read = a .read; holds = a .holds _ (sifting-old _ _ _ _ (c .before .before .loop .inv .1 (a .register) (a .read)) (c .before .loop-test .taken)) }
-
 retain-requires : tie.Need-retain-requires Inv-loop μ-loop
 retain-requires c κs =
     let at-loop-test = c .before .before in
     let at-loop = at-loop-test .before in
     let start = at-loop .before .before .before .before .before .before in
     (at-loop .loop .inv .0, at-loop-test .loop-test .taken, at-loop .loop .inv .1 (start .pre .0 .register) (start .pre .0 .read) .member (at-loop-test .loop-test .taken))
-
-add-next-in : tie.Need-add-next-in Inv-loop μ-loop
-add-next-in c = search needs
-
-next-in-requires-2 : tie.Need-next-in-requires-2 Inv-loop μ-loop
-next-in-requires-2 c κs =
-    (c .before .before .before .retain .kept .0 ∙ c .before .before .before .before .before .before .before .loop .inv .0, omega arith)
-
-loop-less : tie.Need-loop-less Inv-loop μ-loop
-loop-less c =
-    omega (arith, c .next-in2 .ensures .behind)
 
 loop-again : tie.Need-loop-again Inv-loop μ-loop
 loop-again c =
@@ -68,29 +38,23 @@ loop-again c =
           (ap (λ (z : ℕ). within (getD (start .args .names .now) (start .args .node) 0) z) (at-names .names .ensures g h)) (c .next-in2 .ensures),
     )
 
-same-length : tie.Need-same-length Inv-loop μ-loop
-same-length c =
-    c .before .loop .inv .0 ∙ sym (c .before .before .before .before .before .before .before .pre .1 .1)
-
-returns : tie.Need-returns Inv-loop μ-loop
-returns c =
-    λ g h. sifting-end _ _ _ _ (c .before .loop .inv .1 g h) (c .loop-test .left) (c .before .before .before .before .before .before .before .pre .1 .1)
-
 pub hold-spec : {M : Type 1} → statement M
 hold-spec =
     tie.close
     (tie.spec
     Inv-loop
     μ-loop
-    mul-wanted
-    element-copy-out-wanted
-    next-in-requires
-    loop-holds
-    names-requires
+    (λ c. search needs)
+    (λ c. search needs)
+    (λ c κs. (c .before .before .before .before .pre .1 .1, omega arith))
+    (λ c. (c .before .before .before .before .before .pre .1 .1, λ g h. sifting-start _ _ _ (c .next-in .ensures)))
+    (λ c κs.
+    let a = c .before .before .before .before .before .before .before .before .pre .0 in
+    record { register = a .register; read = a .read; holds = a .holds _ (sifting-old _ _ _ _ (c .before .before .loop .inv .1 (a .register) (a .read)) (c .before .loop-test .taken)) })
     retain-requires
-    add-next-in
-    next-in-requires-2
-    loop-less
+    (λ c. search needs)
+    (λ c κs. (c .before .before .before .retain .kept .0 ∙ c .before .before .before .before .before .before .before .loop .inv .0, omega arith))
+    (λ c. omega (arith, c .next-in2 .ensures .behind))
     loop-again
-    same-length
-    returns)
+    (λ c. c .before .loop .inv .0 ∙ sym (c .before .before .before .before .before .before .before .pre .1 .1))
+    (λ c. λ g h. sifting-end _ _ _ _ (c .before .loop .inv .1 g h) (c .loop-test .left) (c .before .before .before .before .before .before .before .pre .1 .1)))

@@ -20,22 +20,6 @@ abbrev μ-loop : tie.MeasureT-loop
 μ-loop s items index item role set end k₀ k =
     end - k
 
-run-requires : tie.Need-run-requires Inv-loop μ-loop
-run-requires c κs =
-    (c .before .before .before .pre .0, c .before .before .before .pre .1 .0)
-
-loop-holds : tie.Need-loop-holds Inv-loop μ-loop
-loop-holds c =
-    λ j. ap (first (λ y. inSet (c .before .before .before .before .args .set .now) y)) (sym (c .run .ensures j .next))
-
-end-of-requires : tie.Need-end-of-requires Inv-loop μ-loop
-end-of-requires c κs =
-    asked-end (c .before .before .before .before .before .before .pre .0) (omega (arith, c .before .before .run .ensures (c .before .before .before .before .before .before .pre .0) .within))
-
-contains-requires : tie.Need-contains-requires Inv-loop μ-loop
-contains-requires c κs =
-    (c .before .before .before .before .before .before .before .pre .1 .1, omega (arith, c .end-of .ensures .1, c .before .before .before .before .before .before .before .pre .0 .most))
-
 returns : tie.Need-returns Inv-loop μ-loop
 returns c =
     λ j.
@@ -43,12 +27,6 @@ returns c =
     let e = c .before .before .end-of .ensures .0 (j .register) (j .read) in
     let t = sym (ap (inSet s) e) ∙ sym (c .before .contains .ensures) ∙ c .if1 .taken in
     e ∙ ap placeOf (sym (here-first (λ y. inSet s y) (endNo (j .register)) _ _ (c .before .before .before .loop-test .taken) t) ∙ c .before .before .before .before .loop .inv j)
-
-add-k : tie.Need-add-k Inv-loop μ-loop
-add-k c = search needs
-
-loop-less : tie.Need-loop-less Inv-loop μ-loop
-loop-less c = search needs
 
 loop-again : tie.Need-loop-again Inv-loop μ-loop
 loop-again c =
@@ -58,22 +36,20 @@ loop-again c =
     let t = sym (ap (inSet s) e) ∙ sym (c .before .contains .ensures) ∙ c .if1 .left in
     sym (passed-first (λ y. inSet s y) (endNo (j .register)) _ _ (c .before .before .before .loop-test .taken) t) ∙ c .before .before .before .before .loop .inv j
 
-returns-2 : tie.Need-returns-2 Inv-loop μ-loop
-returns-2 c =
-    λ j. ap placeOf (sym (none-first (λ y. inSet (c .before .before .before .before .before .before .args .set .now) y) (endNo (j .register)) _ _ (c .loop-test .left)) ∙ c .before .loop .inv j)
-
 pub seek-spec : {M : Type 1} → statement M
 seek-spec =
     tie.close
     (tie.spec
     Inv-loop
     μ-loop
-    run-requires
-    loop-holds
-    end-of-requires
-    contains-requires
+    (λ c κs. (c .before .before .before .pre .0, c .before .before .before .pre .1 .0))
+    (λ c. λ j. ap (first (λ y. inSet (c .before .before .before .before .args .set .now) y)) (sym (c .run .ensures j .next)))
+    (λ c κs. let j = c .before .before .before .before .before .before .pre .0 in asked-end j (omega (arith, c .before .before .run .ensures j .within)))
+    (λ c κs. let p = c .before .before .before .before .before .before .before .pre in (p .1 .1, omega (arith, c .end-of .ensures .1, p .0 .most)))
     returns
-    add-k
-    loop-less
+    (λ c. search needs)
+    (λ c. search needs)
     loop-again
-    returns-2)
+    (λ c. λ j.
+    let s = c .before .before .before .before .before .before .args .set .now in
+    ap placeOf (sym (none-first (λ y. inSet s y) (endNo (j .register)) _ _ (c .loop-test .left)) ∙ c .before .loop .inv j)))
