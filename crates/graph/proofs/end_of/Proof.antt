@@ -3,12 +3,9 @@ use Rattle.graph.proofs.end_of.Statement.{statement}
 use Rattle.graph.proofs.end_of.Tie as tie
 use native.Mathlib.Omega.{arith}
 
-to-of-requires : tie.Need-to-of-requires
-to-of-requires c κs = search needs
-
 returns : tie.Need-returns
 returns c =
     ((λ g h. c .to-of .ensures g h .0), omega (arith, c .to-of .ensures (c .before .before .pre .register) (c .before .before .pre .read) .1, c .before .before .pre .holds .0))
 
 pub end-of-spec : {M : Type 1} → statement M
-end-of-spec = tie.close (tie.spec to-of-requires returns)
+end-of-spec = tie.close (tie.spec (λ c κs. search needs) returns)

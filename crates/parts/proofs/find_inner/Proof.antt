@@ -11,27 +11,12 @@ use lib.ListN.{getD}
 use Rattle.fields.proofs.Known.{bytes-known}
 use Rattle.parts.proofs.Standing.{found, found-none, found-refused, found-room, found-place}
 
-slice-aggregate-read-message : tie.Need-slice-aggregate-read-message
-slice-aggregate-read-message c = search needs
-
-read-message-requires : tie.Need-read-message-requires
-read-message-requires c κs = search needs
-
-enum-known-m : tie.Need-enum-known-m
-enum-known-m c = search needs
-
 returns : tie.Need-returns
 returns c =
     let s = c .before .before .before .before .before .before .before .before .args .s .now in
     let f = found s _ _ _ _ (c .before .before .before .before .before .read-message .ensures) (c .before .before .m .given .1) in
     let z = c .if1 .taken in
     found-none s _ _ f (c .before .before .before .before .before .before .before .before .args .k) (omega (arith, z))
-
-slice-aggregate-firsts : tie.Need-slice-aggregate-firsts
-slice-aggregate-firsts c = search needs
-
-firsts-requires : tie.Need-firsts-requires
-firsts-requires c κs = search needs
 
 mul-pair : tie.Need-mul-pair
 mul-pair c =
@@ -46,9 +31,6 @@ array-read-pair c =
     let f = found (c₁ .before .before .before .before .args .s .now) _ _ _ _ (c₁ .before .read-message .ensures) (c .before .before .before .before .m .given .1) in
     let z = c .before .before .if1 .left in
     omega (arith, f .few, z)
-
-pair-requires : tie.Need-pair-requires
-pair-requires c κs = search needs
 
 add-two : tie.Need-add-two
 add-two c =
@@ -83,9 +65,6 @@ add-t16 c =
     let room = found-room s b _ _ f k (omega (arith, z)) (c .before .pair .result) e in
     omega (arith, room)
 
-enum-told : tie.Need-enum-told
-enum-told c = search needs
-
 returns-2 : tie.Need-returns-2
 returns-2 c =
     let s = c .before .before .before .before .before .before .before .before .before .before .before .before .args .s .now in
@@ -105,18 +84,18 @@ pub find-inner-spec : {M : Type 1} → statement M
 find-inner-spec =
     tie.close
     (tie.spec
-    slice-aggregate-read-message
-    read-message-requires
-    enum-known-m
+    (λ c. search needs)
+    (λ c κs. search needs)
+    (λ c. search needs)
     returns
-    slice-aggregate-firsts
-    firsts-requires
+    (λ c. search needs)
+    (λ c κs. search needs)
     mul-pair
     array-read-pair
-    pair-requires
+    (λ c κs. search needs)
     add-two
     two-requires
     add-t16
-    enum-told
+    (λ c. search needs)
     returns-2
     returns-3)

@@ -15,26 +15,6 @@ use Rattle.parts.specs.declared.Place.{Place}
 use Rattle.parts.specs.Inner.{innerPlace}
 use Rattle.parts.proofs.Standing.{inner-bytes}
 
--- src/lib.rt:86:9
-find-inner-requires : tie.Need-find-inner-requires
-find-inner-requires c κs = search needs
-
--- src/lib.rt:88:15
-add-end : tie.Need-add-end
-add-end c = search needs
-
--- src/lib.rt:89:5
-sub-result : tie.Need-sub-result
-sub-result c = search needs
-
--- src/lib.rt:89:5
-part-result-start : tie.Need-part-result-start
-part-result-start c = search needs
-
--- src/lib.rt:89:5
-part-result-end : tie.Need-part-result-end
-part-result-end c = search needs
-
 -- the inner concept that was found is the one asked for: an equation of numbers
 asked-for : {p : Place} (s : List ℕ) {j : ℕ} (k : ℕ) → p ≡ innerPlace j (readRequirement s) → j ≡ k → p ≡ innerPlace k (readRequirement s)
 asked-for {p} s k e n = subst (λ (z : ℕ). p ≡ innerPlace z (readRequirement s)) n e
@@ -51,4 +31,4 @@ returns c =
 pub inner-part-spec : {M : Type 1} → statement M
 inner-part-spec =
     tie.close
-    (tie.spec find-inner-requires add-end sub-result part-result-start part-result-end returns)
+    (tie.spec (λ c κs. search needs) (λ c. search needs) (λ c. search needs) (λ c. search needs) (λ c. search needs) returns)
