@@ -12,9 +12,6 @@ ghost use Rattle.degrees.specs.Room.{Lent};
 ghost use Rattle.degrees.specs.Headed.{Headed};
 ghost use Rattle.degrees.specs.Given.{Worked, Done, Below};
 
-// Six rows of numbers are enough for the largest tree.
-pub const NUMBERS: usize = 3072;
-
 // The degrees of the members of a set in the tree at a node, as whole numbers over its scale, which is answered, from place `at` on; and for each
 // kept node below it, along which link it goes where its parent goes to an item. The heaviest child comes first, since only then the row at `at` is
 // free for its use: so a further row is in use for the others alone, which have less than half of the rows. The rows may hold a tree of at most
