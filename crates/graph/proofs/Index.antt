@@ -11,42 +11,55 @@ use borrow.Author.Count.{below-more}
 use Rattle.meaning.specs.Bytes.{Bytes}
 use Rattle.meaning.specs.Refusal.{good}
 use Rattle.meaning.specs.Register.{Register, readBuffer}
-use Rattle.register.specs.Image.{Begins}
+use Rattle.register.specs.Image.{Begins, Image}
 use Rattle.register.proofs.Begins.{links-rise, begins-first}
-use Rattle.graph.specs.Judged.{startNo, Ends, Risen}
+use Rattle.graph.specs.Judged.{startNo, Ends, Noted, Risen}
 
 -- ---- where the last link of each item ends
 
-abbrev pub Noted : Register → ℕ → ℕ → List ℕ → Type 0
-Noted g items n index = (x : ℕ) → x < items → Ends g n x (getD index (x + 1) 0)
+module _ (s : List ℕ) (items : ℕ) where
+  pub noted-none : (index : List ℕ) → ((k : ℕ) → getD index k 0 ≡ 0) → Noted s items 0 index
+  noted-none index z = (
+    z 0,
+    λ g h x l. record {
+      within = omega (arith, z (x + 1));
+      all = λ k m e. absurd (let y : k < 0 = m in omega arith);
+      last = λ m. absurd (omega (arith, z (x + 1)));
+    },
+  )
 
-pub noted-none : (g : Register) (items : ℕ) (index : List ℕ) → ((k : ℕ) → getD index k 0 ≡ 0) → Noted g items 0 index
-noted-none g items index z x h = record {
-  within = omega (arith, z (x + 1));
-  all = λ k l e. absurd (let y : k < 0 = l in omega arith);
-  last = λ l. absurd (omega (arith, z (x + 1)));
-}
+  -- one link more, which leads from `at`
+  pub noted-more : (k at : ℕ) (index : List ℕ) → Image s (λ g. at ≡ startNo g k) → at + 1 < length index → Noted s items k index
+      → Noted s items (k + 1) (set index (at + 1) (k + 1))
+  noted-more k at index from l w = (
+    getD-set-other index (at + 1) 0 (k + 1) 0 (λ e. let z : 0 ≡ at + 1 = e in omega arith) ∙ w .0,
+    λ g h x m. go g h x m (ℕ-discrete x at),
+  )
+    where
+      go : (g : Register) (h : readBuffer s ≡ good g) (x : ℕ) → x < items → Dec (x ≡ at) → Ends g (k + 1) x (getD (set index (at + 1) (k + 1)) (x + 1) 0)
+      go g h x m (yes q) = subst (λ (z : ℕ). Ends g (k + 1) x (getD (set index (at + 1) (k + 1)) (z + 1) 0)) (sym q)
+          (subst (λ (z : ℕ). Ends g (k + 1) x z) (sym (getD-set-same index (at + 1) (k + 1) 0 l))
+          (record { within = omega arith; all = λ j i d. i; last = λ i. ap (λ (z : ℕ). startNo g z) (let z : k + 1 - 1 ≡ k = omega arith in z) ∙ sym (from g h) ∙ sym q }))
+      go g h x m (no q) =
+          let v = w .1 g h x m in
+          subst (λ (z : ℕ). Ends g (k + 1) x z) (sym (getD-set-other index (at + 1) (x + 1) (k + 1) 0 (λ d. q (let z : x + 1 ≡ at + 1 = d in omega arith))))
+          (record {
+            within = let z = v .within in omega arith;
+            all = λ j i d. earlier j i d (ℕ-discrete j k);
+            last = v .last;
+          })
+        where
+          earlier : (j : ℕ) → j < k + 1 → startNo g j ≡ x → Dec (j ≡ k) → j < getD index (x + 1) 0
+          earlier j i d (yes p) = absurd (q (sym d ∙ ap (λ (z : ℕ). startNo g z) p ∙ sym (from g h)))
+          earlier j i d (no p) = w .1 g h x m .all j (omega (arith, p)) d
 
-pub noted-more : (g : Register) (items k at : ℕ) (index : List ℕ) → at ≡ startNo g k → at + 1 < length index → Noted g items k index
-    → Noted g items (k + 1) (set index (at + 1) (k + 1))
-noted-more g items k at index e l w x h = go (ℕ-discrete x at)
-  where
-    go : Dec (x ≡ at) → Ends g (k + 1) x (getD (set index (at + 1) (k + 1)) (x + 1) 0)
-    go (yes q) = subst (λ (z : ℕ). Ends g (k + 1) x (getD (set index (at + 1) (k + 1)) (z + 1) 0)) (sym q)
-        (subst (λ (z : ℕ). Ends g (k + 1) x z) (sym (getD-set-same index (at + 1) (k + 1) 0 l))
-        (record { within = omega arith; all = λ j m d. m; last = λ m. ap (λ (z : ℕ). startNo g z) (let z : k + 1 - 1 ≡ k = omega arith in z) ∙ sym e ∙ sym q }))
-    go (no q) =
-        let v = w x h in
-        subst (λ (z : ℕ). Ends g (k + 1) x z) (sym (getD-set-other index (at + 1) (x + 1) (k + 1) 0 (λ d. q (let z : x + 1 ≡ at + 1 = d in omega arith))))
-        (record {
-          within = let z = v .within in omega arith;
-          all = λ j m d. earlier j m d (ℕ-discrete j k);
-          last = v .last;
-        })
-      where
-        earlier : (j : ℕ) → j < k + 1 → startNo g j ≡ x → Dec (j ≡ k) → j < getD index (x + 1) 0
-        earlier j m d (yes p) = absurd (q (sym d ∙ ap (λ (z : ℕ). startNo g z) p ∙ sym e))
-        earlier j m d (no p) = w x h .all j (omega (arith, p)) d
+  -- two links more
+  pub noted-two : (k at then : ℕ) (index : List ℕ) → Image s (λ g. at ≡ startNo g k) → Image s (λ g. then ≡ startNo g (k + 1)) → at + 1 < length index
+      → then + 1 < length index → Noted s items k index → Noted s items (k + 2) (set (set index (at + 1) (k + 1)) (then + 1) (k + 2))
+  noted-two k at then index from next l m w =
+      let two : k + 1 + 1 ≡ k + 2 = omega arith in
+      let r = noted-more (k + 1) then (set index (at + 1) (k + 1)) next (omega (arith, m, length-set index (at + 1) (k + 1))) (noted-more k at index from l w) in
+      subst (λ (z : ℕ). Noted s items z (set (set index (at + 1) (k + 1)) (then + 1) z)) two r
 
 -- ---- each place at least what stands before it
 
@@ -107,11 +120,11 @@ module _ (s : List ℕ) (b : Bytes s) (g : Register) (h : readBuffer s ≡ good 
           behind′ j l m z (yes p) = absurd (let y = w .all j m (sym p) in omega arith)
           behind′ j l m z (no p) = omega (arith, p)
 
-  pub begins-all : (items : ℕ) (ends index : List ℕ) → getD ends 0 0 ≡ 0 → Noted g items (length (g .links)) ends → Risen items ends index
+  pub begins-all : (items : ℕ) (ends index : List ℕ) → Noted s items (length (g .links)) ends → Risen items ends index
       → (k : ℕ) → k ≤ items → Begins (g .links) k (getD index k 0)
-  begins-all items ends index z w r zero l = subst (λ (y : ℕ). Begins (g .links) 0 y) (sym (r .first ∙ z)) (begins-first (g .links))
-  begins-all items ends index z w r (suc k) l =
-      let p = next k (getD index k 0) (getD ends (k + 1) 0) (begins-all items ends index z w r k (omega arith)) (w k (omega arith)) in
+  begins-all items ends index w r zero l = subst (λ (y : ℕ). Begins (g .links) 0 y) (sym (r .first ∙ w .0)) (begins-first (g .links))
+  begins-all items ends index w r (suc k) l =
+      let p = next k (getD index k 0) (getD ends (k + 1) 0) (begins-all items ends index w r k (omega arith)) (w .1 g h k (omega arith)) in
       let q : k + 1 ≡ suc k = omega arith in
       subst (λ (y : ℕ). Begins (g .links) y (getD index y 0)) q (subst (λ (y : ℕ). Begins (g .links) (k + 1) y) (sym (r .done k (omega arith))) p)
 

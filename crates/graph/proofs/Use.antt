@@ -14,13 +14,18 @@ use Rattle.meaning.specs.Refusal.{good}
 use Rattle.meaning.specs.Register.{Link, Register, linksOf, judged, readBuffer}
 use Rattle.meaning.proofs.Links.{targets-links, link}
 use Rattle.meaning.proofs.Image.{right, image-fits}
-use Rattle.register.specs.Image.{Asked}
+use Rattle.register.specs.Image.{Asked, OfSize}
 use Rattle.graph.specs.Judged.{Judged}
 
 -- one of the links up to an end
 pub asked-one : {s : List ℕ} {items end k : ℕ} → Asked s (λ g. (items ≡ length (g .names)) × (end ≤ length (g .links))) → k < end
     → Asked s (λ g. (items ≡ length (g .names)) × (k < length (g .links)))
 asked-one a l = record { register = a .register; read = a .read; holds = (a .holds .0, omega (arith, l, a .holds .1)) }
+
+-- one of so many links
+pub asked-link : {s : List ℕ} {items links : ℕ} → OfSize s items links → (k : ℕ) → k < links
+    → Asked s (λ g. (items ≡ length (g .names)) × (k < length (g .links)))
+asked-link a k l = record { register = a .register; read = a .read; holds = (a .holds .0, omega (arith, a .holds .1)) }
 
 module _ {s : List ℕ} {items : ℕ} {index : List ℕ} (j : Judged s items index) where
   pub one-register : (g : Register) → readBuffer s ≡ good g → j .register ≡ g

@@ -8,7 +8,7 @@ use lib.ListN.{length, getD}
 use Rattle.meaning.specs.Bounds.{mostItems}
 use Rattle.meaning.specs.Refusal.{good}
 use Rattle.meaning.specs.Register.{Register, judged, readBuffer}
-use Rattle.register.specs.Image.{linkNo, Begins}
+use Rattle.register.specs.Image.{linkNo, Begins, Image}
 
 -- the register that the bytes begin with, of so many items, and an index that says where the links of each of them begin and end
 pub record Judged (s : List ℕ) (items : ℕ) (index : List ℕ) : Type 0 where
@@ -67,6 +67,10 @@ pub record Ends (g : Register) (n item e : ℕ) : Type 0 where
   pub within : e ≤ n
   pub all : (k : ℕ) → k < n → startNo g k ≡ item → k < e
   pub last : 0 < e → startNo g (e - 1) ≡ item
+
+-- the first n links are noted: at 0 stands 0, and behind the place of each item where the last of its own ends
+abbrev pub Noted : List ℕ → ℕ → ℕ → List ℕ → Type 0
+Noted s items n index = (getD index 0 0 ≡ 0) × Image s (λ g. (x : ℕ) → x < items → Ends g n x (getD index (x + 1) 0))
 
 -- each of the first n places behind the first has become the greater of itself and of what the place before it has become
 pub record Risen (n : ℕ) (old new : List ℕ) : Type 0 where

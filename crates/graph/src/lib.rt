@@ -6,7 +6,7 @@ ghost use Prim.Native.Nat.{ℕ, _+_, _≤_, _<_, max};
 ghost use lib.ListN.{length, getD};
 ghost use Rattle.meaning.specs.Register.{judged};
 ghost use Rattle.register.specs.Image.{Asked, OfSize, Image};
-ghost use Rattle.graph.specs.Judged.{Judged, endNo, Runs, Opens, Parted, Ends, Risen};
+ghost use Rattle.graph.specs.Judged.{Judged, endNo, Runs, Opens, Parted, Noted, Risen};
 ghost use Rattle.graph.specs.Sets.{Among, Spread, Gathered};
 
 // A run of links: from `first` up to `end`.
@@ -42,14 +42,38 @@ pub fn fill_index(s: &[u8], items: usize, links: usize, index: &mut [u16])
     raise(items, index);
 }
 
-// Behind the place of each item that links lead from: where its last one ends.
+// Behind the place of each item that links lead from: where its last one ends. Two links in a turn, read a turn before they are noted (so that the
+// compiler reads an item in one load).
 fn note_ends(s: &[u8], items: usize, links: usize, index: &mut [u16])
     requires { ⌜ OfSize (now s) items links ⌝ }
     requires { ⌜ (items < length (now index)) × ((k : ℕ) → getD (now index) k 0 ≡ 0) ⌝ }
-    ensures { λ _. ⌜ Image (now (s .entry)) (λ g. (x : ℕ) → x < items → Ends g links x (getD (now (index .exit)) (x + 1) 0)) ⌝ }
-    ensures { λ _. ⌜ getD (now (index .exit)) 0 0 ≡ 0 ⌝ }
+    ensures { λ _. ⌜ Noted (now (s .entry)) items links (now (index .exit)) ⌝ }
 {
+    if links < 4 {
+        note_rest(s, items, 0, links, index);
+        return;
+    }
+    let stop = links - 3;
     let mut k = 0;
+    let mut from = register::from_of(s, items, 0);
+    let mut next = register::from_of(s, items, 1);
+    while k < stop {
+        index[from + 1] = (k + 1) as u16;
+        k += 2;
+        index[next + 1] = k as u16;
+        from = register::from_of(s, items, k);
+        next = register::from_of(s, items, k + 1);
+    }
+    note_rest(s, items, k, links, index);
+}
+
+// The same for the links from `first` on, once those before it are noted.
+fn note_rest(s: &[u8], items: usize, first: usize, links: usize, index: &mut [u16])
+    requires { ⌜ OfSize (now s) items links ⌝ }
+    requires { ⌜ (items < length (now index)) × (first ≤ links) × Noted (now s) items first (now index) ⌝ }
+    ensures { λ _. ⌜ Noted (now (s .entry)) items links (now (index .exit)) ⌝ }
+{
+    let mut k = first;
     while k < links {
         let at = register::from_of(s, items, k) + 1;
         k += 1;

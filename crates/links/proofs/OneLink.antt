@@ -3,7 +3,7 @@
 use mathlib.Core.Path.{_≡_, refl, sym, ap, _∙_, subst}
 use mathlib.Core.Bool.{not}
 use mathlib.Core.List.{List, [], _∷_}
-use mathlib.Core.Option.{Option}
+use mathlib.Core.Option.{Option, some}
 use Prim.Native.Nat.{ℕ, _+_, _*_, _-_, _/_, _%_, _≤_, _<_}
 use native.Mathlib.Omega.{arith}
 use native.Mathlib.Decide.{decLt}
@@ -81,11 +81,12 @@ module _ (s : List ℕ) (end n : ℕ) (before : Option Link) (p : ℕ) where
           link-order h =
               keyed-refused 6 p (to-order ∙ stop (not (above before (linkAt s p))) _ _ (ap not order ∙ ap not (not-le floor _ h)))
 
+          pub link-reads : floor ≤ key (linkAt s p) → readLink s end n before p ≡ good (linkAt s p)
+          link-reads h = to-order ∙ pass (not (above before (linkAt s p))) _ _ (ap not order ∙ ap not (at-most floor _ h))
+
           pub link-good : floor ≤ key (linkAt s p) → answer ≡ good (key (linkAt s p) + 1)
           unfolding keyed
-          link-good h =
-              took (readLink s end n before p) _ (linkAt s p)
-              (to-order ∙ pass (not (above before (linkAt s p))) _ _ (ap not order ∙ ap not (at-most floor _ h)))
+          link-good h = took (readLink s end n before p) _ (linkAt s p) (link-reads h)
 
 -- ---- by the number alone
 
@@ -106,6 +107,11 @@ module _ (s : List ℕ) where
       let e1 : getD s (at + 3 + 1) 0 ≡ getD s (at + 4) 0 = ap (λ (z : ℕ). getD s z 0) (omega arith) in
       omega (arith, number-two s (at + 2), number-two s (at + 3), number-one s (at + 2), number-one s (at + 4))
 
+  -- the same of the link behind
+  pub next-parts : (front last at : ℕ) → front ≡ number s (at + 5) 2 * 65536 + number s (at + 5 + 2) 2 → last ≡ number s (at + 9) 1
+      → front * 256 + last ≡ key (linkAt s (at + 5))
+  next-parts front last at ef el = key-parts front last (at + 5) ef (el ∙ ap (λ (z : ℕ). number s z 1) (omega arith))
+
   module _ (b : Bytes s) where
     two-below : (p : ℕ) → number s p 2 < 65536
     two-below p = omega (arith, number-two s p, b p, b (p + 1))
@@ -113,17 +119,14 @@ module _ (s : List ℕ) where
     one-below : (p : ℕ) → number s p 1 < 256
     one-below p = omega (arith, number-one s p, b p)
 
-    -- a link whose number passes every test
-    pub link-passed : (end n p floor k : ℕ) (before : Option Link) → p + 5 ≤ end → n ≤ mostItems → k ≡ key (linkAt s p) → Right k n floor → Floor before floor
-        → good (k + 1) ≡ keyed (readLink s end n before p)
-    link-passed end n p floor k before fit few ek w fl =
+    -- a link whose number passes every test, and is small enough for the item that it leads from
+    pub link-passed : (end n p floor : ℕ) (before : Option Link) → p + 5 ≤ end → n ≤ mostItems → Right (key (linkAt s p)) n floor
+        → key (linkAt s p) < n * 16777216 → Floor before floor → (readLink s end n before p ≡ good (linkAt s p)) × Floor (some (linkAt s p)) (key (linkAt s p) + 1)
+    link-passed end n p floor before fit few w small fl =
         let a = number s p 2 in
         let r = number s (p + 2) 1 in
         let t = number s (p + 3) 2 in
-        let er : k / 65536 % 256 ≡ r = ap (λ (z : ℕ). z / 65536 % 256) ek ∙ part-role a r t (one-below (p + 2)) (two-below (p + 3)) in
-        let et : k % 65536 ≡ t = ap (λ (z : ℕ). z % 65536) ek ∙ part-to a r t (two-below (p + 3)) in
-        let ha : a < n = part-from a r t n (subst (λ (z : ℕ). z < n * 16777216) ek (w .1)) in
-        let hr : r ≤ mostRole = subst (λ (z : ℕ). z ≤ mostRole) er (w .3) in
-        let ht : t < n = subst (λ (z : ℕ). z < n) et (w .2) in
-        let hf : floor ≤ key (linkAt s p) = subst (λ (z : ℕ). floor ≤ z) ek (w .0) in
-        ap (λ (z : ℕ). good (z + 1)) ek ∙ sym (link-good s end n before p fit ha hr ht few floor fl hf)
+        let ha : a < n = part-from a r t n small in
+        let hr : r ≤ mostRole = subst (λ (z : ℕ). z ≤ mostRole) (part-role a r t (one-below (p + 2)) (two-below (p + 3))) (w .2) in
+        let ht : t < n = subst (λ (z : ℕ). z < n) (part-to a r t (two-below (p + 3))) (w .1) in
+        (link-reads s end n before p fit ha hr ht few floor fl (w .0), (refl, hr, two-below (p + 3)))

@@ -5,12 +5,12 @@ use mathlib.Core.Bool.{cond}
 use mathlib.Core.List.{List}
 use mathlib.Core.Option.{Option, some}
 use mathlib.Core.Option.{none as nowhere}
-use Prim.Native.Nat.{ℕ, _+_, _*_, _/_, _%_, _≤_, _<_}
+use Prim.Native.Nat.{ℕ, zero, suc, _+_, _*_, _/_, _%_, _≤_, _<_}
 use lib.Dec.{ltb}
 use Rattle.meaning.specs.declared.Side.the-variants.{Register as register}
 use Rattle.meaning.specs.Refusal.{Answer, good, refused, at, _>>=_}
 use Rattle.meaning.specs.Bounds.{mostRole}
-use Rattle.meaning.specs.Register.{Link, readLinks}
+use Rattle.meaning.specs.Register.{Link, linkAt, readLinks}
 use Rattle.links.specs.declared.Linked.{Linked}
 use Rattle.links.specs.declared.Linked.the-variants.{Good as GoodLink, Refused as RefusedLink}
 
@@ -39,9 +39,18 @@ abbrev pub Passed : ℕ → ℕ → Linked → Type 0
 Passed p end (GoodLink f) = p + 5 ≤ end
 Passed p end (RefusedLink k q) = Unit {0}
 
--- a link's number passes every test, among n items
+-- a link's number passes every test but that of the item it leads from, among n items
 abbrev pub Right : ℕ → ℕ → ℕ → Type 0
-Right k n floor = (floor ≤ k) × (k < n * 16777216) × (k % 65536 < n) × (k / 65536 % 256 ≤ mostRole)
+Right k n floor = (floor ≤ k) × (k % 65536 < n) × (k / 65536 % 256 ≤ mostRole)
+
+-- so do those of m links from place p on, each greater than the one before, and the last link leads from one of the items
+unfoldable pub Rightly : List ℕ → ℕ → ℕ → ℕ → ℕ → Type 0
+Rightly s n zero floor p = floor ≤ n * 16777216
+Rightly s n (suc m) floor p = Right (key (linkAt s p)) n floor × Rightly s n m (key (linkAt s p) + 1) (p + 5)
+
+-- whole links stand from place p up to place q
+abbrev pub Whole : ℕ → ℕ → Type 0
+Whole p q = (m : ℕ) × (p + 5 * m ≡ q)
 
 -- m links from place p on are read
 abbrev pub AllRead : List ℕ → ℕ → ℕ → ℕ → ℕ → Type 0

@@ -3,12 +3,12 @@
 ghost use mathlib.Core.Path.{_≡_};
 ghost use mathlib.Core.Bool.{true, false};
 ghost use mathlib.Core.Option.{Option};
-ghost use Prim.Native.Nat.{_+_, _*_, _≤_, _<_};
+ghost use Prim.Native.Nat.{ℕ, _+_, _*_, _≤_, _<_};
 ghost use lib.ListN.{length};
 ghost use Rattle.meaning.specs.Bytes.{number};
 ghost use Rattle.meaning.specs.Register.{Link, linkAt, readLink};
 ghost use Rattle.meaning.specs.Bounds.{mostItems, mostLinks};
-ghost use Rattle.links.specs.Links.{key, Floor, paperLink, keyed, Passed, Right, AllRead, cutAt};
+ghost use Rattle.links.specs.Links.{key, Floor, paperLink, keyed, Passed, Right, Rightly, Whole, AllRead, cutAt};
 
 // A link that was read: the least number that the next one may have; or the number and place of its fault.
 pub enum Linked {
@@ -96,15 +96,11 @@ pub fn key_at(s: &[u8], at: usize) -> usize
     four(s, at) * 256 + fields::one(s, at + 4)
 }
 
-// Whether something is wrong with a link that has this number.
+// Whether something is wrong with a link that has this number, but for the item that it leads from.
 fn wrong(number: usize, items: usize, floor: usize) -> bool
-    requires { ⌜ items ≤ mostItems ⌝ }
     ensures { λ r. ⌜ (r ≡ false → Right number items floor) ⌝ }
 {
     if number < floor {
-        return true;
-    }
-    if items * 16777216 <= number {
         return true;
     }
     if items <= number % 65536 {
@@ -113,33 +109,60 @@ fn wrong(number: usize, items: usize, floor: usize) -> bool
     meaning::MOST_ROLE < number / 65536 % 256
 }
 
-// Whether all links are right, by their numbers alone: each is read in one load of four bytes and one of one, a turn before it is tested (so that the
-// compiler keeps the load whole).
+// Whether the links from `place` up to `behind` are right, by their numbers; the first must have at least the number `floor`. The numbers rise, so all
+// lead from one of the items where the last one does.
+fn right_from(s: &[u8], items: usize, place: usize, behind: usize, floor: usize) -> bool
+    requires { ⌜ (behind ≤ length (now s)) × (items ≤ mostItems) × Whole place behind ⌝ }
+    ensures { λ r. ⌜ (r ≡ true → (m : ℕ) → place + 5 * m ≡ behind → Rightly (now (s .entry)) items m floor place) ⌝ }
+{
+    let mut at = place;
+    let mut least = floor;
+    while at < behind {
+        let number = four(s, at) * 256 + fields::one(s, at + 4);
+        if wrong(number, items, least) {
+            return false;
+        }
+        least = number + 1;
+        at += 5;
+    }
+    least <= items * 16777216
+}
+
+// Whether all links are right, by their numbers alone: two in a turn, each read in one load of four bytes and one of one, a turn before they are tested
+// (so that the compiler keeps the load whole).
 pub fn quick_links(s: &[u8], end: usize, items: usize, links: usize, start: usize) -> bool
     requires { ⌜ (start ≤ end) × (end ≤ length (now s)) × (items ≤ mostItems) × (links ≤ mostLinks) ⌝ }
     ensures { λ r. ⌜ (r ≡ true → AllRead (now (s .entry)) end items links start) ⌝ }
 {
-    if end - start < 5 {
-        return links == 0;
+    if end - start < 5 * links {
+        return false;
     }
-    let mut i = 0;
+    let behind = start + 5 * links;
+    if links < 4 {
+        return right_from(s, items, start, behind, 0);
+    }
+    let stop = behind - 15;
     let mut at = start;
     let mut floor = 0;
     let mut front = four(s, start);
     let mut last = fields::one(s, start + 4);
-    while i < links {
+    let mut next_front = four(s, start + 5);
+    let mut next_last = fields::one(s, start + 9);
+    while at < stop {
         let number = front * 256 + last;
         if wrong(number, items, floor) {
             return false;
         }
-        floor = number + 1;
-        i += 1;
-        at += 5;
-        if end - at < 5 {
-            return i == links;
+        let next = next_front * 256 + next_last;
+        if wrong(next, items, number + 1) {
+            return false;
         }
+        floor = next + 1;
+        at += 10;
         front = four(s, at);
         last = fields::one(s, at + 4);
+        next_front = four(s, at + 5);
+        next_last = fields::one(s, at + 9);
     }
-    true
+    right_from(s, items, at, behind, floor)
 }

@@ -28,15 +28,14 @@ returns c =
     let start = at-shared-slice-known .before in
     let b = bytes-known (start .args .s .now) (at-shared-slice-known .shared-slice-known .given) in
     let a = start .pre .0 in
-    let w = at-note-ends .note-ends .ensures .0 (a .register) (a .read) in
     record {
       register = a .register;
       read = a .read;
       items-are = a .holds .0;
       most = omega (arith, image-fits (start .args .s .now) (a .register) b (a .read) .0 .items, a .holds .0);
       room = omega (arith, start .pre .1 .0, at-raise .raise .kept .1 .0, at-note-ends .note-ends .kept .1 .1 .1 .0);
-      indexed = begins-all (start .args .s .now) b (a .register) (a .read) _ _
-          _ (at-note-ends .note-ends .ensures .1) (rw (a .holds .1) at w) (at-raise .raise .ensures);
+      indexed = begins-all (start .args .s .now) b (a .register) (a .read) _ _ _
+          (rw (a .holds .1) at (at-note-ends .note-ends .ensures)) (at-raise .raise .ensures);
     }
 
 pub fill-index-spec : {M : Type 1} → statement M

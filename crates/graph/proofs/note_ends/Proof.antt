@@ -1,23 +1,82 @@
 use Rattle.graph.proofs.note_ends.Statement.{statement}
 use Rattle.graph.proofs.note_ends.Tie as tie
 use mathlib.Core.Path.{_≡_, refl, _∙_}
-use Prim.Native.Nat.{ℕ, _+_, _-_, _≤_}
+use Prim.Native.Nat.{ℕ, _+_, _-_, _≤_, _<_}
 use native.Mathlib.Omega.{arith}
-use lib.ListN.{length, getD, length-set}
-use lib.Seq.{getD-set-other}
+use lib.ListN.{length, set, length-set}
 use Rattle.meaning.proofs.Image.{image-fits}
+use Rattle.meaning.specs.Bounds.{mostItems, mostLinks}
 use Rattle.fields.proofs.Known.{bytes-known}
 use Rattle.register.specs.Image.{Image}
-use Rattle.graph.proofs.Index.{Noted, noted-none, noted-more}
+use Rattle.graph.specs.Judged.{Noted, startNo}
+use Rattle.graph.proofs.Index.{noted-none, noted-two}
+use Rattle.graph.proofs.Use.{asked-link}
 use borrow.Author.Needs.{needs}
 
+-- the items that the two links at k lead from are read, and the links before are noted
 abbrev Inv-loop : tie.InvT-loop
-Inv-loop s items links index₀ k₀ index k =
-    (length index ≡ length index₀) × (k ≤ links) × (getD index 0 0 ≡ 0) × Image s (λ g. Noted g items k index)
+Inv-loop s items links index₀ stop k₀ from₀ next₀ index k from next =
+    (length index ≡ length index₀) × (items < length index) × (items ≤ mostItems) × (links ≤ mostLinks) × (k + 2 ≤ links) × (from < items) × (next < items)
+    × Image s (λ g. from ≡ startNo g k) × Image s (λ g. next ≡ startNo g (k + 1)) × Noted s items k index
 
 abbrev μ-loop : tie.MeasureT-loop
-μ-loop s items links index₀ k₀ index k =
+μ-loop s items links index₀ stop k₀ from₀ next₀ index k from next =
     links - k
+
+note-rest-requires : tie.Need-note-rest-requires Inv-loop μ-loop
+note-rest-requires c κs =
+    let start = c .before .before .before .before in
+    (start .pre .0, (start .pre .1 .0, omega arith, noted-none _ _ (start .args .index .now) (start .pre .1 .1)))
+
+loop-holds : tie.Need-loop-holds Inv-loop μ-loop
+loop-holds c =
+    let known = c .before .before .before .before in
+    let start = known .before in
+    let a = start .pre .0 in
+    let fits = image-fits (start .args .s .now) (a .register) (bytes-known (start .args .s .now) (known .shared-slice-known .given)) (a .read) .0 in
+    let from = c .before .from-of .ensures in
+    let next = c .from-of2 .ensures in (
+      refl,
+      start .pre .1 .0,
+      omega (arith, fits .items, a .holds .0),
+      omega (arith, fits .few, a .holds .1),
+      omega arith,
+      omega (arith, from (a .register) (a .read) .1, a .holds .0),
+      omega (arith, next (a .register) (a .read) .1, a .holds .0),
+      λ g h. from g h .0,
+      λ g h. next g h .0,
+      noted-none _ _ (start .args .index .now) (start .pre .1 .1),
+    )
+
+loop-again : tie.Need-loop-again Inv-loop μ-loop
+loop-again c =
+    let at-loop = c .before .before .before in
+    let start = at-loop .before .before .before .before .before .before in
+    let a = start .pre .0 in
+    let l = at-loop .loop .inv in
+    let from = c .before .from-of3 .ensures in
+    let next = c .from-of4 .ensures in
+    let at = at-loop .loop .from + 1 in
+    let then = at-loop .loop .next + 1 in
+    let k = at-loop .loop .k in
+    let size = length-set (set (at-loop .loop .index) at (k + 1)) then (k + 2) ∙ length-set (at-loop .loop .index) at (k + 1) in (
+      size ∙ l .0,
+      omega (arith, size, l .1),
+      l .2,
+      l .3,
+      omega arith,
+      omega (arith, from (a .register) (a .read) .1, a .holds .0),
+      omega (arith, next (a .register) (a .read) .1, a .holds .0),
+      λ g h. from g h .0,
+      λ g h. next g h .0,
+      noted-two _ _ k _ _ (at-loop .loop .index) (l .7) (l .8) (omega (arith, l .1, l .5)) (omega (arith, l .1, l .6)) (l .9),
+    )
+
+note-rest-requires-2 : tie.Need-note-rest-requires-2 Inv-loop μ-loop
+note-rest-requires-2 c κs =
+    let at-loop = c .before .before in
+    let l = at-loop .loop .inv in
+    (at-loop .before .before .before .before .before .before .pre .0, (l .1, omega arith, l .9))
 
 pub note-ends-spec : {M : Type 1} → statement M
 note-ends-spec =
@@ -25,41 +84,31 @@ note-ends-spec =
     (tie.spec
     Inv-loop
     μ-loop
-    (λ c. (refl, omega arith, c .before .before .pre .1 .1 0, λ g h. noted-none g (c .before .before .args .items) (c .before .before .args .index .now) (c .before .before .pre .1 .1)))
-    (λ c κs.
-    let start = c .before .before .before .before in
-    record { register = start .pre .0 .register; read = start .pre .0 .read; holds = (start .pre .0 .holds .0, omega (arith, start .pre .0 .holds .1)) })
-    (λ c.
-    let start = c .before .before .before .before .before in
-    omega (arith, c .from-of .ensures (start .pre .0 .register) (start .pre .0 .read) .1, start .pre .0 .holds .0))
+    note-rest-requires
+    (λ c. search needs)
+    (λ c. search needs)
+    (λ c. search needs)
+    (λ c κs. asked-link (c .before .before .before .pre .0) 0 (omega arith))
+    (λ c κs. asked-link (c .before .before .before .before .pre .0) 1 (omega arith))
+    loop-holds
+    (λ c. search needs)
+    (λ c. search needs)
+    (λ c. search needs)
+    (λ c. search needs)
+    (λ c. search needs)
+    (λ c. search needs)
+    (λ c. search needs)
+    (λ c. search needs)
     (λ c. search needs)
     (λ c.
-    let at-shared-slice-known = c .before .before .before .before in
-    let start = at-shared-slice-known .before in
-    omega (
-      arith,
-      image-fits (start .args .s .now) (start .pre .0 .register) (bytes-known (start .args .s .now) (at-shared-slice-known .shared-slice-known .given))
-          (start .pre .0 .read) .0 .few,
-      start .pre .0 .holds .1,
-    ))
-    (λ c.
-    let start = c .before .before .before .before .before in
-    omega (arith, c .from-of .ensures (start .pre .0 .register) (start .pre .0 .read) .1, start .pre .0 .holds .0))
-    (λ c.
-    let at-loop = c .before .before in
-    let start = at-loop .before .before .before in
-    omega (arith, c .from-of .ensures (start .pre .0 .register) (start .pre .0 .read) .1, start .pre .0 .holds .0, at-loop .loop .inv .0))
+    let at-loop = c .before in
+    let l = at-loop .loop .inv in
+    omega (arith, length-set (at-loop .loop .index) (at-loop .loop .from + 1) (at-loop .loop .k + 1), l .1, l .6))
+    (λ c κs. asked-link (c .before .before .before .before .before .before .before .pre .0) _ (omega arith))
     (λ c. search needs)
-    (λ c.
-    let at-loop = c .before .before in
-    let start = at-loop .before .before .before in
-    let l = c .from-of .ensures (start .pre .0 .register) (start .pre .0 .read) .1 in (
-      length-set (at-loop .loop .index) _ _ ∙ at-loop .loop .inv .0,
-      omega arith,
-      getD-set-other (at-loop .loop .index) _ 0 _ 0 (λ e. let z : 0 ≡ c .from-of .result + 1 = e in omega arith)
-          ∙ at-loop .loop .inv .2,
-      λ g h. noted-more g (start .args .items) (at-loop .loop .k) (c .from-of .result) (at-loop .loop .index) (c .from-of .ensures g h .0)
-          (omega (arith, l, start .pre .0 .holds .0, at-loop .loop .inv .0)) (at-loop .loop .inv .3 g h),
-    ))
-    (λ c. c .before .loop .inv .0)
-    (λ c. ((λ g h. let e : c .before .loop .k ≡ c .before .before .before .before .args .links = omega arith in rw e at (c .before .loop .inv .3 g h)), c .before .loop .inv .2)))
+    (λ c κs. asked-link (c .before .before .before .before .before .before .before .before .pre .0) _ (omega arith))
+    (λ c. search needs)
+    loop-again
+    note-rest-requires-2
+    (λ c. search needs)
+    (λ c. search needs))

@@ -18,11 +18,7 @@ returns-2 c =
 
 returns-3 : tie.Need-returns-3
 returns-3 c =
-    λ h. absurd (let z : _≡_ {A = ℕ} 0 1 = cc in omega arith)
-
-returns-4 : tie.Need-returns-4
-returns-4 c =
-    λ h. (omega arith, omega arith, omega arith, ltb-false _ _ h)
+    λ h. (omega arith, omega arith, ltb-false _ _ h)
 
 pub wrong-spec : {M : Type 1} → statement M
-wrong-spec = tie.close (tie.spec returns (λ c. search needs) returns-2 returns-3 returns-4)
+wrong-spec = tie.close (tie.spec returns returns-2 returns-3)
