@@ -128,8 +128,8 @@ fn right_from(s: &[u8], items: usize, place: usize, behind: usize, floor: usize)
     least <= items * 16777216
 }
 
-// Whether all links are right, by their numbers alone: two in a turn, each read in one load of four bytes and one of one, a turn before they are tested
-// (so that the compiler keeps the load whole).
+// Whether all links are right, by their numbers alone: two in a turn, each read in one load of four bytes, a turn before it is tested (so that the compiler
+// keeps the load whole), and one of one.
 pub fn quick_links(s: &[u8], end: usize, items: usize, links: usize, start: usize) -> bool
     requires { ⌜ (start ≤ end) × (end ≤ length (now s)) × (items ≤ mostItems) × (links ≤ mostLinks) ⌝ }
     ensures { λ r. ⌜ (r ≡ true → AllRead (now (s .entry)) end items links start) ⌝ }
@@ -145,24 +145,20 @@ pub fn quick_links(s: &[u8], end: usize, items: usize, links: usize, start: usiz
     let mut at = start;
     let mut floor = 0;
     let mut front = four(s, start);
-    let mut last = fields::one(s, start + 4);
     let mut next_front = four(s, start + 5);
-    let mut next_last = fields::one(s, start + 9);
     while at < stop {
-        let number = front * 256 + last;
+        let number = front * 256 + fields::one(s, at + 4);
         if wrong(number, items, floor) {
             return false;
         }
-        let next = next_front * 256 + next_last;
+        let next = next_front * 256 + fields::one(s, at + 9);
         if wrong(next, items, number + 1) {
             return false;
         }
         floor = next + 1;
         at += 10;
         front = four(s, at);
-        last = fields::one(s, at + 4);
         next_front = four(s, at + 5);
-        next_last = fields::one(s, at + 9);
     }
     right_from(s, items, at, behind, floor)
 }

@@ -225,7 +225,7 @@ fn drawn_with(
     d
 }
 
-// The degree of one item in the tree at a node, and its map. Only as many notes are made as a small or a large register wants.
+// The degree of one item in the tree at a node, and its map. Only as many notes are made as a register of its size wants.
 pub fn shown_at(
     s: &[u8],
     items: usize,
@@ -246,6 +246,21 @@ pub fn shown_at(
 {
     if links <= 512 {
         return shown_small(
+            s,
+            items,
+            links,
+            names,
+            roles,
+            ends,
+            marks,
+            node,
+            left,
+            item,
+            map,
+        );
+    }
+    if links <= 2048 {
+        return shown_middle(
             s,
             items,
             links,
@@ -306,6 +321,42 @@ fn shown_small(
         left,
         item,
         &mut notes[..512],
+        map,
+    )
+}
+
+// The same in a register of at most 2048 links.
+fn shown_middle(
+    s: &[u8],
+    items: usize,
+    links: usize,
+    names: &[u64; 64],
+    roles: &[u8; 64],
+    ends: &[u8; 64],
+    marks: &[u8; 64],
+    node: usize,
+    left: usize,
+    item: usize,
+    map: &mut [u16],
+) -> Degree
+    requires { ⌜ Gradable (OfSize (now s) items links) (now names) (now roles) (now ends) (now marks) node left ⌝ }
+    requires { ⌜ (getD (now ends) node 0 ≤ length (now map)) × (item < items) × (links ≤ 2048) ⌝ }
+    ensures { λ r. ⌜ ((k : Gradable (OfSize (now (s .entry)) items links) (now (names .entry)) (now (roles .entry)) (now (ends .entry)) (now (marks .entry)) node left)
+        → Graded (k .posed .graph .register) (k .tree) item r × (now (map .exit) ≡ drawn (k .posed .graph .register) (k .tree) node (some item) (now (map .entry)))) ⌝ }
+{
+    let mut notes = [0u64; 2048];
+    drawn_with(
+        s,
+        items,
+        links,
+        names,
+        roles,
+        ends,
+        marks,
+        node,
+        left,
+        item,
+        &mut notes[..2048],
         map,
     )
 }

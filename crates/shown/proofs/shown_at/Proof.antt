@@ -14,7 +14,12 @@ shown-at-spec =
     (λ c. search needs)
     (λ c. c .before .before .shown-small .ensures)
     (λ c κs.
-    let at-shared-slice-known = c .before .before .before in
+    let start = c .before .before .before .before .before in
+    (start .pre .0, (start .pre .1 .0, start .pre .1 .1, c .before .if2 .taken)))
+    (λ c. search needs)
+    (λ c. c .before .before .shown-middle .ensures)
+    (λ c κs.
+    let at-shared-slice-known = c .before .before .before .before in
     let start = at-shared-slice-known .before in
     let few = sizes-fit (start .pre .0 .posed .graph) (bytes-known (start .args .s .now) (at-shared-slice-known .shared-slice-known .given)) .1 in
     (start .pre .0, (start .pre .1 .0, start .pre .1 .1, few)))
