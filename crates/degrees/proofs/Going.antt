@@ -22,8 +22,8 @@ use Rattle.degrees.specs.Room.{Lent}
 use Rattle.degrees.specs.Notes.{flag}
 use Rattle.heaviest.specs.Heavy.{Stands}
 use Rattle.degrees.specs.Headed.{Headed}
-use Rattle.degrees.specs.Given.{rowAt, Kept, Done, Below, sumWith, Folding, Folded}
-use Rattle.degrees.proofs.Room.{room-two, room-next}
+use Rattle.degrees.specs.Given.{rowAt, Kept, Done, Below, Standing, sumWith, Folding, Folded}
+use Rattle.degrees.proofs.Room.{room-two, room-low, room-next}
 use Rattle.heaviest.proofs.Stands.{Place, stands-place, stands-apart}
 use Rattle.degrees.proofs.Folding.{Rest, Child, head, given, rest-at, rest-skip, rest-pass, rest-child, rest-next, whole-fits, whole-other}
 use Rattle.degrees.proofs.Noted.{Entered, entered-start, entered-pass, entered-clear, entered-next, entered-end, noted-node}
@@ -158,7 +158,7 @@ module _ {s : List ℕ} {items : ℕ} {index names roles ends marks : List ℕ} 
             (omega (arith, m, o .other)) in
             omega (arith, size, low .behind, low .inside, own .inside, own .within)
 
-    pub child-two : at + 512 + 512 ≤ 3072
+    pub child-two : at + 512 + 512 ≤ 3584
     child-two = omega (arith, room-two (h .room) (omega (arith, half, inside (o .below) .0)), h .room .size-is)
 
     pub child-lent : Lent items set notes numbers ends c (at + 512)
@@ -166,25 +166,35 @@ module _ {s : List ℕ} {items : ℕ} {index names roles ends marks : List ℕ} 
       members = h .members;
       clear = λ j i p q. empty j i (omega arith) q;
       room = rw (w .size) (room-next (h .room) (getD ends c 0 - c) half);
+      ones = λ x l. w .kept x (omega (arith, room-low (h .room))) ∙ h .ones x l;
     }
 
     -- it is worked out
-    module _ (role scale : ℕ) (mid ys : List ℕ) (er : role ≡ getD roles c 0)
-        (reached : (j : Gradable (Judged s items index) names roles ends marks c (left - 1)) → Done j (Below (graph j) set (getD roles c 0)) (at + 512) scale notes mid numbers ys) where
-      abbrev d : Done child-asked (Below (graph k) set (getD roles c 0)) (at + 512) scale notes mid numbers ys
+    module _ (role from scale : ℕ) (mid ys : List ℕ) (er : role ≡ getD roles c 0)
+        (reached : (j : Gradable (Judged s items index) names roles ends marks c (left - 1)) → Done j (Below (graph j) set (getD roles c 0)) (at + 512) from scale notes mid numbers ys)
+        (standing : Standing (at + 512) from) where
+      abbrev d : Done child-asked (Below (graph k) set (getD roles c 0)) (at + 512) from scale notes mid numbers ys
       d = reached child-asked
 
       pub child-product : product * scale ≤ mostScale
       child-product = rw (d .worked .scaled) (le-trans (child .scale-fits) (k .small))
 
       -- the sums stand as they did
-      same-sum : (x : ℕ) → Member set x → sumWith (graph k) ys role (at + 512) at scale product x
+      same-sum : (x : ℕ) → Member set x → sumWith (graph k) ys role from at scale product x
           ≡ rowAt numbers at x * scaleIn (child .tree) + given roles (graph k) c (child .tree) x * product
       same-sum x m =
           let stays : rowAt ys at x ≡ rowAt numbers at x = d .kept (at + x) (let q = h .members .1 x m in let r = k .posed .graph .most in omega arith) in
-          rw (stays, d .worked .scaled, reach-best child-asked set role (at + 512) scale notes mid numbers ys er d x m)
+          rw (stays, d .worked .scaled, reach-best child-asked set role (at + 512) from scale notes mid numbers ys er d x m)
 
-      pub child-folding : length ys ≡ length numbers → Folding s items index set mid ys role c (at + 512) at scale product × Items items set
+      -- the child's numbers stand before the sums or behind them
+      beside : (from + 512 ≤ at + 512 + 512) × ((from + 512 ≤ at) ⊎ (at + 512 ≤ from))
+      beside = go standing
+        where
+          go : Standing (at + 512) from → (from + 512 ≤ at + 512 + 512) × ((from + 512 ≤ at) ⊎ (at + 512 ≤ from))
+          go (inl e) = (omega arith, inl (omega (arith, room-low (h .room))))
+          go (inr e) = (omega arith, inr (omega arith))
+
+      pub child-folding : length ys ≡ length numbers → Folding s items index set mid ys role c from at scale product × Items items set
       child-folding es = (
         record {
           graph = k .posed .graph;
@@ -192,15 +202,15 @@ module _ {s : List ℕ} {items : ℕ} {index names roles ends marks : List ℕ} 
           clear = λ i. d .outside c i (inl (omega arith)) ∙ empty c i (omega arith) (inside (o .below) .0);
           inside = let l = o .below in let q = k .posed .few in omega arith;
           short = omega (arith, w .size, h .room .size-is);
-          from-fits = omega (arith, w .size, h .room .size-is, child-two);
+          from-fits = omega (arith, beside .0, w .size, h .room .size-is, child-two);
           to-fits = omega (arith, w .size, h .room .size-is, child-two);
-          apart = inr (omega arith);
+          apart = beside .1;
         },
         h .members,
       )
 
       pub child-next : (j : ℕ) → j ≡ getD ends c 0 → (new zs : List ℕ) → length mid ≡ length notes → length ys ≡ length numbers → length new ≡ length mid
-          → length zs ≡ length ys → ((g : Judged s items index) → Folded (g .register) set mid new ys zs role c (at + 512) at scale product) → Next new zs (n + 1) (product * scale) j
+          → length zs ≡ length ys → ((g : Judged s items index) → Folded (g .register) set mid new ys zs role c from at scale product) → Next new zs (n + 1) (product * scale) j
       child-next j ej new zs sm sy sn sz done =
           let f = done (k .posed .graph) in record {
             headed = h;
@@ -208,7 +218,7 @@ module _ {s : List ℕ} {items : ℕ} {index names roles ends marks : List ℕ} 
             some = omega arith;
             rest = rest-at ej (rw (d .worked .scaled) (child .then (rowAt zs at) (λ x m. f .sums x m ∙ same-sum x m)));
             entered = entered-next _ _ _ _ _ _ _ _ _ _ _ _ _ _ _ (w .entered) (o .below) (o .other) j ej (child .tree) (child .held) mid new sm sn (d .outside) (f .outside)
-                (λ x m. reach-one child-asked set role (at + 512) scale notes mid numbers ys er d x m new sn (f .outside) (f .noted x m));
+                (λ x m. reach-one child-asked set role (at + 512) from scale notes mid numbers ys er d x m new sn (f .outside) (f .noted x m));
             kept = λ i q. f .kept i q ∙ d .kept i (omega arith) ∙ w .kept i q;
             long = sn ∙ sm ∙ w .long;
             size = sz ∙ sy ∙ w .size;
@@ -222,7 +232,7 @@ module _ {s : List ℕ} {items : ℕ} {index names roles ends marks : List ℕ} 
     pub going-fits : n * product ≤ mostScale
     going-fits = le-trans (whole-fits (w .rest) behind) (k .small)
 
-    pub going-done : (j : Gradable (Judged s items index) names roles ends marks node left) → Done j (Member set) at (n * product) notes₀ notes numbers₀ numbers
+    pub going-done : (j : Gradable (Judged s items index) names roles ends marks node left) → Done j (Member set) at at (n * product) notes₀ notes numbers₀ numbers
     going-done =
         let q = whole-other (w .rest) behind (λ z. let y : n ≡ 0 = z in let x = w .some in omega arith) in
         done-for k (record {

@@ -5,7 +5,7 @@ use mathlib.Core.Bool.{true}
 use mathlib.Core.Logic.{inl, inr}
 use mathlib.Core.List.{List}
 use Prim.Native.Nat.{ℕ, _+_, _-_, _*_, _≤_, _<_, max}
-use native.Mathlib.Nat.{le-trans}
+use native.Mathlib.Nat.{le-trans, zero-add}
 use native.Mathlib.Omega.{arith}
 use lib.Count.{ones-ones}
 use lib.ListN.{length, getD}
@@ -23,12 +23,12 @@ use Rattle.register.specs.Image.{Asked, Image}
 use Rattle.graph.specs.Judged.{Judged}
 use Rattle.graph.proofs.Use.{next-inside}
 use Rattle.degrees.specs.Gradable.{Gradable, Member, Items}
-use Rattle.degrees.specs.Room.{Lent}
+use Rattle.degrees.specs.Room.{Ones, Lent}
 use Rattle.degrees.specs.Notes.{Outside}
 use Rattle.heaviest.specs.Heavy.{Stands, Heavy}
 use Rattle.degrees.specs.Headed.{Headed}
-use Rattle.degrees.specs.Given.{rowAt, Kept, Done, Below, Folding, Folded}
-use Rattle.degrees.proofs.Room.{room-two, room-fewer}
+use Rattle.degrees.specs.Given.{rowAt, Kept, Done, Below, Standing, Folding, Folded}
+use Rattle.degrees.proofs.Room.{room-two, room-low, room-fewer}
 use Rattle.heaviest.proofs.Stands.{Place}
 use Rattle.degrees.proofs.But.{mark-zero}
 use Rattle.degrees.proofs.Folding.{Head, head, given}
@@ -59,10 +59,10 @@ module _ {s : List ℕ} {items : ℕ} {index names roles ends marks : List ℕ} 
         let z : many a + 0 ≡ many a = omega arith in
         rw (same, q .0, q .1, z) (omega arith, λ x. rw (q .2 x) (ap (orOne (many a)) (omega arith)))
 
-    pub alone-done : (X : ℕ → Type 0) (at scale : ℕ) (notes numbers out : List ℕ) → scale ≡ max 1 (many (getD names node 0))
-        → Image s (λ g. (x : ℕ) → X x → rowAt out at x ≡ orOne (many (getD names node 0)) (common (getD names node 0) (judged g .names x)))
-        → Kept at numbers out → (j : Gradable (Judged s items index) names roles ends marks node left) → Done j X at scale notes notes numbers out
-    alone-done X at scale notes numbers out es eo kept =
+    pub alone-done : (X : ℕ → Type 0) (at from scale : ℕ) (notes numbers out : List ℕ) → scale ≡ max 1 (many (getD names node 0))
+        → Image s (λ g. (x : ℕ) → X x → rowAt out from x ≡ orOne (many (getD names node 0)) (common (getD names node 0) (judged g .names x)))
+        → Kept at numbers out → (j : Gradable (Judged s items index) names roles ends marks node left) → Done j X at from scale notes notes numbers out
+    alone-done X at from scale notes numbers out es eo kept =
         let q = alone-is (k .tree) (k .posed .held) (k .marked) (h .none refl) in
         done-for k (record {
           worked = record { scaled = es ∙ q .0; each = λ x m. eo (k .posed .graph .register) (k .posed .graph .read) x m ∙ q .1 x };
@@ -79,19 +79,19 @@ module _ {s : List ℕ} {items : ℕ} {index names roles ends marks : List ℕ} 
   childless none i e c u h l q = q
   childless (more r (rooted a g) f) i e c u h l q = omega (arith, h .1, h .2 .1)
 
-  -- it is worth 1 everywhere
-  pub empty-done : Bytes s → (set : List ℕ) (at scale : ℕ) (notes numbers out : List ℕ) → getD names node 0 ≡ 0 → getD ends node 0 ≡ node + 1 → scale ≡ 1
-      → ((x : ℕ) → x < 512 → rowAt out at x ≡ 1) → Kept at numbers out
-      → (j : Gradable (Judged s items index) names roles ends marks node left) → Done j (Below (graph j) set (getD roles node 0)) at scale notes notes numbers out
-  empty-done b set at scale notes numbers out bare′ ee es eo kept j =
+  -- it is worth 1 everywhere, which row 0 says
+  pub empty-done : Bytes s → (set : List ℕ) (at : ℕ) (notes numbers : List ℕ) → getD names node 0 ≡ 0 → getD ends node 0 ≡ node + 1 → Ones numbers
+      → (j : Gradable (Judged s items index) names roles ends marks node left) → Done j (Below (graph j) set (getD roles node 0)) at 0 1 notes notes numbers numbers
+  empty-done b set at notes numbers bare′ ee ones j =
       let en : many (getD names node 0) ≡ 0 = ap many bare′ ∙ ones-ones 0 in
       let heavy : Heavy ends marks (k .tree) node (getD ends node 0) = record {
         none = λ e c u q. absurd (childless (children (k .tree)) (node + 1) (getD ends node 0) c u (rows k) (omega arith) q);
         some = λ d. absurd (d refl);
         most = λ d. absurd (d refl);
       } in
-      alone-done heavy (Below (graph j) set (getD roles node 0)) at scale notes numbers out (es ∙ rw en refl)
-      (λ g h x m. eo x (omega (arith, next-inside (j .posed .graph) b (m .0) (getD roles node 0) x (m .2), j .posed .graph .most)) ∙ rw en refl) kept j
+      alone-done heavy (Below (graph j) set (getD roles node 0)) at 0 1 notes numbers numbers (rw en refl)
+      (λ g h x m. let few : x < 512 = omega (arith, next-inside (j .posed .graph) b (m .0) (getD roles node 0) x (m .2), j .posed .graph .most) in
+      ap (λ (z : ℕ). getD numbers z 0) (zero-add x) ∙ ones x few ∙ rw en refl) (λ i l. refl) j
 
   -- ---- the heaviest child, where one is kept
 
@@ -129,28 +129,36 @@ module _ {s : List ℕ} {items : ℕ} {index names roles ends marks : List ℕ} 
         members = lent .members;
         clear = λ j l a b. lent .clear j l (omega (arith, place .behind)) (omega (arith, place .within));
         room = room-fewer (lent .room) (getD ends heavy 0 - heavy) (omega (arith, place .behind, place .within));
+        ones = lent .ones;
       }
 
-      pub first-two : at + 512 + 512 ≤ 3072
+      pub first-two : at + 512 + 512 ≤ 3584
       first-two = omega (arith, room-two (lent .room) (omega (arith, place .behind, place .inside, place .within)), lent .room .size-is)
 
       -- it is worked out
-      module _ (role scale : ℕ) (mid ys : List ℕ) (er : role ≡ getD roles heavy 0)
-          (reached : (j : Gradable (Judged s items index) names roles ends marks heavy (left - 1)) → Done j (Below (graph j) set (getD roles heavy 0)) at scale notes mid numbers ys)
-          (sy : length ys ≡ length numbers) where
-        abbrev d : Done first-asked (Below (graph k) set (getD roles heavy 0)) at scale notes mid numbers ys
+      module _ (role from scale : ℕ) (mid ys : List ℕ) (er : role ≡ getD roles heavy 0)
+          (reached : (j : Gradable (Judged s items index) names roles ends marks heavy (left - 1)) → Done j (Below (graph j) set (getD roles heavy 0)) at from scale notes mid numbers ys)
+          (standing : Standing at from) (sy : length ys ≡ length numbers) where
+        abbrev d : Done first-asked (Below (graph k) set (getD roles heavy 0)) at from scale notes mid numbers ys
         d = reached first-asked
 
         abbrev shared : ℕ → ℕ
         shared x = common (getD names node 0) (graph k .names x)
 
-        reach-part : (x : ℕ) → Member set x → best (rowAt ys at) (graph k .next x role) ≡ given roles (graph k) heavy child x
-        reach-part x m = reach-best first-asked set role at scale notes mid numbers ys er d x m
+        low : from ≤ at
+        low = go standing
+          where
+            go : Standing at from → from ≤ at
+            go (inl e) = omega arith
+            go (inr e) = omega arith
+
+        reach-part : (x : ℕ) → Member set x → best (rowAt ys from) (graph k .next x role) ≡ given roles (graph k) heavy child x
+        reach-part x m = reach-best first-asked set role at from scale notes mid numbers ys er d x m
 
         fits : (x : ℕ) → shared x * scale + given roles (graph k) heavy child x * 1 < 4294967296
         fits x = let q = top .sum-fits x in let l = k .small in rw (d .worked .scaled) (omega arith)
 
-        pub first-folding : Folding s items index set mid ys role heavy at (at + 512) 0 1 × Items items set
+        pub first-folding : Folding s items index set mid ys role heavy from (at + 512) 0 1 × Items items set
         first-folding = (
           record {
             graph = k .posed .graph;
@@ -158,17 +166,17 @@ module _ {s : List ℕ} {items : ℕ} {index names roles ends marks : List ℕ} 
             clear = λ l. d .outside heavy l (inl (omega arith)) ∙ lent .clear heavy l (omega (arith, place .behind)) (omega (arith, place .inside, place .within));
             inside = first-low;
             short = omega (arith, lent .room .size-is);
-            from-fits = omega (arith, first-two, lent .room .size-is);
+            from-fits = omega (arith, low, first-two, lent .room .size-is);
             to-fits = omega (arith, first-two, lent .room .size-is);
-            apart = inl (omega arith);
+            apart = inl (omega (arith, low));
           },
           lent .members,
         )
 
         -- its part stands in the next row, and it is noted
-        module _ (new zs : List ℕ) (folded : (g : Judged s items index) → Folded (g .register) set mid new ys zs role heavy at (at + 512) 0 1)
+        module _ (new zs : List ℕ) (folded : (g : Judged s items index) → Folded (g .register) set mid new ys zs role heavy from (at + 512) 0 1)
             (sn : length new ≡ length mid) (sz : length zs ≡ length ys) where
-          abbrev part : Folded (k .posed .graph .register) set mid new ys zs role heavy at (at + 512) 0 1
+          abbrev part : Folded (k .posed .graph .register) set mid new ys zs role heavy from (at + 512) 0 1
           part = folded (k .posed .graph)
 
           part-is : (x : ℕ) → Member set x → rowAt zs (at + 512) x ≡ given roles (graph k) heavy child x
@@ -190,27 +198,28 @@ module _ {s : List ℕ} {items : ℕ} {index names roles ends marks : List ℕ} 
           )
 
           -- so it is at the head of the others
-          pub first-headed : (out : List ℕ) → length out ≡ length zs
+          pub first-headed : (out : List ℕ) → length out ≡ length zs → Kept at zs out
               → Image s (λ g. (x : ℕ) → Member set x → rowAt out at x ≡ common (getD names node 0) (judged g .names x) * scale + rowAt zs (at + 512) x)
               → Headed s items index names roles ends marks node left set heavy at scale new out
-          first-headed out so sum = record {
+          first-headed out so kept sum = record {
             asked = k;
             members = lent .members;
             room = rw (so ∙ sz ∙ sy) (lent .room);
+            ones = λ x l. let m = room-low (lent .room) in kept x (omega arith) ∙ part .kept x (omega arith) ∙ d .kept x (omega arith) ∙ lent .ones x l;
             tree = child;
             stands = stands;
             kept = f .heaviest .some (f .some) .0;
             most = f .heaviest .most (f .some);
             scaled = d .worked .scaled;
             summed = λ x m. sum (k .posed .graph .register) (k .posed .graph .read) x m ∙ ap (λ (z : ℕ). shared x * scale + z) (part-is x m);
-            noted = λ x m. reach-one first-asked set role at scale notes mid numbers ys er d x m new sn (part .outside) (part .noted x m);
+            noted = λ x m. reach-one first-asked set role at from scale notes mid numbers ys er d x m new sn (part .outside) (part .noted x m);
             clear = λ j l p q w. change j l w ∙ lent .clear j l (omega arith) q;
           }
 
           -- and then the others are folded in
           pub first-done : (out last end : List ℕ) (r : ℕ) → Kept at zs out
-              → ((j : Gradable (Judged s items index) names roles ends marks node left) → Done j (Member set) at r new last out end)
-              → (j : Gradable (Judged s items index) names roles ends marks node left) → Done j (Member set) at r notes last numbers end
+              → ((j : Gradable (Judged s items index) names roles ends marks node left) → Done j (Member set) at at r new last out end)
+              → (j : Gradable (Judged s items index) names roles ends marks node left) → Done j (Member set) at at r notes last numbers end
           first-done out last end r kept done j = let o = done j in record {
             worked = o .worked;
             noted = o .noted;

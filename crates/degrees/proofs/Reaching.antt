@@ -56,8 +56,8 @@ module _ {s : List ℕ} {items : ℕ} {index names roles ends marks : List ℕ} 
   )
 
   -- what is done is so for all that is asked there
-  pub done-for : {X : ℕ → Type 0} {at scale : ℕ} {notes mid numbers ys : List ℕ} → Done k X at scale notes mid numbers ys
-      → (j : Gradable (Judged s items index) names roles ends marks node left) → Done j X at scale notes mid numbers ys
+  pub done-for : {X : ℕ → Type 0} {at from scale : ℕ} {notes mid numbers ys : List ℕ} → Done k X at from scale notes mid numbers ys
+      → (j : Gradable (Judged s items index) names roles ends marks node left) → Done j X at from scale notes mid numbers ys
   done-for d j =
       let g = one-register (k .posed .graph) (j .posed .graph .register) (j .posed .graph .read) in
       let t = holds-one names roles ends (k .tree) (j .tree) left left node (getD ends node 0) (getD ends node 0) (k .posed .held) (j .posed .held) in
@@ -65,7 +65,7 @@ module _ {s : List ℕ} {items : ℕ} {index names roles ends marks : List ℕ} 
 
   -- what is done at a set that has all that another reaches, is done where that reaches
   pub reach-done : (set in′ : List ℕ) (role at scale : ℕ) (notes mid numbers ys : List ℕ) → role ≡ getD roles node 0 → Spread graph items set role in′
-      → Done k (Member in′) at scale notes mid numbers ys → Done k (Below graph set (getD roles node 0)) at scale notes mid numbers ys
+      → Done k (Member in′) at at scale notes mid numbers ys → Done k (Below graph set (getD roles node 0)) at at scale notes mid numbers ys
   reach-done set in′ role at scale notes mid numbers ys er sp d = record {
     worked = record { scaled = d .worked .scaled; each = λ y q. d .worked .each y (inside y q) };
     noted = λ y q. d .noted y (inside y q);
@@ -76,19 +76,19 @@ module _ {s : List ℕ} {items : ℕ} {index names roles ends marks : List ℕ} 
       inside : (y : ℕ) → Below graph set (getD roles node 0) y → Member in′ y
       inside y q = sp .closed (q .0) y (q .1) (rw er (q .2))
 
-  module _ (set : List ℕ) (role at scale : ℕ) (notes mid numbers ys : List ℕ) (er : role ≡ getD roles node 0)
-      (d : Done k (Below graph set (getD roles node 0)) at scale notes mid numbers ys) (x : ℕ) (m : Member set x) where
-    agree : (y : ℕ) → List·Memᴰ y (graph .next x (getD roles node 0)) → rowAt ys at y ≡ degreeIn graph (k .tree) y
+  module _ (set : List ℕ) (role at from scale : ℕ) (notes mid numbers ys : List ℕ) (er : role ≡ getD roles node 0)
+      (d : Done k (Below graph set (getD roles node 0)) at from scale notes mid numbers ys) (x : ℕ) (m : Member set x) where
+    agree : (y : ℕ) → List·Memᴰ y (graph .next x (getD roles node 0)) → rowAt ys from y ≡ degreeIn graph (k .tree) y
     agree y q = d .worked .each y (x, m, q)
 
-    pub reach-best : best (rowAt ys at) (graph .next x role) ≡ given roles graph node (k .tree) x
-    reach-best = rw er (best-same (rowAt ys at) (λ y. degreeIn graph (k .tree) y) (graph .next x (getD roles node 0)) agree)
+    pub reach-best : best (rowAt ys from) (graph .next x role) ≡ given roles graph node (k .tree) x
+    reach-best = rw er (best-same (rowAt ys from) (λ y. degreeIn graph (k .tree) y) (graph .next x (getD roles node 0)) agree)
 
-    reach-pick : pick (rowAt ys at) (graph .next x role) ≡ pick (λ y. degreeIn graph (k .tree) y) (graph .next x (getD roles node 0))
-    reach-pick = rw er (pick-same (rowAt ys at) (λ y. degreeIn graph (k .tree) y) (graph .next x (getD roles node 0)) agree)
+    reach-pick : pick (rowAt ys from) (graph .next x role) ≡ pick (λ y. degreeIn graph (k .tree) y) (graph .next x (getD roles node 0))
+    reach-pick = rw er (pick-same (rowAt ys from) (λ y. degreeIn graph (k .tree) y) (graph .next x (getD roles node 0)) agree)
 
     -- and then it is noted
-    pub reach-one : (new : List ℕ) → length new ≡ length mid → Outside node (node + 1) mid new → Note (k .posed .graph .register) new node x (pick (rowAt ys at) (graph .next x role))
+    pub reach-one : (new : List ℕ) → length new ≡ length mid → Outside node (node + 1) mid new → Note (k .posed .graph .register) new node x (pick (rowAt ys from) (graph .next x role))
         → Note (k .posed .graph .register) new node x (pick (λ y. degreeIn graph (k .tree) y) (graph .next x (getD roles node 0)))
         × ((y : ℕ) → List·Memᴰ y (graph .next x (getD roles node 0)) → Noted ends marks (k .posed .graph .register) new (k .tree) node y)
     reach-one new size on w = (

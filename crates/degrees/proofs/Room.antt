@@ -1,11 +1,14 @@
--- Six rows of numbers are enough: a further row is taken for trees of less than half of the nodes alone.
+-- Six rows of numbers behind the one of ones are enough: a further row is taken for trees of less than half of the nodes alone.
 -- Assumes nothing.
-use mathlib.Core.Path.{_≡_, refl}
+use mathlib.Core.Path.{_≡_, refl, sym, ap, _∙_}
+use mathlib.Core.List.{List}
 use Prim.Native.Nat.{ℕ, zero, suc, _+_, _-_, _*_, _≤_, _<_}
-use native.Mathlib.Nat.{mul-le-mul-right}
+use native.Mathlib.Nat.{mul-le-mul-right, zero-add}
 use native.Mathlib.Decide.{decLt}
 use native.Mathlib.Omega.{arith}
-use Rattle.degrees.specs.Room.{doubled, Room}
+use lib.ListN.{getD}
+use Rattle.degrees.specs.Room.{doubled, Room, Ones}
+use Rattle.folds.specs.Folded.{rowAt}
 
 doubled-pos : (t : ℕ) → 0 < doubled t
 unfolding doubled
@@ -46,6 +49,10 @@ module _ {size at nodes : ℕ} (w : Room size at nodes) where
       let f : w .used < 5 = few 5 (w .used) (omega (arith, w .enough)) in
       omega (arith, w .at-is, w .size-is)
 
+  -- row 0 is not in use
+  pub room-low : 512 ≤ at
+  room-low = omega (arith, w .at-is)
+
   -- for a tree of fewer nodes
   pub room-fewer : (n : ℕ) → n ≤ nodes → Room size at n
   room-fewer n l = record {
@@ -65,6 +72,10 @@ module _ {size at nodes : ℕ} (w : Room size at nodes) where
     size-is = w .size-is;
   }
 
-pub room-start : (size nodes : ℕ) → size ≡ 3072 → nodes ≤ 64 → Room size 0 nodes
+pub room-start : (size nodes : ℕ) → size ≡ 3584 → nodes ≤ 64 → Room size 512 nodes
 unfolding doubled
 room-start size nodes e l = record { used = 0; at-is = refl; enough = omega arith; size-is = e }
+
+-- ones that were filled in from place 0 on
+pub ones-low : (numbers : List ℕ) → ((x : ℕ) → x < 512 → rowAt numbers 0 x ≡ 1) → Ones numbers
+ones-low numbers w x l = ap (λ (z : ℕ). getD numbers z 0) (sym (zero-add x)) ∙ w x l

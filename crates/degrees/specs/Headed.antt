@@ -15,7 +15,7 @@ use Rattle.meaning.specs.Shown.{pick}
 use Rattle.heaviest.specs.Heavy.{Stands, Most}
 use Rattle.graph.specs.Judged.{Judged}
 use Rattle.degrees.specs.Gradable.{Gradable, Member, Items}
-use Rattle.degrees.specs.Room.{Room}
+use Rattle.degrees.specs.Room.{Room, Ones}
 use Rattle.degrees.specs.Notes.{flag, Note, Noted}
 
 -- For each x of X: where the child u at row c goes from x is noted, and where all below it go.
@@ -29,6 +29,7 @@ pub record Headed (s : List ℕ) (items : ℕ) (index names roles ends marks : L
   pub asked : Gradable (Judged s items index) names roles ends marks node left
   pub members : Items items set
   pub room : Room (length numbers) at (getD ends node 0 - node)
+  pub ones : Ones numbers
   pub tree : Concept
   pub stands : Stands ends (children (asked .tree)) (node + 1) h tree
   pub kept : getD marks h 0 ≡ 0 → ⊥

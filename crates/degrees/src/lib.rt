@@ -1,5 +1,6 @@
 // Degrees of the items of a set in a concept tree that is held as rows, over the graph of a register image that was read: whole numbers over
-// the tree's scale. A node is worked out only at the items that its parent's items reach.
+// the tree's scale. A node is worked out only at the items that its parent's items reach. Row 0 of the numbers is all ones, for the nodes without names and
+// children, which are worth 1 at every item and are not worked out.
 use folds::ROW;
 ghost use mathlib.Core.Path.{_≡_};
 ghost use mathlib.Core.Bool.{true};
@@ -10,7 +11,13 @@ ghost use Rattle.graph.specs.Judged.{Judged};
 ghost use Rattle.degrees.specs.Gradable.{Gradable, Member, Items};
 ghost use Rattle.degrees.specs.Room.{Lent};
 ghost use Rattle.degrees.specs.Headed.{Headed};
-ghost use Rattle.degrees.specs.Given.{Worked, Done, Below};
+ghost use Rattle.degrees.specs.Given.{Worked, Done, Below, Standing};
+
+// Where a child's numbers stand, and the scale that they are over.
+pub struct Source {
+    pub from: usize,
+    pub scale: u64,
+}
 
 // The degrees of the members of a set in the tree at a node, as whole numbers over its scale, which is answered, from place `at` on; and for each
 // kept node below it, along which link it goes where its parent goes to an item. The heaviest child comes first, since only then the row at `at` is
@@ -34,13 +41,13 @@ pub fn work(
     requires { ⌜ Gradable (Judged (now s) items (now index)) (now names) (now roles) (now ends) (now marks) node left ⌝ }
     requires { ⌜ Lent items (now set) (now notes) (now numbers) (now ends) node at ⌝ }
     ensures { λ r. ⌜ ((k : Gradable (Judged (now (s .entry)) items (now (index .entry))) (now (names .entry)) (now (roles .entry)) (now (ends .entry)) (now (marks .entry)) node left)
-        → Done k (Member (now (set .entry))) at r (now (notes .entry)) (now (notes .exit)) (now (numbers .entry)) (now (numbers .exit))) ⌝ }
+        → Done k (Member (now (set .entry))) at at r (now (notes .entry)) (now (notes .exit)) (now (numbers .entry)) (now (numbers .exit))) ⌝ }
 {
     let heavy = heaviest::heaviest(ends, marks, node);
     if heavy == fields::octet(ends[node]) {
         return folds::alone(s, names[node], set, at, numbers);
     }
-    let scale = reach(
+    let child = reach(
         s,
         items,
         index,
@@ -55,6 +62,8 @@ pub fn work(
         notes,
         numbers,
     );
+    let from = child.from;
+    let scale = child.scale;
     let role = fields::octet(roles[heavy]);
     folds::fold(
         s,
@@ -63,7 +72,7 @@ pub fn work(
         role,
         heavy,
         set,
-        at,
+        from,
         at + ROW,
         0,
         1,
@@ -90,17 +99,8 @@ pub fn work(
     )
 }
 
-// A number has more than one bit.
-fn several(bits: u64) -> bool {
-    if bits == 0 {
-        return false;
-    }
-    bits & (bits - 1) != 0
-}
-
-// A node has no names, and no children below it, and to say at once what it is worth at all items pays: its parent's set is not small, which its first 64
-// items show.
-fn empty(names: u64, end: u8, node: usize, first: u64) -> bool
+// A node has no names, and no children below it.
+fn empty(names: u64, end: u8, node: usize) -> bool
     requires { ⌜ node < 64 ⌝ }
     ensures { λ r. ⌜ (r ≡ true → (names ≡ 0) × (end ≡ node + 1)) ⌝ }
 {
@@ -110,11 +110,11 @@ fn empty(names: u64, end: u8, node: usize, first: u64) -> bool
     if fields::octet(end) != node + 1 {
         return false;
     }
-    several(first)
+    true
 }
 
-// The same at the child at a node, for the items that the members of its parent's set reach. One without names and children is worth 1 at every item,
-// and need not be worked out.
+// The same at the child at a node, for the items that the members of its parent's set reach, and where its numbers stand. The numbers of one without names
+// and children are those of row 0.
 fn reach(
     s: &[u8],
     items: usize,
@@ -129,20 +129,21 @@ fn reach(
     at: usize,
     notes: &mut [u64],
     numbers: &mut [u32],
-) -> u64
+) -> Source
     requires { ⌜ Gradable (Judged (now s) items (now index)) (now names) (now roles) (now ends) (now marks) node left ⌝ }
     requires { ⌜ Lent items (now set) (now notes) (now numbers) (now ends) node at ⌝ }
     ensures { λ r. ⌜ ((k : Gradable (Judged (now (s .entry)) items (now (index .entry))) (now (names .entry)) (now (roles .entry)) (now (ends .entry)) (now (marks .entry)) node left)
-        → Done k (Below (judged (k .posed .graph .register)) (now (set .entry)) (getD (now (roles .entry)) node 0)) at r
+        → Done k (Below (judged (k .posed .graph .register)) (now (set .entry)) (getD (now (roles .entry)) node 0)) at (r .from) (r .scale)
         (now (notes .entry)) (now (notes .exit)) (now (numbers .entry)) (now (numbers .exit))) ⌝ }
+    ensures { λ r. ⌜ Standing at (r .from) ⌝ }
 {
-    if empty(names[node], ends[node], node, set[0]) {
-        return folds::ones(at, numbers);
+    if empty(names[node], ends[node], node) {
+        return Source { from: 0, scale: 1 };
     }
     let mut below = [0u64; 8];
     let role = fields::octet(roles[node]);
     graph::spread(s, items, index, set, role, &mut below[..8]);
-    work(
+    let scale = work(
         s,
         items,
         index,
@@ -156,7 +157,8 @@ fn reach(
         at,
         notes,
         numbers,
-    )
+    );
+    Source { from: at, scale }
 }
 
 // Folds in all kept children of a node but the heaviest, which is folded in; the node's scale is answered.
@@ -179,7 +181,7 @@ fn others(
 ) -> u64
     requires { ⌜ Headed (now s) items (now index) (now names) (now roles) (now ends) (now marks) node left (now set) heavy at first (now notes) (now numbers) ⌝ }
     ensures { λ r. ⌜ ((k : Gradable (Judged (now (s .entry)) items (now (index .entry))) (now (names .entry)) (now (roles .entry)) (now (ends .entry)) (now (marks .entry)) node left)
-        → Done k (Member (now (set .entry))) at r (now (notes .entry)) (now (notes .exit)) (now (numbers .entry)) (now (numbers .exit))) ⌝ }
+        → Done k (Member (now (set .entry))) at at r (now (notes .entry)) (now (notes .exit)) (now (numbers .entry)) (now (numbers .exit))) ⌝ }
 {
     let e = fields::octet(ends[node]);
     let mut n = fields::quad(u64::count_ones(names[node])) + 1;
@@ -191,7 +193,7 @@ fn others(
         if heaviest::passed(marks[child], child, heavy) {
             continue;
         }
-        let scale = reach(
+        let source = reach(
             s,
             items,
             index,
@@ -206,6 +208,8 @@ fn others(
             notes,
             numbers,
         );
+        let from = source.from;
+        let scale = source.scale;
         let role = fields::octet(roles[child]);
         folds::fold(
             s,
@@ -214,7 +218,7 @@ fn others(
             role,
             child,
             set,
-            at + ROW,
+            from,
             at,
             scale,
             product,
@@ -227,7 +231,7 @@ fn others(
     n * product
 }
 
-// The degrees of the members of a set in the tree at row 0, as whole numbers over its scale, which is answered.
+// The degrees of the members of a set in the tree at row 0, as whole numbers over its scale, which is answered, from place 512 on.
 pub fn degrees(
     s: &[u8],
     items: usize,
@@ -240,10 +244,11 @@ pub fn degrees(
     numbers: &mut [u32],
 ) -> u64
     requires { ⌜ Gradable (Judged (now s) items (now index)) (now names) (now roles) (now ends) (now marks) 0 17 ⌝ }
-    requires { ⌜ Items items (now set) × (length (now numbers) ≡ 3072) ⌝ }
+    requires { ⌜ Items items (now set) × (length (now numbers) ≡ 3584) ⌝ }
     ensures { λ r. ⌜ ((k : Gradable (Judged (now (s .entry)) items (now (index .entry))) (now (names .entry)) (now (roles .entry)) (now (ends .entry)) (now (marks .entry)) 0 17)
-        → Worked (k .posed .graph .register) (k .tree) (Member (now (set .entry))) 0 r (now (numbers .exit))) ⌝ }
+        → Worked (k .posed .graph .register) (k .tree) (Member (now (set .entry))) 512 r (now (numbers .exit))) ⌝ }
 {
+    folds::ones(0, numbers);
     let mut notes = [0u64; 1];
     work(
         s,
@@ -256,7 +261,7 @@ pub fn degrees(
         0,
         meaning::MOST_LEVELS,
         set,
-        0,
+        ROW,
         &mut notes[..0],
         numbers,
     )

@@ -41,7 +41,7 @@ pub record Folding (s : List ℕ) (items : ℕ) (index set notes numbers : List 
   pub fits : (x : ℕ) → Member set x → sumWith (judged (graph .register)) numbers role from to scale product x < 4294967296
   pub clear : (k : ℕ) → flag notes node k ≡ false
   pub inside : node < 64
-  pub short : length numbers ≤ 3072
+  pub short : length numbers ≤ 3584
   pub from-fits : from + 512 ≤ length numbers
   pub to-fits : to + 512 ≤ length numbers
   pub apart : (from + 512 ≤ to) ⊎ (to + 512 ≤ from)

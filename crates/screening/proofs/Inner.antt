@@ -5,7 +5,6 @@ use mathlib.Core.Path.{_≡_, refl, sym, ap, ap₂, subst, _∙_}
 use mathlib.Core.Bool.{Bool, true, false, _&&_}
 use mathlib.Core.List.{List}
 use Prim.Native.Nat.{ℕ, _+_, _≤_, _<_}
-use native.Mathlib.Nat.{zero-add}
 use native.Mathlib.Omega.{arith}
 use lib.ListN.{length, getD, replicate, length-replicate}
 use Rattle.meaning.specs.Bytes.{number}
@@ -31,6 +30,7 @@ use Rattle.parts.specs.Inner.{ConceptDone}
 use Rattle.graph.specs.Judged.{Judged}
 use Rattle.graph.specs.Sets.{inSet}
 use Rattle.folds.specs.Members.{Member}
+use Rattle.folds.specs.Folded.{rowAt}
 use Rattle.degrees.specs.Gradable.{Gradable}
 use Rattle.degrees.specs.Given.{Worked}
 use Rattle.screening.specs.Sifting.{Sifted}
@@ -80,22 +80,21 @@ module _ (s : List ℕ) (p : ℕ) (h : Threshold) (c : StandsAt s p h) (len : �
 
 -- the degrees that were worked out, compared as the message says, are what the threshold asks
 module _ (g : Register) (h : Threshold) (s : List ℕ) (p : ℕ) (c : StandsAt s p h) (set : List ℕ) (scale : ℕ) (numbers : List ℕ)
-    (w : Worked g (h .inner) (Member set) 0 scale numbers) where
+    (w : Worked g (h .inner) (Member set) 512 scale numbers) where
   pub sifted-passes : (num den : ℕ) → num ≡ number s (p + 1) 2 → den ≡ number s (p + 3) 2
-      → (new : List ℕ) → Sifted (λ x. compares (comparison (getD s p 0)) (getD numbers x 0 // scale) (num // den)) set new → Sifted (λ x. passes (judged g) h x) set new
+      → (new : List ℕ) → Sifted (λ x. compares (comparison (getD s p 0)) (rowAt numbers 512 x // scale) (num // den)) set new → Sifted (λ x. passes (judged g) h x) set new
   sifted-passes num den en ed new q = record { each = λ x. q .each x ∙ go x (inSet set x) refl }
     where
-      same : (x : ℕ) → inSet set x ≡ true → compares (comparison (getD s p 0)) (getD numbers x 0 // scale) (num // den) ≡ passes (judged g) h x
+      same : (x : ℕ) → inSet set x ≡ true → compares (comparison (getD s p 0)) (rowAt numbers 512 x // scale) (num // den) ≡ passes (judged g) h x
       same x l =
-          let here : getD numbers x 0 ≡ getD numbers (0 + x) 0 = ap (λ (z : ℕ). getD numbers z 0) (sym (zero-add x)) in
-          let value : getD numbers x 0 // scale ≡ degreeOf (judged g) (h .inner) x =
-          ap₂ (λ (n m : ℕ). n // m) (here ∙ w .each x l ∙ sym (degree-in (judged g) (h .inner) x)) (w .scaled ∙ sym (scale-in (h .inner))) in
+          let value : rowAt numbers 512 x // scale ≡ degreeOf (judged g) (h .inner) x =
+          ap₂ (λ (n m : ℕ). n // m) (w .each x l ∙ sym (degree-in (judged g) (h .inner) x)) (w .scaled ∙ sym (scale-in (h .inner))) in
           let limit : num // den ≡ h .limit = ap₂ (λ (n m : ℕ). n // m) (en ∙ c .num) (ed ∙ c .den) in
-          ap (λ (how : Comparison). compares how (getD numbers x 0 // scale) (num // den)) (c .how)
+          ap (λ (how : Comparison). compares how (rowAt numbers 512 x // scale) (num // den)) (c .how)
           ∙ ap₂ (λ (d t : Frac). compares (h .how) d t) value limit
 
       go : (x : ℕ) (b : Bool) → inSet set x ≡ b
-          → (b && compares (comparison (getD s p 0)) (getD numbers x 0 // scale) (num // den)) ≡ (b && passes (judged g) h x)
+          → (b && compares (comparison (getD s p 0)) (rowAt numbers 512 x // scale) (num // den)) ≡ (b && passes (judged g) h x)
       go x true l = same x l
       go x false l = refl
 
@@ -104,7 +103,7 @@ module _ (g : Register) (h : Threshold) (s : List ℕ) (p : ℕ) (c : StandsAt s
   scale-fits = omega (arith, w .scaled, scale-small (h .inner) (c .small))
 
 abbrev numbers : List ℕ
-numbers = replicate 3072 0
+numbers = replicate 3584 0
 
-pub numbers-length : length numbers ≡ 3072
-numbers-length = length-replicate {A = ℕ} 3072 0
+pub numbers-length : length numbers ≡ 3584
+numbers-length = length-replicate {A = ℕ} 3584 0

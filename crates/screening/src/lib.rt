@@ -3,8 +3,8 @@
 use graph::sets;
 ghost use mathlib.Core.Path.{_≡_};
 ghost use mathlib.Core.Bool.{true};
-ghost use Prim.Native.Nat.{_≤_, _<_};
-ghost use lib.ListN.{length, getD};
+ghost use Prim.Native.Nat.{_+_, _≤_, _<_};
+ghost use lib.ListN.{length};
 ghost use Rattle.meaning.specs.Bounds.{mostItems, mostThresholds, mostQ};
 ghost use Rattle.meaning.specs.Fraction.{_//_, compares};
 ghost use Rattle.meaning.specs.Message.{comparison};
@@ -13,6 +13,7 @@ ghost use Rattle.meaning.specs.Requirement.{Threshold, passes};
 ghost use Rattle.graph.specs.Judged.{Judged};
 ghost use Rattle.graph.specs.Sets.{inSet, Among};
 ghost use Rattle.folds.specs.Members.{Member};
+ghost use Rattle.folds.specs.Folded.{rowAt};
 ghost use Rattle.degrees.specs.Given.{Worked};
 ghost use Rattle.screening.specs.Sifting.{Sifted, Retained};
 ghost use Rattle.screening.specs.Standing.{StandsAt, OneStands, AllStand, ruledAt};
@@ -68,7 +69,7 @@ fn judge(s: &[u8], items: usize, index: &[u16], message: &[u8], first: usize, se
     if meaning::MOST_ITEMS <= sets::next_in(set, 0) {
         return;
     }
-    let mut numbers = [0u32; 3072];
+    let mut numbers = [0u32; 3584];
     let scale = grade(s, items, index, message, first, set, &mut numbers);
     let p = fields::two(message, first + 1) as u64;
     let q = fields::two(message, first + 3) as u64;
@@ -87,9 +88,9 @@ fn grade(
 ) -> u64
     requires { ⌜ Judged (now s) items (now index) ⌝ }
     requires { ⌜ OneStands (now message) first ⌝ }
-    requires { ⌜ (length (now set) ≡ 8) × Among items (now set) × (length (now numbers) ≡ 3072) ⌝ }
+    requires { ⌜ (length (now set) ≡ 8) × Among items (now set) × (length (now numbers) ≡ 3584) ⌝ }
     ensures { λ r. ⌜ ((j : Judged (now (s .entry)) items (now (index .entry))) (h : Threshold) → StandsAt (now (message .entry)) first h
-        → Worked (j .register) (h .inner) (Member (now (set .entry))) 0 r (now (numbers .exit))) ⌝ }
+        → Worked (j .register) (h .inner) (Member (now (set .entry))) 512 r (now (numbers .exit))) ⌝ }
 {
     let mut packed = [0u64; 144];
     let mut marks = [0u8; 64];
@@ -103,14 +104,14 @@ fn grade(
     degrees::degrees(s, items, index, &names, &roles, &ends, &marks, set, numbers)
 }
 
-// Of a set stay the items whose number over the scale satisfies a comparison with p / q.
+// Of a set stay the items whose number, which stands from place 512 on, over the scale satisfies a comparison with p / q.
 fn sift(values: &[u32], scale: u64, how: u8, p: u64, q: u64, set: &mut [u64])
-    requires { ⌜ (mostItems ≤ length (now values)) × (length (now set) ≡ 8) × (scale < 4294967296) × (p ≤ mostQ) × (q ≤ mostQ) ⌝ }
-    ensures { λ _. ⌜ Sifted (λ x. compares (comparison how) (getD (now (values .entry)) x 0 // scale) (p // q)) (now (set .entry)) (now (set .exit)) ⌝ }
+    requires { ⌜ (512 + mostItems ≤ length (now values)) × (length (now set) ≡ 8) × (scale < 4294967296) × (p ≤ mostQ) × (q ≤ mostQ) ⌝ }
+    ensures { λ _. ⌜ Sifted (λ x. compares (comparison how) (rowAt (now (values .entry)) 512 x // scale) (p // q)) (now (set .entry)) (now (set .exit)) ⌝ }
 {
     let mut x = sets::next_in(set, 0);
     while x < meaning::MOST_ITEMS {
-        let yes = fractions::satisfies(how, fields::quad(values[x]), scale, p, q);
+        let yes = fractions::satisfies(how, fields::quad(values[folds::ROW + x]), scale, p, q);
         retain(set, x, yes);
         x = sets::next_in(set, x + 1);
     }

@@ -116,7 +116,8 @@ fn graded(
 {
     let mut set = [0u64; 8];
     sets::include(&mut set[..8], item);
-    let mut numbers = [0u32; 3072];
+    let mut numbers = [0u32; 3584];
+    folds::ones(0, &mut numbers[..3584]);
     let scale = degrees::work(
         s,
         items,
@@ -128,12 +129,12 @@ fn graded(
         node,
         left,
         &set[..8],
-        0,
+        folds::ROW,
         notes,
-        &mut numbers[..3072],
+        &mut numbers[..3584],
     );
     Degree {
-        number: fields::quad(numbers[item]),
+        number: fields::quad(numbers[folds::ROW + item]),
         scale,
     }
 }

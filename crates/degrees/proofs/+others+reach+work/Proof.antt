@@ -10,21 +10,21 @@ use Rattle.degrees.proofs.+others+reach+work.Lts-reach as reach-lts
 use Rattle.degrees.proofs.work.Reads as work
 use Rattle.degrees.proofs.work.Kinds as work-kinds
 use Rattle.degrees.proofs.+others+reach+work.Lts-work as work-lts
-use Rattle.folds.proofs.alone.Reads as alone-reads
-use Rattle.folds.proofs.fold.Reads as fold-reads
-use Rattle.heaviest.proofs.heaviest.Reads as heaviest-reads
-use Rattle.folds.proofs.own.Reads as own-reads
-use Rattle.heaviest.proofs.passed.Reads as passed-reads
+use Rattle.degrees.proofs.empty.Reads as empty-reads
 use Rattle.fields.proofs.octet.Reads as octet-reads
 use Rattle.fields.proofs.quad.Reads as quad-reads
+use Rattle.folds.proofs.alone.Reads as alone-reads
+use Rattle.folds.proofs.fold.Reads as fold-reads
+use Rattle.folds.proofs.own.Reads as own-reads
 use Rattle.graph.proofs.spread.Reads as spread-reads
-use Rattle.degrees.proofs.empty.Reads as empty-reads
-use Rattle.folds.proofs.ones.Reads as ones-reads
-use Rattle.fields.proofs.Known.{bytes-known}
-use Rattle.folds.specs.Members.{Member}
+use Rattle.heaviest.proofs.heaviest.Reads as heaviest-reads
+use Rattle.heaviest.proofs.passed.Reads as passed-reads
 use Rattle.degrees.proofs.+others+reach+work.{statement}
 use Rattle.degrees.proofs.+others+reach+work.Tie.{close}
+use Rattle.fields.proofs.Known.{bytes-known}
+use Rattle.folds.specs.Members.{Member}
 use mathlib.Core.Path.{refl, sym, subst, _∙_}
+use mathlib.Core.Logic.{inl, inr}
 use Prim.Native.Nat.{_+_, _-_, _*_}
 use native.Mathlib.Omega.{arith}
 use Rattle.graph.proofs.Empty.{among-none}
@@ -83,8 +83,6 @@ abbrev reach-claims : ℕ → reach-lts.Claims
 reach-claims t = (
   empty-reads.Asked,
   empty-reads.Learnt,
-  ones-reads.Asked,
-  ones-reads.Learnt,
   octet-reads.Asked,
   octet-reads.Learnt,
   spread-reads.Asked,
@@ -152,49 +150,56 @@ pub +others+reach+work-spec : {M : Type 1} → statement M
     (λ c. omega (arith, c .quad .ensures .1))
     (λ c. omega (arith, here (c .before .before .before .before .before .before .before .before .before .pre .1 .asked) .1))
     (λ c.
-    let at-octet = c .before .before in
-    going-start _ _ _ _ _ _ _ _ _ _ _ _ _ _ _ (at-octet .before .before .before .before .before .before .before .pre .1) _ _ (at-octet .octet .ensures .0) (c .quad .ensures .0))
+    let start = c .before .before .before .before .before .before .before .before .before in
+    going-start _ _ _ _ _ _ _ _ _ _ _ _ _ _ _ (start .pre .1) _ _ (c .before .before .octet .ensures .0) (c .quad .ensures .0))
     (λ c. omega (arith, going-low (c .before .loop .inv) (c .loop-test .taken)))
     (λ c κs. search needs)
     (λ c. omega (arith, going-low (c .before .before .before .loop .inv) (c .before .before .loop-test .taken)))
     (λ c κs. search needs)
     (λ c.
-    let at-octet2 = c .before .before .before in
-    omega (arith, going-less (at-octet2 .before .before .before .loop .inv) (at-octet2 .before .before .loop-test .taken) _ (at-octet2 .octet2 .ensures .0)))
+    let at-loop-test = c .before .before .before .before .before in
+    let turn = at-loop-test .before in
+    omega (arith, going-less (turn .loop .inv) (at-loop-test .loop-test .taken) _ (c .before .before .before .octet2 .ensures .0)))
     (λ c.
-    let at-octet2 = c .before .before .before in
-    let turn = at-octet2 .before .before .before in
-    going-pass (turn .loop .inv) (at-octet2 .before .before .loop-test .taken) _ (at-octet2 .octet2 .ensures .0) _ (c .before .passed .ensures) (c .if1 .taken))
+    let at-loop-test = c .before .before .before .before .before in
+    let turn = at-loop-test .before in
+    going-pass (turn .loop .inv) (at-loop-test .loop-test .taken) _ (c .before .before .before .octet2 .ensures .0) _ (c .before .passed .ensures) (c .if1 .taken))
     (λ c. omega (arith, here (c .before .before .before .before .before .before .loop .inv .headed .asked) .0))
     (λ c. omega (arith, child-two _ (hand t c)))
     (λ c κs.
-    let turn = c .before .before .before .before .before .before .before .before in
-    let start = turn .before .before .before .before .before .before .before .before .before .before in
+    let start = c .before .before .before .before .before .before .before .before .before .before .before .before .before .before .before .before .before .before in
     let o = hand t (c .before .before) in
     (omega (arith, here (start .pre .1 .asked) .0, start .pre .0), (child-asked _ o, child-lent _ o)))
     (λ c.
     let at-loop-test = c .before .before .before .before .before .before .before .before .before .before .before .before in
-    omega (arith, going-low (at-loop-test .before .loop .inv) (at-loop-test .loop-test .taken)))
+    let turn = at-loop-test .before in
+    omega (arith, going-low (turn .loop .inv) (at-loop-test .loop-test .taken)))
     (λ c κs. search needs)
-    (λ c. omega (arith, child-two _ (hand t (c .before .before .before .before .before .before .before .before .before))))
     (λ c κs.
-    let at-octet3 = c .before .before in
-    let at-reach = at-octet3 .before .before .before .before .before .before in
-    child-folding _ (hand t (at-reach .before .before .before)) _ _ _ _ (at-octet3 .octet3 .ensures .0) (at-reach .reach .ensures) (at-reach .reach .kept .1 .1 .1 .1 .1 .1 .1 .1 .1 .1 .1 .1 .0))
+    let at-reach = c .before .before .before .before .before .before .before .before in
+    let at-if1 = at-reach .before .before .before in
+    child-folding _ (hand t at-if1) _ _ _ _ _ (c .before .before .octet3 .ensures .0) (at-reach .reach .ensures .0) (at-reach .reach .ensures .1)
+    (at-reach .reach .kept .1 .1 .1 .1 .1 .1 .1 .1 .1 .1 .1 .1 .0))
     (λ c.
     let at-octet3 = c .before .before .before .before .before .before .before in
     let at-reach = at-octet3 .before .before .before .before .before .before in
-    omega (arith, child-product _ (hand t (at-reach .before .before .before)) _ _ _ _ (at-octet3 .octet3 .ensures .0) (at-reach .reach .ensures)))
-    (λ c. omega (arith, child-count _ (hand t (c .before .before .before .before .before .before .before .before .before .before .before .before .before .before .before .before))))
+    let at-if1 = at-reach .before .before .before in
+    omega (arith, child-product _ (hand t at-if1) _ _ _ _ _ (at-octet3 .octet3 .ensures .0) (at-reach .reach .ensures .0) (at-reach .reach .ensures .1)))
+    (λ c.
+    let at-if1 = c .before .before .before .before .before .before .before .before .before .before .before .before .before .before .before .before in
+    omega (arith, child-count _ (hand t at-if1)))
     (λ c.
     let at-octet2 = c .before .before .before .before .before .before .before .before .before .before .before .before .before .before .before .before .before .before .before in
-    omega (arith, going-less (at-octet2 .before .before .before .loop .inv) (at-octet2 .before .before .loop-test .taken) _ (at-octet2 .octet2 .ensures .0)))
+    let at-loop-test = at-octet2 .before .before in
+    let turn = at-loop-test .before in
+    omega (arith, going-less (turn .loop .inv) (at-loop-test .loop-test .taken) _ (at-octet2 .octet2 .ensures .0)))
     (λ c.
     let at-fold = c .before .before .before .before in
     let at-octet3 = at-fold .before .before .before in
     let at-reach = at-octet3 .before .before .before .before .before .before in
     let at-if1 = at-reach .before .before .before in
-    child-next _ (hand t at-if1) _ _ _ _ (at-octet3 .octet3 .ensures .0) (at-reach .reach .ensures) _ (at-if1 .before .before .before .octet2 .ensures .0) _ _
+    let at-octet2 = at-if1 .before .before .before in
+    child-next _ (hand t at-if1) _ _ _ _ _ (at-octet3 .octet3 .ensures .0) (at-reach .reach .ensures .0) (at-reach .reach .ensures .1) _ (at-octet2 .octet2 .ensures .0) _ _
     (at-reach .reach .kept .1 .1 .1 .1 .1 .1 .1 .1 .1 .1 .1 .0) (at-reach .reach .kept .1 .1 .1 .1 .1 .1 .1 .1 .1 .1 .1 .1 .0)
     (at-fold .fold .kept .1 .1 .1 .1 .1 .1 .1 .1 .1 .1 .0) (at-fold .fold .kept .1 .1 .1 .1 .1 .1 .1 .1 .1 .1 .1 .0) (at-fold .fold .ensures))
     (λ c. omega (arith, going-fits (c .before .loop .inv) (c .loop-test .left)))
@@ -207,33 +212,25 @@ pub +others+reach+work-spec : {M : Type 1} → statement M
     (λ c. omega (arith, here (c .before .before .before .before .before .pre .1 .0) .1))
     (λ c. omega (arith, here (c .before .before .before .before .before .pre .1 .0) .1))
     (λ c. omega (arith, here (c .before .before .before .before .before .before .pre .1 .0) .1))
-    (λ c. omega (arith, c .before .before .before .before .before .before .before .before .pre .1 .1 .members .0))
-    (λ c κs. here (c .before .before .before .before .before .before .before .before .pre .1 .0) .1)
-    (λ c κs.
-    let start = c .before .before .before .before .before .before .before .before .before .before .before in
-    lent-here (start .pre .1 .0) (start .pre .1 .1) .1)
-    (λ c. c .before .before .ones .kept .1 .0)
+    (λ c κs. here (c .before .before .before .before .before .before .before .pre .1 .0) .1)
     (λ c.
-    let at-ones = c .before .before in
-    let at-then1 = at-ones .before .before in
-    let at-empty = at-then1 .before in
-    let known = at-empty .before .before .before .before .before .before .before .before in
-    let start = known .before in
-    let said = at-empty .empty .ensures (at-then1 .if1 .taken) in
-    let did = at-ones .ones .ensures in
-    empty-done (start .pre .1 .0) (bytes-known (start .args .s .now) (known .shared-slice-known .given)) (start .args .set .now) _ _ _ _ _ (said .0) (said .1)
-    (did .0) (did .1 .0) (did .1 .1))
-    (λ c. omega (arith, here (c .before .before .before .before .before .before .before .before .before .before .pre .1 .0) .1))
+    let at-shared-slice-known = c .before .before .before .before .before .before .before .before in
+    let start = at-shared-slice-known .before in
+    let said = c .before .empty .ensures (c .if1 .taken) in (
+      empty-done (start .pre .1 .0) (bytes-known (start .args .s .now) (at-shared-slice-known .shared-slice-known .given))
+          (start .args .set .now) _ _ _ (said .0) (said .1) (start .pre .1 .1 .ones),
+      inl refl,
+    ))
+    (λ c. omega (arith, here (c .before .before .before .before .before .before .before .before .before .pre .1 .0) .1))
     (λ c κs. search needs)
     (λ c. search needs)
     (λ c κs.
-    let start = c .before .before .before .before .before .before .before .before .before .before .before .before .before in
+    let start = c .before .before .before .before .before .before .before .before .before .before .before .before in
     (start .pre .1 .0 .posed .graph, (start .pre .1 .1 .members, (refl, among-none _))))
     (λ c. search needs)
     (λ c κs.
     let at-spread = c .before .before .before .before in
-    let at-else1 = at-spread .before .before .before .before in
-    let start = at-else1 .before .before .before .before .before .before .before .before .before .before in
+    let start = at-spread .before .before .before .before .before .before .before .before .before .before .before .before .before in
     let lent = start .pre .1 .1 in (
       omega (arith, start .pre .0),
       (
@@ -242,6 +239,7 @@ pub +others+reach+work-spec : {M : Type 1} → statement M
           members = (at-spread .spread .kept .1 .1 .1 .1 .1 .0, at-spread .spread .ensures (start .pre .1 .0 .posed .graph) .among);
           clear = lent .clear;
           room = lent .room;
+          ones = lent .ones;
         },
       ),
     ))
@@ -251,9 +249,8 @@ pub +others+reach+work-spec : {M : Type 1} → statement M
     let at-work = c .before .before .before .before in
     let at-spread = at-work .before .before .before .before .before in
     let at-octet = at-spread .before .before in
-    let at-else1 = at-octet .before .before in
-    let start = at-else1 .before .before .before .before .before .before .before .before .before .before in
-    λ k. reach-done k (start .args .set .now) _ _ _ _ _ _ _ _ (at-octet .octet .ensures .0) (at-spread .spread .ensures (k .posed .graph)) (at-work .work .ensures k)))
+    let start = at-octet .before .before .before .before .before .before .before .before .before .before .before in
+    (λ k. reach-done k (start .args .set .now) _ _ _ _ _ _ _ _ (at-octet .octet .ensures .0) (at-spread .spread .ensures (k .posed .graph)) (at-work .work .ensures k), inr refl)))
     λ t. work-lts.spec (work-claims t)
     (work-at t)
     work.Post
@@ -262,17 +259,19 @@ pub +others+reach+work-spec : {M : Type 1} → statement M
     (λ c κs. search needs)
     (λ c. omega (arith, here (c .before .before .before .before .before .before .before .before .before .pre .1 .0) .1))
     (λ c. omega (arith, here (c .before .before .before .before .before .before .before .before .before .pre .1 .0) .1))
-    (λ c κs. let start = c .before .before .before .before .before .before .before .before .before .before .before in lent-here (start .pre .1 .0) (start .pre .1 .1))
+    (λ c κs.
+    let start = c .before .before .before .before .before .before .before .before .before .before .before in
+    lent-here (start .pre .1 .0) (start .pre .1 .1))
     (λ c. search needs)
     (λ c.
-    let at-alone = c .before .before in
-    let at-if1 = at-alone .before .before .before in
-    let at-heaviest = at-if1 .before .before .before in
+    let at-if1 = c .before .before .before .before .before in
+    let at-octet = at-if1 .before in
+    let at-heaviest = at-octet .before .before in
     let start = at-heaviest .before .before .before .before .before .before in
     let k = start .pre .1 .0 in
     alone-done k (subst (λ (z : ℕ). Heavy (start .args .ends .now) (start .args .marks .now) (k .tree) (start .args .node) z)
-    (at-if1 .if1 .taken ∙ at-if1 .before .octet .ensures .0) (at-heaviest .heaviest .ensures (written k))) (Member (start .args .set .now)) _ _ _ _ _ (at-alone .alone .ensures .0)
-    (at-alone .alone .ensures .1 .0) (at-alone .alone .ensures .1 .1))
+    (at-if1 .if1 .taken ∙ at-octet .octet .ensures .0) (at-heaviest .heaviest .ensures (written k))) (Member (start .args .set .now)) _ _ _ _ _ _ (c .before .before .alone .ensures .0)
+    (c .before .before .alone .ensures .1 .0) (c .before .before .alone .ensures .1 .1))
     (λ c. omega (arith, here (c .before .before .before .before .before .before .before .before .before .pre .1 .0) .0))
     (λ c κs.
     let start = c .before .before .before .before .before .before .before .before .before .before .before in
@@ -282,22 +281,25 @@ pub +others+reach+work-spec : {M : Type 1} → statement M
     (λ c κs. search needs)
     (λ c. omega (arith, first-two _ _ (first t (c .before .before .before .before .before .before .before .before .before))))
     (λ c κs.
-    let at-octet2 = c .before .before in
-    let at-reach = at-octet2 .before .before .before .before .before .before in
+    let at-reach = c .before .before .before .before .before .before .before .before in
     let at-if1 = at-reach .before .before .before in
-    first-folding _ _ (first t at-if1) _ _ _ _ (at-octet2 .octet2 .ensures .0) (at-reach .reach .ensures) (at-reach .reach .kept .1 .1 .1 .1 .1 .1 .1 .1 .1 .1 .1 .1 .0))
+    first-folding _ _ (first t at-if1) _ _ _ _ _ (c .before .before .octet2 .ensures .0) (at-reach .reach .ensures .0) (at-reach .reach .ensures .1)
+    (at-reach .reach .kept .1 .1 .1 .1 .1 .1 .1 .1 .1 .1 .1 .1 .0))
     (λ c.
     let mid = c .before .before .before .before .before .before .before .before .before .before .before .before in
-    omega (arith, here (mid .before .before .before .before .before .before .before .before .before .before .before .before .before .pre .1 .0) .1))
+    let start = mid .before .before .before .before .before .before .before .before .before .before .before .before .before in
+    omega (arith, here (start .pre .1 .0) .1))
     (λ c.
     let mid = c .before .before .before .before .before .before .before .before .before .before .before .before in
-    omega (arith, here (mid .before .before .before .before .before .before .before .before .before .before .before .before .before .pre .1 .0) .1))
+    let start = mid .before .before .before .before .before .before .before .before .before .before .before .before .before in
+    omega (arith, here (start .pre .1 .0) .1))
     (λ c κs.
     let at-fold = c .before .before .before .before .before .before in
     let at-octet2 = at-fold .before .before .before in
     let at-reach = at-octet2 .before .before .before .before .before .before in
     let at-if1 = at-reach .before .before .before in
-    first-own _ _ (first t at-if1) _ _ _ _ (at-octet2 .octet2 .ensures .0) (at-reach .reach .ensures) (at-reach .reach .kept .1 .1 .1 .1 .1 .1 .1 .1 .1 .1 .1 .1 .0)
+    first-own _ _ (first t at-if1) _ _ _ _ _ (at-octet2 .octet2 .ensures .0) (at-reach .reach .ensures .0) (at-reach .reach .ensures .1)
+    (at-reach .reach .kept .1 .1 .1 .1 .1 .1 .1 .1 .1 .1 .1 .1 .0)
     _ _ (at-fold .fold .ensures) (at-fold .fold .kept .1 .1 .1 .1 .1 .1 .1 .1 .1 .1 .0) (at-fold .fold .kept .1 .1 .1 .1 .1 .1 .1 .1 .1 .1 .1 .0))
     (λ c κs.
     let at-own = c .before .before .before .before in
@@ -307,9 +309,10 @@ pub +others+reach+work-spec : {M : Type 1} → statement M
     let at-if1 = at-reach .before .before .before in
     let start = at-if1 .before .before .before .before .before .before .before .before .before in (
       omega (arith, start .pre .0),
-      first-headed _ _ (first t at-if1) _ _ _ _ (at-octet2 .octet2 .ensures .0) (at-reach .reach .ensures) (at-reach .reach .kept .1 .1 .1 .1 .1 .1 .1 .1 .1 .1 .1 .1 .0)
+      first-headed _ _ (first t at-if1) _ _ _ _ _ (at-octet2 .octet2 .ensures .0) (at-reach .reach .ensures .0) (at-reach .reach .ensures .1)
+          (at-reach .reach .kept .1 .1 .1 .1 .1 .1 .1 .1 .1 .1 .1 .1 .0)
           _ _ (at-fold .fold .ensures) (at-fold .fold .kept .1 .1 .1 .1 .1 .1 .1 .1 .1 .1 .0) (at-fold .fold .kept .1 .1 .1 .1 .1 .1 .1 .1 .1 .1 .1 .0)
-          _ (at-own .own .kept .1 .1 .1 .1 .1 .0) (at-own .own .ensures .0),
+          _ (at-own .own .kept .1 .1 .1 .1 .1 .0) (at-own .own .ensures .1) (at-own .own .ensures .0),
     ))
     (λ c.
     let at-others = c .before .before .before .before in
@@ -330,6 +333,7 @@ pub +others+reach+work-spec : {M : Type 1} → statement M
     let at-octet2 = at-fold .before .before .before in
     let at-reach = at-octet2 .before .before .before .before .before .before in
     let at-if1 = at-reach .before .before .before in
-    first-done _ _ (first t at-if1) _ _ _ _ (at-octet2 .octet2 .ensures .0) (at-reach .reach .ensures) (at-reach .reach .kept .1 .1 .1 .1 .1 .1 .1 .1 .1 .1 .1 .1 .0)
+    first-done _ _ (first t at-if1) _ _ _ _ _ (at-octet2 .octet2 .ensures .0) (at-reach .reach .ensures .0) (at-reach .reach .ensures .1)
+    (at-reach .reach .kept .1 .1 .1 .1 .1 .1 .1 .1 .1 .1 .1 .1 .0)
     _ _ (at-fold .fold .ensures) (at-fold .fold .kept .1 .1 .1 .1 .1 .1 .1 .1 .1 .1 .0) (at-fold .fold .kept .1 .1 .1 .1 .1 .1 .1 .1 .1 .1 .1 .0)
     _ _ _ _ (at-own .own .ensures .1) (at-others .others .ensures))
