@@ -130,13 +130,14 @@ fn yields(
     requires { ⌜ Two (now names) (now roles) (now ends) left c d ⌝ }
     ensures { λ r. ⌜ TestsLike (now (names .entry)) (now (roles .entry)) (now (ends .entry)) left (yields earlier) c d r ⌝ }
 {
-    if !subsumes_like(names, roles, ends, c, d, left) {
+    if earlier {
+        return subsumes_like(names, roles, ends, c, d, left);
+    }
+    // the converse first: where it holds, c is kept whatever the other test would say
+    if subsumes_like(names, roles, ends, d, c, left) {
         return false;
     }
-    if earlier {
-        return true;
-    }
-    !subsumes(names, roles, ends, d, c, left)
+    subsumes_like(names, roles, ends, c, d, left)
 }
 
 // Whether the child at c, of the children from `first` up to `end`, is dropped.
