@@ -5,7 +5,7 @@ use mathlib.Core.Bool.{Bool, true, false, _&&_, _||_, not, cond}
 use mathlib.Core.List.{List, _∷_}
 use Prim.Native.Nat.{ℕ, _+_, _-_, _≤_, _<_}
 use native.Mathlib.Omega.{arith}
-use borrow.Author.Tests.{eq-eqb, ne-eqb}
+use borrow.Author.Tests.{eq-eqb, ne-eqb, eqb-true}
 use lib.Dec.{eqb}
 use lib.ListN.{getD}
 use Rattle.meaning.specs.Names.{within}
@@ -156,36 +156,36 @@ module _ (names roles ends : List ℕ) (left : ℕ) where
 
   -- ---- the drop rule
 
-  module _ (c d : ℕ) (earlier : Bool) {b : Bool} (test : TestsLike names roles ends left subsumes c d b) where
-    pub yields-not : b ≡ false → TestsLike names roles ends left (yields earlier) c d false
-    unfolding yields
-    yields-not q t h u h′ = go (eqb (getD roles c 0) (getD roles d 0)) (subsumes t u) (sym (test t h u h′) ∙ q)
-      where
-        go : (x y : Bool) → (x && y) ≡ false → false ≡ (x && (y && (earlier || not (subsumes u t))))
-        go true y z = rw z
-        go false y z = refl
-
-    yields-as : b ≡ true → (t : Concept) → Holds names roles ends t left c (getD ends c 0) → (u : Concept) → Holds names roles ends u left d (getD ends d 0)
-        → (w : Bool) → w ≡ (earlier || not (subsumes u t)) → w ≡ (eqb (getD roles c 0) (getD roles d 0) && yields earlier t u)
-    unfolding yields
-    yields-as q t h u h′ w e = e ∙ go (eqb (getD roles c 0) (getD roles d 0)) (subsumes t u) (sym (test t h u h′) ∙ q)
-      where
-        v : Bool
-        v = earlier || not (subsumes u t)
-
-        go : (x y : Bool) → (x && y) ≡ true → v ≡ (x && (y && v))
-        go true y z = rw z
-        go false y z = absurd (let n : _≡_ {A = ℕ} 0 1 = cc in omega arith)
-
-    pub yields-earlier : b ≡ true → earlier ≡ true → TestsLike names roles ends left (yields earlier) c d true
-    yields-earlier q e t h u h′ = yields-as q t h u h′ true (rw e)
-
-    pub yields-later : (v : Bool) → b ≡ true → earlier ≡ false → Tests names roles ends left subsumes d c v → TestsLike names roles ends left (yields earlier) c d (not v)
-    yields-later v q e back t h u h′ = yields-as q t h u h′ (not v) (rw (e, back u h′ t h))
-
   and-true : (x : Bool) → (x && true) ≡ x
   and-true true = refl
   and-true false = refl
+
+  module _ (c d : ℕ) (earlier : Bool) where
+    pub yields-earlier : earlier ≡ true → {b : Bool} → TestsLike names roles ends left subsumes c d b → TestsLike names roles ends left (yields earlier) c d b
+    unfolding yields
+    yields-earlier e test t h u h′ = test t h u h′ ∙ rw (e, and-true (subsumes t u))
+
+    module _ (e : earlier ≡ false) {v : Bool} (back : TestsLike names roles ends left subsumes d c v) where
+      pub yields-not : v ≡ true → TestsLike names roles ends left (yields earlier) c d false
+      unfolding yields
+      yields-not q t h u h′ = rw e (go (eqb (getD roles c 0) (getD roles d 0)) (subsumes t u) (eqb (getD roles d 0) (getD roles c 0)) (subsumes u t) (sym (back u h′ t h) ∙ q))
+        where
+          go : (x y z w : Bool) → (z && w) ≡ true → false ≡ (x && (y && not w))
+          go x y false w p = absurd (let n : _≡_ {A = ℕ} 0 1 = cc in omega arith)
+          go false y true w p = refl
+          go true false true w p = refl
+          go true true true w p = rw p
+
+      pub yields-later : v ≡ false → {b : Bool} → TestsLike names roles ends left subsumes c d b → TestsLike names roles ends left (yields earlier) c d b
+      unfolding yields
+      yields-later q test t h u h′ = test t h u h′ ∙ rw e (go (eqb (getD roles c 0) (getD roles d 0)) refl)
+        where
+          go : (x : Bool) → eqb (getD roles c 0) (getD roles d 0) ≡ x → (x && subsumes t u) ≡ (x && (subsumes t u && not (subsumes u t)))
+          go false p = refl
+          go true p =
+              let z : eqb (getD roles d 0) (getD roles c 0) ≡ true = eq-eqb (getD roles d 0) (getD roles c 0) (sym (eqb-true (getD roles c 0) (getD roles d 0) p)) in
+              let w : subsumes u t ≡ false = rw z at (sym (back u h′ t h) ∙ q) in
+              rw (w, and-true (subsumes t u))
 
   module _ (i c e : ℕ) {b x : Bool} (test : TestsOne names roles ends left (yields x) c i c b) (first : x ≡ true) where
     before : (g : Forest ℕ) → HoldsF names roles ends g left i c → (t : Concept) → Holds names roles ends t left c (getD ends c 0)

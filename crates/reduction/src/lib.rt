@@ -1,5 +1,6 @@
 // Which nodes of a concept tree are dropped, and its reduced size, over rows in reading order.
 // For each written node: its names, the role of the edge to it, and the index just past its subtree; marks: 1 kept, 0 dropped.
+use fields::bits;
 ghost use mathlib.Core.Path.{_≡_};
 ghost use Prim.Native.Nat.{_≤_, _<_};
 ghost use lib.ListN.{length};
@@ -7,6 +8,7 @@ ghost use Rattle.meaning.specs.Names.{names, within};
 ghost use Rattle.meaning.specs.Reduce.{subsumes, size, reduce};
 ghost use Rattle.reduction.specs.Held.{Held, ForTree};
 ghost use Rattle.reduction.specs.Subsumed.{yields, Two, Tests, TestsLike, Among, TestsOne, Sibling, TestsDropped};
+ghost use Rattle.reduction.specs.Alone.{Children, KeptIf};
 ghost use Rattle.reduction.specs.Marks.{Put, MarkedBelow, MarkedChild, MarkedWhole};
 ghost use Rattle.reduction.specs.Sizes.{HeldBy, Sized, SizedKept};
 
@@ -130,16 +132,36 @@ fn yields(
     requires { ⌜ Two (now names) (now roles) (now ends) left c d ⌝ }
     ensures { λ r. ⌜ TestsLike (now (names .entry)) (now (roles .entry)) (now (ends .entry)) left (yields earlier) c d r ⌝ }
 {
-    if !subsumes_like(names, roles, ends, c, d, left) {
+    if earlier {
+        return subsumes_like(names, roles, ends, c, d, left);
+    }
+    // the converse first: where it holds, c is kept whatever the other test would say
+    if subsumes_like(names, roles, ends, d, c, left) {
         return false;
     }
-    if earlier {
-        return true;
-    }
-    !subsumes(names, roles, ends, d, c, left)
+    subsumes_like(names, roles, ends, c, d, left)
 }
 
-// Whether the child at c, of the children from `first` up to `end`, is dropped.
+// Whether each of the children from `first` up to `end` is alone under its role, so that none is dropped. Roles are compared modulo 64:
+// a wrong `false` costs time and nothing else.
+fn apart(roles: &[u8; 64], ends: &[u8; 64], first: usize, end: usize) -> bool
+    requires { ⌜ Children (now roles) (now ends) first end ⌝ }
+    ensures { λ r. ⌜ KeptIf (now (roles .entry)) (now (ends .entry)) first end r ⌝ }
+{
+    let mut seen: u64 = 0;
+    let mut c = first;
+    while c < end {
+        let role = fields::octet(roles[c]) % 64;
+        if bits::on(seen, role) {
+            return false;
+        }
+        seen = bits::with_bit(seen, role, false, true);
+        c = fields::octet(ends[c]);
+    }
+    true
+}
+
+// Whether the child at c, of the children from `first` up to `end`, is dropped; `alone`: each of them is alone under its role.
 fn dropped(
     names: &[u64; 64],
     roles: &[u8; 64],
@@ -148,10 +170,15 @@ fn dropped(
     c: usize,
     end: usize,
     left: usize,
+    alone: bool,
 ) -> bool
     requires { ⌜ Sibling (now names) (now roles) (now ends) left first c end ⌝ }
+    requires { ⌜ KeptIf (now roles) (now ends) first end alone ⌝ }
     ensures { λ r. ⌜ TestsDropped (now (names .entry)) (now (roles .entry)) (now (ends .entry)) left first c end r ⌝ }
 {
+    if alone {
+        return false;
+    }
     if yields_one(names, roles, ends, c, first, c, left, true) {
         return true;
     }
@@ -180,9 +207,10 @@ fn mark(
     ensures { λ _. ⌜ MarkedBelow (now (names .entry)) (now (roles .entry)) (now (ends .entry)) left (now (marks .entry)) (now (marks .exit)) node ⌝ }
 {
     let end = fields::octet(ends[node]);
+    let alone = apart(roles, ends, node + 1, end);
     let mut c = node + 1;
     while c < end {
-        mark_child(names, roles, ends, marks, node + 1, c, end, left - 1);
+        mark_child(names, roles, ends, marks, node + 1, c, end, left - 1, alone);
         c = fields::octet(ends[c]);
     }
 }
@@ -197,11 +225,13 @@ fn mark_child(
     c: usize,
     end: usize,
     left: usize,
+    alone: bool,
 )
     requires { ⌜ Sibling (now names) (now roles) (now ends) left first c end ⌝ }
+    requires { ⌜ KeptIf (now roles) (now ends) first end alone ⌝ }
     ensures { λ _. ⌜ MarkedChild (now (names .entry)) (now (roles .entry)) (now (ends .entry)) left (now (marks .entry)) (now (marks .exit)) first c end ⌝ }
 {
-    if dropped(names, roles, ends, first, c, end, left) {
+    if dropped(names, roles, ends, first, c, end, left, alone) {
         put(marks, c, 0);
         return;
     }

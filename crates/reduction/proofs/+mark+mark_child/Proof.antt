@@ -10,6 +10,7 @@ use Rattle.reduction.proofs.+mark+mark_child.Lts-mark_child as mark-chi
 use Rattle.reduction.proofs.dropped.Reads as dropped-reads
 use Rattle.reduction.proofs.put.Reads as put-reads
 use Rattle.fields.proofs.octet.Reads as octet-reads
+use Rattle.reduction.proofs.apart.Reads as apart-reads
 use Rattle.reduction.proofs.+mark+mark_child.{statement}
 use Rattle.reduction.proofs.+mark+mark_child.Tie.{close}
 use native.Mathlib.Omega.{arith}
@@ -17,6 +18,7 @@ use Prim.Native.Nat.{_+_, _*_, _-_}
 use mathlib.Core.Path.{_≡_}
 use lib.ListN.{getD}
 use Rattle.reduction.proofs.Held.{in-range, inside}
+use Rattle.reduction.proofs.Alone.{below}
 use Rattle.reduction.proofs.Marks.{child-dropped, child-kept, Marking, mark-start, mark-all, next-child, mark-next}
 use borrow.Author.Needs.{needs}
 
@@ -46,6 +48,8 @@ abbrev mark-claims : ℕ → mark-lts.Claims
 mark-claims t = (
   octet-reads.Asked,
   octet-reads.Learnt,
+  apart-reads.Asked,
+  apart-reads.Learnt,
   mark-child-below t,
   mark-child.Post,
 )
@@ -61,11 +65,11 @@ mark-child-claims t = (
 )
 
 abbrev mark-Inv-loop : mark-lts.InvT-loop
-mark-Inv-loop names roles ends marks₀ node left end c₀ marks c =
+mark-Inv-loop names roles ends marks₀ node left end alone c₀ marks c =
     (end ≡ getD ends node 0) × Marking names roles ends left node marks₀ marks c
 
 abbrev mark-μ-loop : mark-lts.MeasureT-loop
-mark-μ-loop names roles ends marks₀ node left end c₀ marks c =
+mark-μ-loop names roles ends marks₀ node left end alone c₀ marks c =
     end - c
 
 pub +mark+mark-child-spec : {M : Type 1} → statement M
@@ -77,38 +81,41 @@ pub +mark+mark-child-spec : {M : Type 1} → statement M
     (λ c. let a = in-range _ _ _ _ (c .pre .1) in omega arith)
     (λ c κs. search needs)
     (λ c. let a = in-range _ _ _ _ (c .before .before .pre .1) in omega arith)
-    (λ c. (c .octet .ensures .0, mark-start _ _ _ _ _ _))
-    (λ c. let a = in-range _ _ _ _ (c .before .before .before .before .before .pre .1) in omega arith)
-    (λ c. let o = inside _ _ _ _ _ (c .before .before .before .before .before .pre .1) in omega arith)
+    (λ c κs. below _ _ _ _ _ (c .before .before .pre .1) (c .octet .ensures .0))
+    (λ c. let a = in-range _ _ _ _ (c .before .before .before .pre .1) in omega arith)
+    (λ c. (c .before .octet .ensures .0, mark-start _ _ _ _ _ _))
+    (λ c. let a = in-range _ _ _ _ (c .before .before .before .before .before .before .pre .1) in omega arith)
+    (λ c. let o = inside _ _ _ _ _ (c .before .before .before .before .before .before .pre .1) in omega arith)
     (λ c κs. let c2 = c .before .before in
-    let c5 = c2 .before .before .before in
-    let o = inside _ _ _ _ _ (c5 .pre .1) in
+    let c3 = c2 .before in
+    let c6 = c3 .before .before .before in
+    let o = inside _ _ _ _ _ (c6 .pre .1) in
     let e = c2 .loop .inv .0 in
-    (omega (arith, c5 .pre .0), rw e (next-child _ _ _ _ _ _ _ _ (c2 .loop .inv .1) (c5 .pre .1) (omega arith))))
-    (λ c. let f = c .before .before .before .before .before .before .pre .1 .fits in omega (arith, c .before .before .before .loop .inv .0))
+    (omega (arith, c6 .pre .0), (rw e (next-child _ _ _ _ _ _ _ _ (c2 .loop .inv .1) (c6 .pre .1) (omega arith)), c3 .apart .ensures)))
+    (λ c. let f = c .before .before .before .before .before .before .before .pre .1 .fits in omega (arith, c .before .before .before .loop .inv .0))
     (λ c κs. search needs)
     (λ c. let c5 = c .before .before .before .before .before in
-    let c8 = c5 .before .before .before in
-    let s = next-child _ _ _ _ _ _ _ _ (c5 .loop .inv .1) (c8 .pre .1) (omega (arith, c5 .loop .inv .0)) in
+    let c9 = c5 .before .before .before .before in
+    let s = next-child _ _ _ _ _ _ _ _ (c5 .loop .inv .1) (c9 .pre .1) (omega (arith, c5 .loop .inv .0)) in
     let o = inside _ _ _ _ _ (s .here) in
     omega (arith, c .octet2 .ensures .0))
     (λ c. let c5 = c .before .before .before .before .before in
-    let c8 = c5 .before .before .before in (
+    let c9 = c5 .before .before .before .before in (
       c5 .loop .inv .0,
       mark-next _ _ _ _ _ _ _ _ (c5 .loop .inv .1) (omega (arith, c5 .loop .inv .0)) _ (c5 .loop .inv .0)
-          (c .before .before .mark-child .ensures) (c .octet2 .ensures .0) (c8 .pre .1),
+          (c .before .before .mark-child .ensures) (c .octet2 .ensures .0) (c9 .pre .1),
     ))
     (λ c. mark-all _ _ _ _ _ _ _ _ (c .before .loop .inv .1) (omega (arith, c .before .loop .inv .0))))
     λ t. mark-child-lts.spec (mark-child-claims t)
     (mark-child-at t)
     mark-child.Post
     (λ c κs. search needs)
-    (λ c κs. let a = in-range _ _ _ _ (c .before .before .before .pre .1 .here) in omega arith)
+    (λ c κs. let a = in-range _ _ _ _ (c .before .before .before .pre .1 .0 .here) in omega arith)
     (λ c. let c4 = c .before .before .before .before in
-    child-dropped _ _ _ _ _ _ _ _ (inside _ _ _ _ _ (c4 .pre .1 .here) .inside) (c .before .before .before .dropped .ensures) _ (c .before .before .if1 .taken) (c .put .ensures))
-    (λ c κs. let a = in-range _ _ _ _ (c .before .before .before .pre .1 .here) in omega arith)
-    (λ c κs. (omega (arith, c .before .before .before .before .before .pre .0), c .before .before .before .before .before .pre .1 .here))
+    child-dropped _ _ _ _ _ _ _ _ (inside _ _ _ _ _ (c4 .pre .1 .0 .here) .inside) (c .before .before .before .dropped .ensures) _ (c .before .before .if1 .taken) (c .put .ensures))
+    (λ c κs. let a = in-range _ _ _ _ (c .before .before .before .pre .1 .0 .here) in omega arith)
+    (λ c κs. (omega (arith, c .before .before .before .before .before .pre .0), c .before .before .before .before .before .pre .1 .0 .here))
     (λ c. let c4 = c .before .before .before .before in
     let c5 = c4 .before in
     let c6 = c5 .before in
-    child-kept _ _ _ _ _ _ _ _ (inside _ _ _ _ _ (c6 .pre .1 .here) .inside) (c5 .dropped .ensures) _ _ (c4 .if1 .left) (c .before .before .put2 .ensures) (c .mark .ensures))
+    child-kept _ _ _ _ _ _ _ _ (inside _ _ _ _ _ (c6 .pre .1 .0 .here) .inside) (c5 .dropped .ensures) _ _ (c4 .if1 .left) (c .before .before .put2 .ensures) (c .mark .ensures))
