@@ -1,3 +1,4 @@
+pub mod Masked
 pub mod Rising
 pub mod OneLink
 pub mod Links

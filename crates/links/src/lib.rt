@@ -96,17 +96,19 @@ pub fn key_at(s: &[u8], at: usize) -> usize
     four(s, at) * 256 + fields::one(s, at + 4)
 }
 
-// Whether something is wrong with a link that has this number, but for the item that it leads from.
+// Of a link's number, where it leads to and the highest three bits of its role, which no role has: 0xE0FFFF.
+const TO_AND_HIGH_ROLE: usize = 14745599;
+
+// Whether something is wrong with a link that has this number, but for the item that it leads from. Role and end are tested at once: where a high bit of the
+// role is set, what is tested is greater than any number of items.
 fn wrong(number: usize, items: usize, floor: usize) -> bool
+    requires { ⌜ items ≤ mostItems ⌝ }
     ensures { λ r. ⌜ (r ≡ false → Right number items floor) ⌝ }
 {
     if number < floor {
         return true;
     }
-    if items <= number % 65536 {
-        return true;
-    }
-    meaning::MOST_ROLE < number / 65536 % 256
+    items <= number & TO_AND_HIGH_ROLE
 }
 
 // Whether the links from `place` up to `behind` are right, by their numbers; the first must have at least the number `floor`. The numbers rise, so all

@@ -22,62 +22,6 @@ abbrev μ-loop : tie.MeasureT-loop
 μ-loop s end items links start behind stop at₀ floor₀ front₀ next-front₀ at floor front next-front =
     behind - at
 
-returns : tie.Need-returns Inv-loop μ-loop
-returns c =
-    λ h. absurd (let z : _≡_ {A = ℕ} 0 1 = cc in omega arith)
-
-returns-2 : tie.Need-returns-2 Inv-loop μ-loop
-returns-2 c =
-    let known = c .before .before .before in
-    let a = known .before .args in
-    λ h. rightly-all (a .s .now) (a .items) (bytes-known (a .s .now) (known .shared-slice-known .given)) _ (known .before .pre .2) _ _ (omega arith)
-    (c .right-from .ensures h (a .links) refl)
-
-loop-holds : tie.Need-loop-holds Inv-loop μ-loop
-loop-holds c =
-    let start = c .before .before .before .before .before in
-    let front = c .before .four .ensures in
-    let next = c .four2 .ensures in
-    (omega arith, front .1, next .1, front .0, next .0, upto-none _ _ _ _ _ (start .args .links, refl))
-
-returns-3 : tie.Need-returns-3 Inv-loop μ-loop
-returns-3 c =
-    λ h. absurd (let z : _≡_ {A = ℕ} 0 1 = cc in omega arith)
-
-returns-4 : tie.Need-returns-4 Inv-loop μ-loop
-returns-4 c =
-    λ h. absurd (let z : _≡_ {A = ℕ} 0 1 = cc in omega arith)
-
-loop-again : tie.Need-loop-again Inv-loop μ-loop
-loop-again c =
-    let else4 = c .before .before in
-    let one2 = else4 .before .before in
-    let else3 = one2 .before in
-    let one = else3 .before .before in
-    let at-loop = one .before .before in
-    let s = at-loop .before .before .before .before .before .before .args .s .now in
-    let l = at-loop .loop .inv in
-    let front = c .before .four3 .ensures in
-    let next = c .four4 .ensures in (
-      omega arith,
-      front .1,
-      next .1,
-      front .0,
-      next .0,
-      upto-two _ _ _ _ _ _ _ _ _ (l .5) (l .0)
-          (key-parts s _ _ _ (l .3) (one .one .ensures .0)) (else3 .before .wrong .ensures (else3 .if3 .left))
-          (next-parts s _ _ _ (l .4) (one2 .one2 .ensures .0)) (else4 .before .wrong2 .ensures (else4 .if4 .left)),
-    )
-
-returns-5 : tie.Need-returns-5 Inv-loop μ-loop
-returns-5 c =
-    let at-loop = c .before .before in
-    let known = at-loop .before .before .before .before .before in
-    let a = known .before .args in
-    let w = at-loop .loop .inv .5 in
-    λ h. rightly-all (a .s .now) (a .items) (bytes-known (a .s .now) (known .shared-slice-known .given)) _ (known .before .pre .2) _ _ (omega arith)
-    (w .all (c .right-from2 .ensures h (w .left) (w .place)) (a .links) refl)
-
 pub quick-links-spec : {M : Type 1} → statement M
 quick-links-spec =
     tie.close
@@ -86,35 +30,66 @@ quick-links-spec =
     μ-loop
     (λ c. search needs)
     (λ c. search needs)
-    returns
+    (λ c. λ h. absurd (let z : _≡_ {A = ℕ} 0 1 = cc in omega arith))
     (λ c. search needs)
     (λ c. search needs)
     (λ c κs. (omega arith, omega arith, (c .before .before .before .args .links, refl)))
-    returns-2
+    (λ c.
+    let start = c .before .before .before .before in
+    let a = start .args in
+    λ h. rightly-all (a .s .now) (a .items) (bytes-known (a .s .now) (c .before .before .before .shared-slice-known .given)) _ (start .pre .2) _ _ (omega arith)
+    (c .right-from .ensures h (a .links) refl))
     (λ c. search needs)
     (λ c κs. search needs)
     (λ c. search needs)
     (λ c κs. search needs)
-    loop-holds
-    (λ c. search needs)
-    (λ c. search needs)
-    (λ c κs. search needs)
-    (λ c. search needs)
-    (λ c κs. search needs)
-    returns-3
-    (λ c. search needs)
-    (λ c. search needs)
-    (λ c κs. search needs)
-    (λ c. search needs)
-    (λ c. search needs)
-    (λ c κs. search needs)
-    returns-4
+    (λ c. let front = c .before .four .ensures in
+    let next = c .four2 .ensures in
+    (omega arith, front .1, next .1, front .0, next .0, upto-none _ _ _ _ _ (c .before .before .before .before .before .args .links, refl)))
     (λ c. search needs)
     (λ c. search needs)
     (λ c κs. search needs)
     (λ c. search needs)
     (λ c κs. search needs)
+    (λ c. λ h. absurd (let z : _≡_ {A = ℕ} 0 1 = cc in omega arith))
     (λ c. search needs)
-    loop-again
+    (λ c. search needs)
+    (λ c κs. search needs)
+    (λ c. search needs)
+    (λ c. search needs)
+    (λ c κs. search needs)
+    (λ c. λ h. absurd (let z : _≡_ {A = ℕ} 0 1 = cc in omega arith))
+    (λ c. search needs)
+    (λ c. search needs)
+    (λ c κs. search needs)
+    (λ c. search needs)
+    (λ c κs. search needs)
+    (λ c. search needs)
+    (λ c.
+    let at-one2 = c .before .before .before .before in
+    let at-if3 = at-one2 .before in
+    let at-wrong = at-if3 .before in
+    let at-one = at-wrong .before in
+    let turn = at-one .before .before in
+    let start = turn .before .before .before .before .before .before in
+    let s = start .args .s .now in
+    let l = turn .loop .inv in
+    let front = c .before .four3 .ensures in
+    let next = c .four4 .ensures in (
+      omega arith,
+      front .1,
+      next .1,
+      front .0,
+      next .0,
+      upto-two _ _ _ _ _ _ _ _ _ (l .5) (l .0)
+          (key-parts s _ _ _ (l .3) (at-one .one .ensures .0)) (at-wrong .wrong .ensures (at-if3 .if3 .left))
+          (next-parts s _ _ _ (l .4) (at-one2 .one2 .ensures .0)) (c .before .before .before .wrong2 .ensures (c .before .before .if4 .left)),
+    ))
     (λ c κs. let w = c .before .loop .inv .5 in (omega arith, omega arith, (w .left, w .place)))
-    returns-5)
+    (λ c.
+    let at-shared-slice-known = c .before .before .before .before .before .before .before in
+    let start = at-shared-slice-known .before in
+    let a = start .args in
+    let w = c .before .before .loop .inv .5 in
+    λ h. rightly-all (a .s .now) (a .items) (bytes-known (a .s .now) (at-shared-slice-known .shared-slice-known .given)) _ (start .pre .2) _ _ (omega arith)
+    (w .all (c .right-from2 .ensures h (w .left) (w .place)) (a .links) refl)))
