@@ -1,7 +1,7 @@
 -- One test of a link's number in place of two: where it leads to, and the highest three bits of its role.
 -- Assumes nothing.
-use mathlib.Core.Path.{_≡_, sym, ap, _∙_}
-use Prim.Native.Nat.{ℕ, _*_, _+_, _-_, _/_, _%_, _^_, _≤_, _<_}
+use mathlib.Core.Path.{_≡_, _∙_}
+use Prim.Native.Nat.{ℕ, _/_, _%_, _≤_, _<_}
 use native.Mathlib.Omega.{arith}
 use lib.Bits.{bitAnd, and-mask, and-mod, and-shr}
 use Rattle.meaning.specs.Bounds.{mostItems}

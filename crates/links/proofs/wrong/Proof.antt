@@ -1,6 +1,5 @@
 -- `links::wrong` meets its contract.
 -- Assumes nothing.
-use borrow.Author.Needs.{needs}
 use Rattle.links.proofs.wrong.Statement.{statement}
 use Rattle.links.proofs.wrong.Tie as tie
 use native.Mathlib.Omega.{arith}
