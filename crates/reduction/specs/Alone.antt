@@ -8,6 +8,7 @@ use Rattle.reduction.specs.Held.{HeldF}
 use Rattle.reduction.specs.Subsumed.{TestsDropped}
 
 module _ (roles ends : List ℕ) where
+  -- trees stand in the rows from i up to e, whatever their names
   pub record Children (i e : ℕ) : Type 0 where
     pub names : List ℕ
     pub left : ℕ

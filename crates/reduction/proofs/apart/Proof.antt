@@ -1,3 +1,5 @@
+-- `reduction::apart` meets its contract.
+-- Assumes nothing.
 use borrow.Author.Needs.{needs}
 use Rattle.reduction.proofs.apart.Statement.{statement}
 use Rattle.reduction.proofs.apart.Tie as tie
