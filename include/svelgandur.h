@@ -54,6 +54,9 @@
  *   19  undo with count 0
  *   20  link not there is to be added, and 4,096 stand or the buffer has under
  *       5 bytes left
+ *   21  output shorter than the message
+ *   22  a list is empty, its depths form no tree, or a threshold's node is not in
+ *       the list or below the one before
  *   Where several hold, the one that the call comes to first is given: it reads
  *   the register, then the requirement, each from left to right, and then tests
  *   its own numbers in the order in which the call lists them below.
@@ -123,6 +126,50 @@ void svelgandur_read_requirement(const uint8_t *message, size_t message_length,
  */
 void svelgandur_inner_part(const uint8_t *message, size_t message_length,
                            uint64_t k, uint64_t answer[4]);
+
+/* ---- writing ---- */
+
+/* A node and a threshold as svelgandur_write_requirement takes them. */
+struct svelgandur_node {
+    uint64_t names; /* bit i is name i */
+    uint64_t depth; /* 0 at the root */
+    uint64_t role;  /* of the edge from its parent; not looked at in a root */
+};
+
+struct svelgandur_threshold {
+    uint64_t node;       /* the number of its node, from 0 */
+    uint64_t comparison; /* 0 is <, 1 is <=, 2 is >, 3 is >= */
+    uint64_t p;
+    uint64_t q;
+    uint64_t inner_nodes; /* how many nodes its inner concept has */
+};
+
+/*
+ * Writes the message of a requirement that is handed over as lists.
+ *   nodes     its nodes in reading order (a node, then its children, each with
+ *             all that is below it): three numbers each, as in
+ *             struct svelgandur_node. nodes_length is how many numbers.
+ *   thresholds   five numbers each, as in struct svelgandur_threshold, in the
+ *             order of their nodes.
+ *   inner     the nodes of all inner concepts, one after the other in the order
+ *             of the thresholds: three numbers each.
+ *   message   where it is written, from the first byte on; message_length is how
+ *             many bytes fit. 12,066 are enough for every requirement.
+ *   answer    good: 1, how many bytes were written, 0, 0.
+ *             refused, on the call's side: 22; what reading the message would
+ *             refuse first, each node with its thresholds before its children: 7,
+ *             9, 10, 12, 13, 14; 21.
+ *             22 also where a length does not go into whole nodes or thresholds,
+ *             or the thresholds have more or fewer inner nodes than there are.
+ * After a good answer svelgandur_read_requirement takes the bytes written, and
+ * the bytes behind them keep their contents. The lists are only read.
+ */
+void svelgandur_write_requirement(const uint64_t *nodes, size_t nodes_length,
+                                  const uint64_t *thresholds,
+                                  size_t thresholds_length,
+                                  const uint64_t *inner, size_t inner_length,
+                                  uint8_t *message, size_t message_length,
+                                  uint64_t answer[4]);
 
 /* ---- one question: a register, a requirement, an item ---- */
 

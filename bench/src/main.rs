@@ -43,6 +43,7 @@ fn works() -> Vec<Work> {
         read::half(),
         message::longest(),
         message::costly(),
+        message::writing(),
     ];
     works.extend(degree::works());
     works.extend(member::works());

@@ -150,6 +150,7 @@ enum {
     READ_REGISTER,
     READ_REQUIREMENT,
     INNER_PART,
+    WRITE_REQUIREMENT,
     DEGREE,
     MARGIN,
     MEMBER,
@@ -165,6 +166,11 @@ static struct call calls[CALLS] = {
     {"read_register", {REGISTER, 0, 0}, 0, 0, 0},
     {"read_requirement", {0, REQUIREMENT, 0}, 0, 0, 0},
     {"inner_part", {N(0), 0, 0}, 0, 0, 0},
+    {"write_requirement",
+     {0, 0, N(7) | N(9) | N(10) | N(12) | N(13) | N(14) | N(21) | N(22)},
+     0,
+     0,
+     0},
     {"degree", {REGISTER, REQUIREMENT, N(15) | N(16)}, 0, 0, 0},
     {"margin", {REGISTER, REQUIREMENT, N(13) | N(15)}, 0, 0, 0},
     {"member", {REGISTER, REQUIREMENT, N(15) | N(16)}, 0, 0, 0},
@@ -201,7 +207,7 @@ static int judged(int which, const struct answer *answer, size_t image,
     if (numbers[0] == SVELGANDUR_REFUSED) {
         const size_t ends[3] = {image, message, 0};
         require(numbers[1] <= SVELGANDUR_CALL, "no such side");
-        require(numbers[2] <= 20 &&
+        require(numbers[2] <= 22 &&
                     call->sides[numbers[1]] & N((unsigned)numbers[2]),
                 "a refusal that is not the call's own");
         require(numbers[3] <= ends[numbers[1]], "a place outside");
@@ -377,6 +383,78 @@ static void reading(void) {
     take_back(bytes);
 }
 
+/* ---- writing ---- */
+
+/* A list that forms a tree but for a number now and then; how many nodes. */
+static size_t make_list(struct svelgandur_node *nodes, uint64_t most) {
+    size_t count = (size_t)below(most), at;
+    uint64_t depth = 0;
+    for (at = 0; at < count; at++) {
+        nodes[at].names = few_names();
+        nodes[at].depth = below(40) ? depth : number(17);
+        nodes[at].role = below(40) ? below(32) : number(32);
+        depth = 1 + below(nodes[at].depth < 14 ? nodes[at].depth + 1 : 14);
+    }
+    return count;
+}
+
+static void writing(void) {
+    static struct svelgandur_node nodes[80], inner[20 * 12];
+    static struct svelgandur_threshold thresholds[20];
+    static unsigned char bytes[13000];
+    size_t node_count = make_list(nodes, below(8) ? 12 : 80), inner_count = 0;
+    size_t count = (size_t)(below(8) ? below(4) : below(20)), at, room;
+    struct lent first, second, third, out;
+    struct answer answer = fresh();
+    uint64_t owner = 0;
+    for (at = 0; at < count; at++) {
+        const unsigned char *fraction = fractions[below(6)];
+        size_t own = make_list(inner + inner_count, 12);
+        if (node_count > owner + 1 && !below(2))
+            owner += below(node_count - owner);
+        thresholds[at].node = below(40) ? owner : number(4);
+        thresholds[at].comparison = below(20) ? below(4) : number(4);
+        thresholds[at].p = below(20) ? fraction[0] : number(4);
+        thresholds[at].q = below(20) ? fraction[1] : number(5);
+        thresholds[at].inner_nodes = below(40) ? own : number(12);
+        inner_count += own;
+    }
+    first = lend(nodes,
+                 node_count * sizeof *nodes -
+                     (node_count && !below(60) ? 8 : 0),
+                 1);
+    second = lend(thresholds, count * sizeof *thresholds, 1);
+    third = lend(inner, inner_count * sizeof *inner, 1);
+    for (room = 0; room < sizeof bytes; room++)
+        bytes[room] = (unsigned char)word();
+    room = below(4) ? 12066 : (size_t)below(200);
+    out = lend(bytes, room, 0);
+    svelgandur_write_requirement(
+        (uint64_t *)(void *)first.at, first.bytes / 8,
+        (uint64_t *)(void *)second.at, second.bytes / 8,
+        (uint64_t *)(void *)third.at, third.bytes / 8, out.at, out.bytes,
+        answer.numbers);
+    if (judged(WRITE_REQUIREMENT, &answer, 0, 0)) {
+        size_t length = (size_t)answer.numbers[1];
+        struct answer read = fresh();
+        require(length <= room && !answer.numbers[2] && !answer.numbers[3],
+                "a message longer than its room");
+        require(!memcmp(out.at + length, out.before + length, room - length),
+                "bytes behind the message were written");
+        svelgandur_read_requirement(out.at, length, read.numbers);
+        require(read.numbers[0] == SVELGANDUR_GOOD &&
+                    read.numbers[1] == node_count && read.numbers[2] == count,
+                "what was written does not read back");
+    } else
+        require(as_it_was(out), "a refused writing wrote");
+    require(as_it_was(first) && as_it_was(second) && as_it_was(third),
+            "a list was written");
+    take_back(out);
+    take_back(third);
+    take_back(second);
+    take_back(first);
+}
+
 /* After a good answer so many places hold an item, or a number that stands for
  * none where there may be one; the others are as they were. */
 static void judge_map(struct lent map, uint64_t written, int may_be_none) {
@@ -544,6 +622,7 @@ int main(int words, char **word_list) {
         if (!below(3))
             damage(message, &message_length);
         reading();
+        writing();
         questions();
         session();
     }

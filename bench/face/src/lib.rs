@@ -7,7 +7,7 @@
 
 use std::slice::{from_raw_parts as lent, from_raw_parts_mut as lent_mut};
 
-use good::{calls, session};
+use good::{calls, session, writing};
 
 #[no_mangle]
 pub unsafe extern "C" fn svelgandur_read_register(
@@ -36,6 +36,26 @@ pub unsafe extern "C" fn svelgandur_inner_part(
     answer: *mut [u64; 4],
 ) {
     *answer = calls::inner_part(lent(message, length), k);
+}
+
+#[no_mangle]
+pub unsafe extern "C" fn svelgandur_write_requirement(
+    nodes: *const u64,
+    nodes_length: usize,
+    thresholds: *const u64,
+    thresholds_length: usize,
+    inner: *const u64,
+    inner_length: usize,
+    message: *mut u8,
+    message_length: usize,
+    answer: *mut [u64; 4],
+) {
+    *answer = writing::write_requirement(
+        lent(nodes, nodes_length),
+        lent(thresholds, thresholds_length),
+        lent(inner, inner_length),
+        lent_mut(message, message_length),
+    );
 }
 
 #[no_mangle]

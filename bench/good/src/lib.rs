@@ -13,6 +13,7 @@
 //! | `numbers` | degrees, at the items that are reached and no others |
 //! | `meeting` | the yes or no, at the items that are reached |
 //! | `calls` | degree, margin, yes or no, and reading, as four numbers |
+//! | `writing` | writing a message from lists |
 //! | `session` | open, edit, undo and keep |
 //! | `listing` | what the listing program prints |
 
@@ -26,6 +27,7 @@ pub mod numbers;
 pub mod register;
 pub mod session;
 pub mod tree;
+pub mod writing;
 
 pub const MOST_ITEMS: usize = 512;
 pub const MOST_LINKS: usize = 4096;

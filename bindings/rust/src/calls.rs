@@ -19,6 +19,17 @@ extern "C" {
     fn svelgandur_read_register(image: *const u8, length: usize, session: u64, answer: *mut u64);
     fn svelgandur_read_requirement(message: *const u8, length: usize, answer: *mut u64);
     fn svelgandur_inner_part(message: *const u8, length: usize, k: u64, answer: *mut u64);
+    fn svelgandur_write_requirement(
+        nodes: *const u64,
+        nodes_length: usize,
+        thresholds: *const u64,
+        thresholds_length: usize,
+        inner: *const u64,
+        inner_length: usize,
+        message: *mut u8,
+        message_length: usize,
+        answer: *mut u64,
+    );
     fn svelgandur_degree(
         image: *const u8,
         image_length: usize,
@@ -115,6 +126,28 @@ pub fn read_requirement(message: &[u8]) -> Answer {
 pub fn inner_part(message: &[u8], k: u64) -> Answer {
     // SAFETY: each pointer goes with its own slice's length.
     answered(|answer| unsafe { svelgandur_inner_part(message.as_ptr(), message.len(), k, answer) })
+}
+
+pub fn write_requirement(
+    nodes: &[u64],
+    thresholds: &[u64],
+    inner: &[u64],
+    message: &mut [u8],
+) -> Answer {
+    // SAFETY: each pointer goes with its own slice's length.
+    answered(|answer| unsafe {
+        svelgandur_write_requirement(
+            nodes.as_ptr(),
+            nodes.len(),
+            thresholds.as_ptr(),
+            thresholds.len(),
+            inner.as_ptr(),
+            inner.len(),
+            message.as_mut_ptr(),
+            message.len(),
+            answer,
+        )
+    })
 }
 
 pub fn degree(image: &[u8], message: &[u8], item: u64, map: &mut [u16]) -> Answer {

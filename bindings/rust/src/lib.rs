@@ -2,7 +2,8 @@
 //! requirement, as an exact fraction, and sessions of trial edits.
 //!
 //! A register and a requirement are bytes, as document 01 lays them out;
-//! `svelgandur-text` (tools/text) writes them from plain text. Nothing here
+//! `svelgandur-text` (tools/text) writes them from plain text, and
+//! [`Requirement`] builds a requirement node by node. Nothing here
 //! works anything out: each function lends the proved library what it was
 //! handed, and gives its four numbers a type.
 //!
@@ -41,6 +42,7 @@
 //! | `refusal` | a refusal, and a sentence for each number |
 //! | `answer` | what the calls answer, as types |
 //! | `ask` | the questions: reading, degree, margin, yes or no |
+//! | `requirement` | requirements built node by node, and their messages |
 //! | `session` | trial edits with undo |
 
 #![deny(unsafe_code)]
@@ -49,6 +51,7 @@ mod answer;
 mod ask;
 mod calls;
 mod refusal;
+mod requirement;
 mod session;
 
 pub use answer::{Degree, Margin, Place, RegisterCounts, RequirementCounts, Verdict};
@@ -56,4 +59,5 @@ pub use ask::{
     degree, degree_into, inner_part, margin, member, member_into, read_register, read_requirement,
 };
 pub use refusal::{Refusal, Side};
+pub use requirement::{Comparison, Concept, Requirement, LONGEST_MESSAGE};
 pub use session::{Fact, Session, LARGEST_IMAGE, MOST_STEPS};

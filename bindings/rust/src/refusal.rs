@@ -37,7 +37,7 @@ impl fmt::Display for Side {
 #[derive(Clone, Copy, PartialEq, Eq, Hash, Debug)]
 pub struct Refusal {
     pub side: Side,
-    /// 1 to 20: see [`Refusal::sentence`].
+    /// 1 to 22: see [`Refusal::sentence`].
     pub number: u64,
     /// 0 on the call's side.
     pub place: u64,
@@ -82,6 +82,8 @@ impl Refusal {
             18 => "the log is full",
             19 => "there is no step to undo",
             20 => "a link more does not fit: 4,096 stand, or the buffer has no room",
+            21 => "the output is shorter than the message",
+            22 => "a list is empty or forms no tree, or a threshold's node is out of its place",
             _ => "the number is not known here",
         }
     }

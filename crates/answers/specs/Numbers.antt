@@ -64,7 +64,7 @@ messageNumbers (RefusedMessage r) = refusalNumbers r
 abbrev pub placeNumbers : Place → List ℕ
 placeNumbers p = cond (eqb (p .len) 0) (four 0 0 0 0) (four 1 (p .start) (p .len) 0)
 
--- a session's call: 1, the count of steps in use, 0, 0; opening and keep hand back count 0
+-- a session's call: 1, the count of steps in use, 0, 0; opening and keep hand back count 0. A message that was written: 1, its length, 0, 0
 abbrev pub inUse : ℕ → List ℕ
 inUse n = four 1 n 0 0
 

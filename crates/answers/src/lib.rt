@@ -8,6 +8,7 @@ use parts::Place;
 use register::Reading;
 use requirement::Message;
 use session::Counted;
+use writer::Written;
 ghost use mathlib.Core.Path.{_≡_};
 ghost use Prim.Native.Nat.{_≤_};
 ghost use lib.IntN.{natAbs};
@@ -16,6 +17,7 @@ ghost use Rattle.register.specs.Reading.{paperReading};
 ghost use Rattle.asking.specs.Answers.{paperDegree, paperMargin};
 ghost use Rattle.deciding.specs.Answers.{paperVerdict};
 ghost use Rattle.session.specs.Calls.{paperCount};
+ghost use Rattle.writer.specs.Promise.{paperWritten};
 ghost use Rattle.answers.specs.Numbers.{four, sideNumber, refusalNumbers, numbers, counts, messageNumbers, placeNumbers, inUse, verdicts, degreeNumbers, marginNumbers, belowZero, Small};
 
 // Writes the four numbers.
@@ -122,6 +124,16 @@ pub fn of_count(answer: &mut [u64; 4], r: Counted)
     match r {
         Counted::Good { count } => put(answer, 1, count as u64, 0, 0),
         Counted::Refused { refusal } => refuse(answer, refusal),
+    }
+}
+
+// A message that was written: 1, its length, 0, 0.
+pub fn of_written(answer: &mut [u64; 4], r: Written)
+    ensures { λ _. ⌜ now (answer .exit) ≡ numbers inUse (paperWritten r) ⌝ }
+{
+    match r {
+        Written::Good { len } => put(answer, 1, len as u64, 0, 0),
+        Written::Refused { refusal } => refuse(answer, refusal),
     }
 }
 

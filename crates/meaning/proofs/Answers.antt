@@ -32,7 +32,7 @@ use Rattle.meaning.proofs.Shown.{degree-shows}
 use Rattle.meaning.proofs.YesShown.{yes-shows}
 
 -- a map written in front
-lent : (old m : List ℕ) → length m ≤ length old → sets old 0 m ≡ m ++ drop (length m) old
+pub lent : (old m : List ℕ) → length m ≤ length old → sets old 0 m ≡ m ++ drop (length m) old
 lent old m h = sets-eq m old 0 (omega arith) ∙ ap (λ (k : ℕ). m ++ drop k old) (zero-add (length m))
 
 -- ---- what was read, of the degree and the margin: a register, a plain requirement, and an item of the register

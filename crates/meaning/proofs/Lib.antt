@@ -10,6 +10,14 @@ pub mod Image
 pub mod MessageTree
 pub mod MessageLabel
 pub mod Message
+pub mod Lists
+pub mod Said
+pub mod ListsFit
+pub mod ListsSound
+pub mod ListNumbers
+pub mod Writing
+pub mod WriteRows
+pub mod WriteOrders
 -- Whole maps, subsumption and the reduced form
 pub mod Whole
 pub mod Under

@@ -141,7 +141,7 @@ decoded atMost = (refl, omega arith)
 decoded greater = (refl, omega arith)
 decoded atLeast = (refl, omega arith)
 
-coded : (n : ℕ) → n ≤ 3 → n ≡ code (comparison n)
+pub coded : (n : ℕ) → n ≤ 3 → n ≡ code (comparison n)
 coded zero h = refl
 coded (suc zero) h = refl
 coded (suc (suc zero)) h = refl

@@ -18,6 +18,9 @@ pub mod Rows
 pub mod Session
 pub mod Refusing
 pub mod Calls
+pub mod Lists
+pub mod Writing
+pub mod WriteRows
 pub mod Demand3
 pub mod Sheet
 pub mod Slips

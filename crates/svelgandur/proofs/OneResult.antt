@@ -6,7 +6,7 @@ use mathlib.Core.List.{List}
 use Prim.Native.Nat.{ℕ}
 use Rattle.meaning.specs.declared.Fact.{Fact}
 use Rattle.fields.proofs.Once.{itself, once, once-left}
-use Rattle.svelgandur.specs.Promises.{RegisterPromise, RequirementPromise, InnerPromise, DegreePromise, MarginPromise, MemberPromise}
+use Rattle.svelgandur.specs.Promises.{RegisterPromise, RequirementPromise, InnerPromise, WritePromise, DegreePromise, MarginPromise, MemberPromise}
 use Rattle.svelgandur.specs.Promises.{OpenPromise, EditPromise, UndoPromise, KeepPromise}
 
 -- numbers stand for themselves, and so does what is lent
@@ -40,6 +40,9 @@ module _ {l k : List ℕ} where
     pub one-member : (image message : List ℕ) (item : ℕ) (old : List ℕ) → MemberPromise image message item old new l
         → MemberPromise image message item old new′ k → (l ≡ k) × (new ≡ new′)
     one-member image message item old = numbers-left _ _ _ _ _ _
+
+    pub one-write : (nodes hs inner old : List ℕ) → WritePromise nodes hs inner old new l → WritePromise nodes hs inner old new′ k → (l ≡ k) × (new ≡ new′)
+    one-write nodes hs inner old = numbers-left _ _ _ _ _ _
 
     pub one-open : (b : List ℕ) → OpenPromise b new l → OpenPromise b new′ k → (l ≡ k) × (new ≡ new′)
     one-open b = numbers-left _ _ _ _ _ _

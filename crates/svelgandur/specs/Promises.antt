@@ -10,12 +10,14 @@ use Rattle.meaning.specs.Register.{readRegisterBy}
 use Rattle.meaning.specs.Message.{readRequirement}
 use Rattle.meaning.specs.Calls.{degreeCall, afterDegree, marginCall, memberCall, afterMember}
 use Rattle.meaning.specs.Session.{openCall, editCall, undoCall, keepCall, noSteps, counted, bufferOpened, bufferAfter}
+use Rattle.meaning.specs.Writing.{writeCall, afterWrite}
 use Rattle.fields.specs.Head.{wrongIn}
 use Rattle.register.specs.Reading.{counted as countedItems}
 use Rattle.parts.specs.Inner.{innerPlace}
 use Rattle.asking.specs.Answers.{told}
 use Rattle.deciding.specs.Answers.{said}
 use Rattle.session.specs.Calls.{anEdit}
+use Rattle.writer.specs.Promise.{long}
 use Rattle.numbered.specs.Coded.{decoded, numbersAfter}
 use Rattle.answers.specs.Numbers.{numbers, counts, isSession, written, placeNumbers, degreeNumbers, marginNumbers, verdicts, inUse}
 
@@ -29,6 +31,12 @@ RequirementPromise message l = l ≡ numbers written (readRequirement message)
 
 abbrev pub InnerPromise : List ℕ → ℕ → List ℕ → Type 0
 InnerPromise message k l = l ≡ placeNumbers (innerPlace k (readRequirement message))
+
+-- ---- writing, with the output before and after
+
+abbrev pub WritePromise : List ℕ → List ℕ → List ℕ → List ℕ → List ℕ → List ℕ → Type 0
+WritePromise nodes hs inner old new l =
+    (l ≡ numbers inUse (long (writeCall nodes hs inner (length old)))) × (new ≡ afterWrite old (writeCall nodes hs inner (length old)))
 
 -- ---- asking, with the map before and after
 

@@ -5,6 +5,7 @@ use answers;
 
 mod asks;
 mod trial;
+mod writes;
 pub mod yes_no;
 
 ghost use Rattle.svelgandur.specs.Promises.{RegisterPromise, RequirementPromise, InnerPromise};

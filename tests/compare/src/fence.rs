@@ -68,7 +68,7 @@ impl Pages {
 }
 
 /// A call is lent at most this many pieces of memory.
-pub const PIECES: usize = 3;
+pub const PIECES: usize = 4;
 
 thread_local! {
     static FENCED: [OnceCell<Pages>; PIECES] = const { [const { OnceCell::new() }; PIECES] };

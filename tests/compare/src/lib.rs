@@ -11,6 +11,7 @@
 //! | `small` | every register and concept that is small enough to list |
 //! | `registers` | reading register images |
 //! | `requirements` | reading requirement messages, and their inner parts |
+//! | `writings` | writing requirement messages |
 //! | `worst` | the costliest registers and requirements |
 //! | `degrees` | the degree of an item, its map and its margin |
 //! | `members` | the yes or no for an item, and its map |
@@ -31,13 +32,15 @@ pub mod sheet;
 pub mod small;
 pub mod steps;
 pub mod worst;
+pub mod writings;
 
 use part::Part;
 
 /// A further part is a module of its own and a line here.
-pub const PARTS: [Part; 5] = [
+pub const PARTS: [Part; 6] = [
     registers::PART,
     requirements::PART,
+    writings::PART,
     degrees::PART,
     members::PART,
     sessions::PART,

@@ -5,13 +5,18 @@
 pub type Answer = [u64; 4];
 
 /// The declarations of the header, to hold it to what is called here.
-pub const DECLARATIONS: [&str; 11] = [
+pub const DECLARATIONS: [&str; 12] = [
     "void svelgandur_read_register(\
     const uint8_t *image, size_t image_length, uint64_t session, uint64_t answer[4])",
     "void svelgandur_read_requirement(\
     const uint8_t *message, size_t message_length, uint64_t answer[4])",
     "void svelgandur_inner_part(\
     const uint8_t *message, size_t message_length, uint64_t k, uint64_t answer[4])",
+    "void svelgandur_write_requirement(\
+    const uint64_t *nodes, size_t nodes_length, \
+    const uint64_t *thresholds, size_t thresholds_length, \
+    const uint64_t *inner, size_t inner_length, \
+    uint8_t *message, size_t message_length, uint64_t answer[4])",
     "void svelgandur_degree(\
     const uint8_t *image, size_t image_length, const uint8_t *message, size_t message_length, \
     uint64_t item, uint16_t *map, size_t map_length, uint64_t answer[4])",
@@ -41,6 +46,17 @@ extern "C" {
     fn svelgandur_read_register(image: *const u8, length: usize, session: u64, answer: *mut u64);
     fn svelgandur_read_requirement(message: *const u8, length: usize, answer: *mut u64);
     fn svelgandur_inner_part(message: *const u8, length: usize, k: u64, answer: *mut u64);
+    fn svelgandur_write_requirement(
+        nodes: *const u64,
+        nodes_length: usize,
+        thresholds: *const u64,
+        thresholds_length: usize,
+        inner: *const u64,
+        inner_length: usize,
+        message: *mut u8,
+        message_length: usize,
+        answer: *mut u64,
+    );
     fn svelgandur_degree(
         image: *const u8,
         image_length: usize,
@@ -141,6 +157,24 @@ pub fn read_requirement(message: &[u8]) -> Answer {
 
 pub fn inner_part(message: &[u8], k: u64) -> Answer {
     answered(|answer| unsafe { svelgandur_inner_part(message.as_ptr(), message.len(), k, answer) })
+}
+
+/// The lists are nodes, thresholds, inner nodes.
+pub fn write_requirement(lists: [&[u64]; 3], message: &mut [u8]) -> Answer {
+    let [nodes, thresholds, inner] = lists;
+    answered(|answer| unsafe {
+        svelgandur_write_requirement(
+            nodes.as_ptr(),
+            nodes.len(),
+            thresholds.as_ptr(),
+            thresholds.len(),
+            inner.as_ptr(),
+            inner.len(),
+            message.as_mut_ptr(),
+            message.len(),
+            answer,
+        )
+    })
 }
 
 pub fn degree(image: &[u8], message: &[u8], item: u64, map: &mut [u16]) -> Answer {

@@ -17,6 +17,7 @@
 //! | `brute` | the same definitions, by trying every map |
 //! | `session` | "Session" |
 //! | `model` | what a session means, kept as sets and a history |
+//! | `writing` | §1 of document 02 |
 //! | `listing` | the listing program of "Sheet of examples" |
 //! | `gen` | seeded inputs, good and damaged |
 
@@ -34,6 +35,7 @@ pub mod reduce;
 pub mod register;
 pub mod requirement;
 pub mod session;
+pub mod writing;
 
 use std::fmt;
 

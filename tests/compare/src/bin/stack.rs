@@ -12,13 +12,27 @@ use compare::worst::{
 use second::gen::{any_pair_bytes, Rng};
 use second::register;
 use second::requirement::{self, Node};
+use second::writing::lists;
 
 const MOST: usize = 64 * 1024;
 
-/// What a call is asked of: an image and a message.
+/// What a call is asked of: an image, a message, and the lists of a message that
+/// is good.
 struct Input {
     image: Vec<u8>,
     message: Vec<u8>,
+    lists: [Vec<u64>; 3],
+}
+
+impl Input {
+    fn new(image: Vec<u8>, message: Vec<u8>) -> Input {
+        let lists = requirement::read(&message).map(|root| lists(&root));
+        Input {
+            image,
+            message,
+            lists: lists.unwrap_or_default(),
+        }
+    }
 }
 
 /// The costliest pairs, and others.
@@ -54,16 +68,13 @@ fn inputs() -> Vec<Input> {
     for root in &roots {
         let message = requirement::encode(root);
         for image in [&largest, &linked] {
-            list.push(Input {
-                image: image.clone(),
-                message: message.clone(),
-            });
+            list.push(Input::new(image.clone(), message.clone()));
         }
     }
     let mut rng = Rng::new(1);
     for _ in 0..2000 {
         let (image, message) = any_pair_bytes(&mut rng);
-        list.push(Input { image, message });
+        list.push(Input::new(image, message));
     }
     list
 }
@@ -74,7 +85,7 @@ const ITEM: u64 = 0;
 /// Each call with what it does to one input.
 type Work = fn(&Input, &mut [u8], &mut [u64], &mut [u16]);
 
-const CALLS: [(&str, usize, Work); 11] = [
+const CALLS: [(&str, usize, Work); 12] = [
     ("read_register", MOST, |input, _, _, _| {
         library::read_register(&input.image, 0);
     }),
@@ -83,6 +94,10 @@ const CALLS: [(&str, usize, Work); 11] = [
     }),
     ("inner_part", MOST, |input, _, _, _| {
         library::inner_part(&input.message, 15);
+    }),
+    ("write_requirement", MOST, |input, buffer, _, _| {
+        let [nodes, thresholds, inner] = &input.lists;
+        library::write_requirement([nodes, thresholds, inner], buffer);
     }),
     ("degree", MOST, |input, _, _, map| {
         library::degree(&input.image, &input.message, ITEM, map);
