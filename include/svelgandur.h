@@ -163,6 +163,8 @@ struct svelgandur_threshold {
  *             or the thresholds have more or fewer inner nodes than there are.
  * After a good answer svelgandur_read_requirement takes the bytes written, and
  * the bytes behind them keep their contents. The lists are only read.
+ * An array of n structs is handed over as (const uint64_t *)nodes, 3 * n, and of
+ * thresholds as (const uint64_t *)thresholds, 5 * n.
  */
 void svelgandur_write_requirement(const uint64_t *nodes, size_t nodes_length,
                                   const uint64_t *thresholds,

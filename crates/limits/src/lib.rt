@@ -4,7 +4,6 @@ ghost use mathlib.Core.Path.{_≡_};
 ghost use Prim.Native.Nat.{_+_, _*_, _-_, _/_, _≤_, _<_};
 ghost use lib.ListN.{length, getD};
 ghost use lib.Seq.{sets};
-ghost use Rattle.meaning.specs.Bytes.{bytes};
 ghost use Rattle.meaning.specs.Lists.{concept, threshold};
 ghost use Rattle.meaning.specs.Message.{conceptBytes, thresholdBytes, thresholdsBytes};
 ghost use Rattle.meaning.specs.Refusal.{good};

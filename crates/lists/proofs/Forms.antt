@@ -12,7 +12,7 @@ use Rattle.meaning.specs.Writing.{nodesFrom, nodesIn, innersAt, limitAt, limits
 use Rattle.meaning.proofs.Tests.{bool-eq, is-eqb}
 use Rattle.meaning.proofs.Reading.{not-below, below, at-most, not-le}
 use Rattle.meaning.proofs.Lists.{same, other}
-use Rattle.lists.specs.Handed.{nodesTo, deeper}
+use Rattle.lists.specs.Handed.{nodesTo}
 use Rattle.lists.proofs.Peeled.{node-first, node-none, nodes-many, limit-first, limit-none, shared-first, shared-none}
 
 -- ---- a tree
@@ -50,21 +50,6 @@ module _ (list : List ℕ) (k end : ℕ) where
       let x = getD list (3 * k + 1) 0 in
       ap (goOn b) (node-first list k end h) ∙ rw (at-most 1 x (omega (arith, e, l)), at-most x (suc b) (omega (arith, e, l, m))) refl
       ∙ ap (λ (z : ℕ). goOn z (nodesTo list (k + 1) end)) (sym e)
-
--- ---- the nodes below one
-
-module _ (list : List ℕ) (d k end : ℕ) where
-  pub deeper-none : end ≤ k → deeper d (nodesTo list k end) ≡ 0
-  unfolding deeper
-  deeper-none h = ap (deeper d) (node-none list k end h)
-
-  pub deeper-stop : (x : ℕ) → k < end → x ≡ getD list (3 * k + 1) 0 → x ≤ d → deeper d (nodesTo list k end) ≡ 0
-  unfolding deeper
-  deeper-stop x h e l = ap (deeper d) (node-first list k end h) ∙ rw (at-most (getD list (3 * k + 1) 0) d (omega (arith, e, l))) refl
-
-  pub deeper-next : (x : ℕ) → k < end → x ≡ getD list (3 * k + 1) 0 → d < x → deeper d (nodesTo list k end) ≡ suc (deeper d (nodesTo list (k + 1) end))
-  unfolding deeper
-  deeper-next x h e l = ap (deeper d) (node-first list k end h) ∙ rw (not-le (getD list (3 * k + 1) 0) d (omega (arith, e, l))) refl
 
 -- ---- thresholds
 

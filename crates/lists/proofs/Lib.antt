@@ -1,6 +1,2 @@
 pub mod Peeled
 pub mod Forms
-pub mod Faults
-pub mod Filling
-pub mod Owned
-pub mod Held

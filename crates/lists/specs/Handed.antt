@@ -1,14 +1,13 @@
--- What code asks of the numbers handed over, and what it answers of them.
+-- The numbers handed over as code asks for them: nodes and thresholds from one number on, one threshold, one inner list.
 -- Assumes nothing.
 use mathlib.Core.Path.{_≡_}
-use mathlib.Core.Bool.{cond}
-use mathlib.Core.List.{List, [], _∷_}
-use Prim.Native.Nat.{ℕ, zero, suc, _+_, _*_, _-_, _/_, _≤_, _<_}
-use lib.Dec.{T, leb}
+use mathlib.Core.List.{List}
+use Prim.Native.Nat.{ℕ, _+_, _*_, _-_, _/_, _≤_}
+use lib.Dec.{T}
 use lib.ListN.{length}
-use Rattle.meaning.specs.Refusal.{Answer, good, refused, onCall}
-use Rattle.meaning.specs.Lists.{Listed, Limit, formTree, standAt}
-use Rattle.meaning.specs.Writing.{nodesFrom, innersAt, limitsFrom, nodesFit, ownFit, sharedOut}
+use Rattle.meaning.specs.Refusal.{good}
+use Rattle.meaning.specs.Lists.{Listed, Limit, formTree}
+use Rattle.meaning.specs.Writing.{nodesFrom, innersAt, limitsFrom, nodesFit}
 
 -- the nodes from `first` up to `end`
 abbrev pub nodesTo : List ℕ → ℕ → ℕ → List (Listed ℕ)
@@ -22,36 +21,11 @@ Stand list first end = (first ≤ end) × (3 * end ≤ length list)
 abbrev pub limitsOn : List ℕ → List ℕ → ℕ → ℕ → List Limit
 limitsOn hs inner j k = limitsFrom hs inner j k (length hs / 5 - j)
 
--- a refusal's number on the call's side, or 0 where nothing is refused
-abbrev pub told : ℕ → Answer (Unit {0})
-told zero = good tt
-told (suc n) = refused (onCall (suc n))
-
--- the thresholds from the j-th on have the inner nodes from the k-th on, no node that one of them is of is below the i-th or behind n nodes, and each inner
--- list forms a tree
-pub record Rest (hs inner : List ℕ) (n i j k : ℕ) : Type 0 where
-  pub begun : j ≤ length hs / 5
-  pub used : k ≤ length inner / 3
-  pub shared : T (sharedOut hs j (length hs / 5 - j) (length inner / 3 - k))
-  pub stands : T (standAt n i (limitsOn hs inner j k))
-
 -- the j-th threshold has the inner nodes from the k-th on, and they form a tree
 pub record One (hs inner : List ℕ) (j k : ℕ) : Type 0 where
   pub whole : 5 * j + 5 ≤ length hs
   pub room : 3 * (k + innersAt hs j) ≤ length inner
   pub forms : T (formTree (nodesFrom inner k (innersAt hs j)))
-
--- what is found at the thresholds of the i-th node, the first of which is the j-th of all, with the inner nodes from the k-th on: how these fare; and where
--- none is refused, those that follow, which are of later nodes
-pub record Found (hs inner : List ℕ) (n i j k number next first : ℕ) : Type 0 where
-  pub answer : told number ≡ ownFit i j (limitsOn hs inner j k)
-  pub rest : number ≡ 0 → Rest hs inner n (suc i) next first
-  pub later : number ≡ 0 → (h : ℕ) → i < h → ownFit h j (limitsOn hs inner j k) ≡ ownFit h next (limitsOn hs inner next first)
-
--- how many nodes at the front of a list are deeper
-unfoldable pub deeper : {L : Type 0} → ℕ → List (Listed L) → ℕ
-deeper d [] = 0
-deeper d (x ∷ xs) = cond (leb (x .depth) d) 0 (suc (deeper d xs))
 
 -- a list that passes as an inner one: not empty, at most 64 nodes, a tree, and every test of a node
 pub record Inner (list : List ℕ) (first end : ℕ) : Type 0 where

@@ -4,15 +4,15 @@ use mathlib.Core.Path.{_≡_, refl, sym, ap, _∙_, subst}
 use mathlib.Core.Bool.{Bool, true, false, not, _&&_}
 use mathlib.Core.List.{List}
 use Prim.Native.Nat.{ℕ, zero, suc, _≤_, _<_}
-use lib.Dec.{T, ltb}
+use lib.Dec.{ltb}
 use lib.ListN.{length}
 use lib.Seq.{sets}
-use Rattle.meaning.specs.Refusal.{Answer, good, refused, onCall, _>>=_, _>>_}
+use Rattle.meaning.specs.Refusal.{Answer, good, refused, onCall, _>>=_}
 use Rattle.meaning.specs.Message.{encode}
 use Rattle.meaning.specs.Lists.{form, said}
 use Rattle.meaning.specs.Writing.{listsIn, whole, listsFit, writeCall, afterWrite}
 use Rattle.meaning.proofs.Reading.{pass, stop, halted, went, below, not-below}
-use Rattle.lists.specs.Handed.{told}
+use Rattle.faults.specs.Faulty.{told}
 use Rattle.writer.specs.declared.Written.{Written}
 use Rattle.writer.specs.declared.Written.the-variants.{Good as GoodWritten}
 use Rattle.writer.specs.Promise.{long, writtenRefused, WritePromise}

@@ -1,14 +1,14 @@
 -- What the promise of the writing call says of any result that it allows: which lists are taken and which refused with what, that a refusal changes no byte,
 -- that what is written reads back as the requirement that the lists say, that a message is written again byte for byte, and that no two results are allowed.
 -- Assumes nothing.
-use mathlib.Core.Path.{_≡_, refl, sym, ap, _∙_, subst}
+use mathlib.Core.Path.{_≡_, refl, sym, ap, _∙_}
 use mathlib.Core.Logic.{_↔_}
-use mathlib.Core.List.{List, [], _∷_}
+use mathlib.Core.List.{List}
 use Prim.Native.Nat.{ℕ, _≤_}
 use lib.ListN.{length}
 use lib.Seq.{sets}
 use Rattle.meaning.specs.declared.Refusal.{Refusal}
-use Rattle.meaning.specs.Refusal.{Answer, good, refused, Exactly, _>>=_}
+use Rattle.meaning.specs.Refusal.{Answer, good, refused, _>>=_}
 use Rattle.meaning.specs.Bytes.{Bytes}
 use Rattle.meaning.specs.Requirement.{Requirement}
 use Rattle.meaning.specs.Message.{Part, readRequirement}

@@ -8,8 +8,7 @@ ghost use Prim.Native.Nat.{_+_, _*_, _-_, _/_, _≤_, _<_};
 ghost use lib.Dec.{T};
 ghost use lib.ListN.{length};
 ghost use lib.Seq.{sets};
-ghost use Rattle.meaning.specs.Bytes.{bytes};
-ghost use Rattle.meaning.specs.Lists.{form, threshold, said};
+ghost use Rattle.meaning.specs.Lists.{form, said};
 ghost use Rattle.meaning.specs.Message.{thresholdsBytes, requirementBytes, encode};
 ghost use Rattle.meaning.specs.Writing.{limitsFrom, listsIn, whole};
 ghost use Rattle.writer.specs.Promise.{WritePromise, writtenRefused};
@@ -106,7 +105,7 @@ pub fn write(nodes: &[u64], limits: &[u64], inner: &[u64], out: &mut [u8]) -> Wr
     if !lists::handed(nodes, limits, inner) {
         return refused(22);
     }
-    let number = lists::fault(nodes, limits, inner);
+    let number = faults::fault(nodes, limits, inner);
     if number != 0 {
         return refused(number);
     }

@@ -4,14 +4,13 @@ use borrow.Author.Needs.{needs}
 use Rattle.writer.proofs.write.Statement.{statement}
 use Rattle.writer.proofs.write.Tie as tie
 use mathlib.Core.Path.{_≡_, sym, ap, _∙_}
-use mathlib.Core.Bool.{true, not}
-use Prim.Native.Nat.{ℕ}
+use mathlib.Core.Bool.{true}
 use native.Mathlib.Omega.{arith}
 use lib.Dec.{T}
 use Rattle.meaning.proofs.Tests.{holds, and-both}
 use Rattle.meaning.specs.Lists.{form}
 use Rattle.meaning.specs.Writing.{listsIn, whole}
-use Rattle.lists.specs.Handed.{told}
+use Rattle.faults.specs.Faulty.{told}
 use Rattle.writer.proofs.Ends.{lists, denied, affirmed, told-refused, no-lists, unfit, too-short, writes}
 
 -- the lists form a requirement

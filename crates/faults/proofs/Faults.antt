@@ -14,8 +14,9 @@ use Rattle.meaning.specs.Lists.{Listed, Limit, concept}
 use Rattle.meaning.specs.Writing.{nodeAt, nodeFits, nodesFit, limitFits}
 use Rattle.meaning.proofs.Reading.{pass, stop, halted, went, not-below, below, at-most, not-le}
 use Rattle.meaning.proofs.ListsFit.{test-role, fits-node}
-use Rattle.lists.specs.Handed.{nodesTo, told}
+use Rattle.lists.specs.Handed.{nodesTo}
+use Rattle.faults.specs.Faulty.{told}
 use Rattle.lists.proofs.Peeled.{node-first, node-none}
 
 -- ---- a number told, and what follows
 

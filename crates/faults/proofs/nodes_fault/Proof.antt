@@ -1,14 +1,15 @@
--- `lists::nodes_fault` meets its contract: node after node passes, up to the first that does not.
+-- `faults::nodes_fault` meets its contract: node after node passes, up to the first that does not.
 -- Assumes nothing.
 use borrow.Author.Needs.{needs}
-use Rattle.lists.proofs.nodes_fault.Statement.{statement}
-use Rattle.lists.proofs.nodes_fault.Tie as tie
+use Rattle.faults.proofs.nodes_fault.Statement.{statement}
+use Rattle.faults.proofs.nodes_fault.Tie as tie
 use mathlib.Core.Path.{_≡_, sym, ap, _∙_}
 use Prim.Native.Nat.{ℕ, suc, _+_, _-_, _≤_}
 use native.Mathlib.Omega.{arith}
 use Rattle.meaning.specs.Writing.{nodeAt, nodeFits, nodesFit}
-use Rattle.lists.specs.Handed.{nodesTo, told}
-use Rattle.lists.proofs.Faults.{nodes-none, nodes-stop, nodes-next}
+use Rattle.lists.specs.Handed.{nodesTo}
+use Rattle.faults.specs.Faulty.{told}
+use Rattle.faults.proofs.Faults.{nodes-none, nodes-stop, nodes-next}
 
 abbrev Inv-loop : tie.InvT-loop
 Inv-loop list first end k₀ k = (first ≤ k) × (k ≤ end) × (nodesFit 0 (nodesTo list first end) ≡ nodesFit (k - first) (nodesTo list k end))

@@ -1,14 +1,15 @@
--- `lists::ends_of` meets its contract: the end of node after node is stored.
+-- `faults::ends_of` meets its contract: the end of node after node is stored.
 -- Assumes nothing.
 use borrow.Author.Needs.{needs}
-use Rattle.lists.proofs.ends_of.Statement.{statement}
-use Rattle.lists.proofs.ends_of.Tie as tie
+use Rattle.faults.proofs.ends_of.Statement.{statement}
+use Rattle.faults.proofs.ends_of.Tie as tie
 use mathlib.Core.Path.{_≡_, sym, ap}
 use Prim.Native.Nat.{ℕ, _+_, _*_, _-_}
 use native.Mathlib.Omega.{arith}
-use Rattle.lists.specs.Handed.{nodesTo, deeper}
+use Rattle.lists.specs.Handed.{nodesTo}
+use Rattle.faults.specs.Faulty.{deeper}
 use lib.ListN.{getD}
-use Rattle.lists.proofs.Filling.{Filled, filled-none, filled-more, filled-all, place}
+use Rattle.faults.proofs.Filling.{Filled, filled-none, filled-more, filled-all, place}
 
 abbrev Inv-loop : tie.InvT-loop
 Inv-loop list first end out₀ k₀ out k =

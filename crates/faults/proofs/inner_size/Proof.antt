@@ -1,9 +1,8 @@
--- `lists::inner_size` meets its contract: the rows hold the tree that the list says.
+-- `faults::inner_size` meets its contract: the rows hold the tree that the list says.
 -- Assumes nothing.
-use borrow.Author.Needs.{needs}
-use Rattle.lists.proofs.inner_size.Statement.{statement}
-use Rattle.lists.proofs.inner_size.Tie as tie
-use Rattle.lists.proofs.Held.{inner-few, inner-held, inner-holds}
+use Rattle.faults.proofs.inner_size.Statement.{statement}
+use Rattle.faults.proofs.inner_size.Tie as tie
+use Rattle.faults.proofs.Held.{inner-few, inner-held, inner-holds}
 
 reduced-size-requires : tie.Need-reduced-size-requires
 reduced-size-requires c κs =

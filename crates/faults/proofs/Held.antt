@@ -16,8 +16,9 @@ use Rattle.meaning.proofs.Lists.{Shallow, shallow-more, shallow-listed, rootRol
 use Rattle.meaning.proofs.ListsFit.{listed-length, Fit, Ok, tree-fits, nodes-fit}
 use Rattle.meaning.proofs.ListsSound.{inner-listed}
 use Rattle.reduction.specs.Held.{Held}
-use Rattle.lists.specs.Handed.{nodesTo, Stand, deeper, Inner}
+use Rattle.lists.specs.Handed.{nodesTo, Stand, Inner}
+use Rattle.faults.specs.Faulty.{deeper}
 use Rattle.lists.proofs.Peeled.{nodes-many}
 
 -- ---- what is deeper than a node that a tree's list follows
 

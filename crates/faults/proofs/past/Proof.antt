@@ -1,14 +1,15 @@
--- `lists::past` meets its contract: what is deeper is passed, node after node.
+-- `faults::past` meets its contract: what is deeper is passed, node after node.
 -- Assumes nothing.
 use borrow.Author.Needs.{needs}
-use Rattle.lists.proofs.past.Statement.{statement}
-use Rattle.lists.proofs.past.Tie as tie
+use Rattle.faults.proofs.past.Statement.{statement}
+use Rattle.faults.proofs.past.Tie as tie
 use mathlib.Core.Path.{_≡_, ap}
 use Prim.Native.Nat.{ℕ, _+_, _*_, _-_, _≤_}
 use native.Mathlib.Omega.{arith}
 use lib.ListN.{getD}
-use Rattle.lists.specs.Handed.{nodesTo, deeper}
-use Rattle.lists.proofs.Forms.{deeper-none, deeper-stop, deeper-next}
+use Rattle.lists.specs.Handed.{nodesTo}
+use Rattle.faults.specs.Faulty.{deeper}
+use Rattle.faults.proofs.Deeper.{deeper-none, deeper-stop, deeper-next}
 
 abbrev Inv-loop : tie.InvT-loop
 Inv-loop list k end d e₀ e = (k + 1 ≤ e) × (e ≤ end) × (k + 1 + deeper d (nodesTo list (k + 1) end) ≡ e + deeper d (nodesTo list e end))

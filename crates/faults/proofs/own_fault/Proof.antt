@@ -1,14 +1,14 @@
--- `lists::own_fault` meets its contract: threshold after threshold of the node passes, up to the first that does not, or is of another.
+-- `faults::own_fault` meets its contract: threshold after threshold of the node passes, up to the first that does not, or is of another.
 -- Assumes nothing.
 use borrow.Author.Needs.{needs}
-use Rattle.lists.proofs.own_fault.Statement.{statement}
-use Rattle.lists.proofs.own_fault.Tie as tie
+use Rattle.faults.proofs.own_fault.Statement.{statement}
+use Rattle.faults.proofs.own_fault.Tie as tie
 use mathlib.Core.Path.{_≡_, sym, _∙_}
 use Prim.Native.Nat.{_*_, _-_}
 use native.Mathlib.Omega.{arith}
 use lib.ListN.{getD}
 use Rattle.lists.proofs.Forms.{owner-at}
-use Rattle.lists.proofs.Owned.{rest-one, Passed, passed-none, passed-more, found-other, found-end, found-stop}
+use Rattle.faults.proofs.Owned.{rest-one, Passed, passed-none, passed-more, found-other, found-end, found-stop}
 
 abbrev Inv-loop : tie.InvT-loop
 Inv-loop n limits inner i j first many next₀ at₀ next at = Passed limits inner n i j first next at

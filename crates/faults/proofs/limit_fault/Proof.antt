@@ -1,8 +1,8 @@
--- `lists::limit_fault` meets its contract: the tests are made in their order.
+-- `faults::limit_fault` meets its contract: the tests are made in their order.
 -- Assumes nothing.
 use borrow.Author.Needs.{needs}
-use Rattle.lists.proofs.limit_fault.Statement.{statement}
-use Rattle.lists.proofs.limit_fault.Tie as tie
+use Rattle.faults.proofs.limit_fault.Statement.{statement}
+use Rattle.faults.proofs.limit_fault.Tie as tie
 use mathlib.Core.Path.{_≡_, sym, ap, ap₂, _∙_, subst}
 use mathlib.Core.Bool.{not}
 use mathlib.Core.List.{List}
@@ -12,9 +12,10 @@ use lib.Dec.{T}
 use Rattle.meaning.specs.Fraction.{lawful}
 use Rattle.meaning.specs.Lists.{Listed, Limit, formTree}
 use Rattle.meaning.specs.Writing.{innersAt, limitAt}
-use Rattle.lists.specs.Handed.{nodesTo, told}
+use Rattle.lists.specs.Handed.{nodesTo}
+use Rattle.faults.specs.Faulty.{told}
 use Rattle.lists.proofs.Forms.{inner-to}
-use Rattle.lists.proofs.Faults.{Begun, limit-many, limit-how, limit-wrong, limit-nodes, limit-size, limit-good}
+use Rattle.faults.proofs.Faults.{Begun, limit-many, limit-how, limit-wrong, limit-nodes, limit-size, limit-good}
 
 -- the threshold that is looked at
 abbrev looked : tie.Start → Limit

@@ -1,12 +1,12 @@
--- `lists::roles_of` meets its contract: the role of node after node is stored.
+-- `faults::roles_of` meets its contract: the role of node after node is stored.
 -- Assumes nothing.
 use borrow.Author.Needs.{needs}
-use Rattle.lists.proofs.roles_of.Statement.{statement}
-use Rattle.lists.proofs.roles_of.Tie as tie
+use Rattle.faults.proofs.roles_of.Statement.{statement}
+use Rattle.faults.proofs.roles_of.Tie as tie
 use mathlib.Core.Path.{sym, ap, _∙_}
 use Prim.Native.Nat.{ℕ, _+_, _*_, _-_, _%_}
 use lib.ListN.{getD}
-use Rattle.lists.proofs.Filling.{Filled, filled-none, filled-more, filled-all, place}
+use Rattle.faults.proofs.Filling.{Filled, filled-none, filled-more, filled-all, place}
 
 abbrev Inv-loop : tie.InvT-loop
 Inv-loop list first end out₀ k₀ out k = Filled (λ i. getD list (3 * (first + i) + 2) 0 % 256) 64 first end out k

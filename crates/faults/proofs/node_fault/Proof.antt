@@ -1,14 +1,13 @@
--- `lists::node_fault` meets its contract: the tests are made in their order.
+-- `faults::node_fault` meets its contract: the tests are made in their order.
 -- Assumes nothing.
-use borrow.Author.Needs.{needs}
-use Rattle.lists.proofs.node_fault.Statement.{statement}
-use Rattle.lists.proofs.node_fault.Tie as tie
+use Rattle.faults.proofs.node_fault.Statement.{statement}
+use Rattle.faults.proofs.node_fault.Tie as tie
 use mathlib.Core.Path.{_≡_}
 use mathlib.Core.Logic.{⊎-elim}
 use Prim.Native.Nat.{ℕ, _≤_, _<_}
 use native.Mathlib.Omega.{arith}
 use Rattle.meaning.specs.Bounds.{mostRole}
-use Rattle.lists.proofs.Faults.{node-role, node-level, node-many, node-good}
+use Rattle.faults.proofs.Faults.{node-role, node-level, node-many, node-good}
 
 -- the role passes, or is not looked at
 role-fits : (d : tie.Joined1) (r : ℕ) → r ≡ d .before .args .role → 0 < d .before .args .i → r ≤ mostRole

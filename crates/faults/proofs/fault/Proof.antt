@@ -1,14 +1,14 @@
--- `lists::fault` meets its contract: node after node passes with its thresholds, up to the first that does not.
+-- `faults::fault` meets its contract: node after node passes with its thresholds, up to the first that does not.
 -- Assumes nothing.
 use borrow.Author.Needs.{needs}
-use Rattle.lists.proofs.fault.Statement.{statement}
-use Rattle.lists.proofs.fault.Tie as tie
+use Rattle.faults.proofs.fault.Statement.{statement}
+use Rattle.faults.proofs.fault.Tie as tie
 use mathlib.Core.Path.{_≡_, sym}
 use Prim.Native.Nat.{_-_}
 use native.Mathlib.Omega.{arith}
 use Rattle.meaning.specs.Writing.{nodeAt, nodeFits}
-use Rattle.lists.specs.Handed.{told}
-use Rattle.lists.proofs.Owned.{Gone, gone-none, gone-end, gone-node, gone-own, gone-more}
+use Rattle.faults.specs.Faulty.{told}
+use Rattle.faults.proofs.Owned.{Gone, gone-none, gone-end, gone-node, gone-own, gone-more}
 
 abbrev Inv-loop : tie.InvT-loop
 Inv-loop nodes limits inner n i₀ j₀ first₀ i j first = Gone nodes limits inner i j first
