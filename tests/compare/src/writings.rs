@@ -34,7 +34,8 @@ fn run(seen: &mut Seen, seed: u64) -> Result<(), Difference> {
     by_hand(seen)?;
     lengths(seen)?;
     noise(seen, &mut rng)?;
-    generated(seen, &mut rng)
+    generated(seen, &mut rng)?;
+    crowded(seen, &mut rng)
 }
 
 /// Writes with both programs, with an output of so many bytes.
@@ -371,6 +372,60 @@ fn generated(seen: &mut Seen, rng: &mut Rng) -> Result<(), Difference> {
             }
             write(seen, &changed, LONGEST)?;
         }
+    }
+    Ok(())
+}
+
+/// A list that forms a tree of so many nodes; now and then a role too high.
+fn any_list(rng: &mut Rng, nodes: usize, deepest: u64) -> Vec<u64> {
+    let mut list = Vec::new();
+    let mut depth = 0;
+    for _ in 0..nodes {
+        let role = if rng.chance(400) { 32 } else { rng.below(32) };
+        list.extend(node(rng.below(4), depth, role));
+        depth = match rng.below(3) {
+            0 => 1 + rng.below(depth + 1),
+            _ => depth + 1,
+        };
+        depth = depth.min(deepest);
+    }
+    list
+}
+
+/// Lists at and near their bounds, with a fault here and there: which of two
+/// comes first.
+fn crowded(seen: &mut Seen, rng: &mut Rng) -> Result<(), Difference> {
+    for _ in 0..6_000 {
+        let nodes = rng.pick(&[1, 2, 5, 17, 63, 64, 65]);
+        let deepest = rng.pick(&[1, 2, 16, 16, 17]);
+        let mut all = [any_list(rng, nodes, deepest), Vec::new(), Vec::new()];
+        let count = rng.pick(&[1, 2, 15, 16, 17, 18]);
+        let mut owners: Vec<u64> = (0..count).map(|_| rng.below(nodes as u64)).collect();
+        owners.sort_unstable();
+        for owner in owners {
+            let inner = match rng.below(60) {
+                0 => chain(rng.pick(&[15, 16, 17])),
+                1 => star(rng.pick(&[3, 7]), 29),
+                2 => [star(0, 0), node(0, 1, 0).repeat(rng.between(62, 64))].concat(),
+                _ => {
+                    let own = rng.between(1, 4);
+                    any_list(rng, own, 16)
+                }
+            };
+            let how = if rng.chance(60) { 4 } else { rng.below(4) };
+            let [p, q] = match rng.below(60) {
+                0 => rng.pick(&[[1, 0], [2, 1], [0, 2], [2, 4], [1, 1001]]),
+                _ => rng.pick(&[[0, 1], [1, 1], [1, 2], [2, 3], [999, 1000]]),
+            };
+            all[1].extend([owner, how, p, q, inner.len() as u64 / 3]);
+            all[2].extend(inner);
+        }
+        let room = if rng.chance(20) {
+            rng.between(0, 2000)
+        } else {
+            LONGEST
+        };
+        write(seen, &all, room)?;
     }
     Ok(())
 }
