@@ -13,8 +13,8 @@ use Rattle.meaning.specs.Writing.{nodeAt, nodesFrom, nodesIn, innersAt, limitAt
 use Rattle.meaning.proofs.Tests.{and-both}
 use Rattle.meaning.proofs.Lists.{same, other}
 use Rattle.meaning.proofs.ListsSound.{stand-open, stand-close}
-use Rattle.lists.specs.Handed.{nodesTo, limitsOn, One}
-use Rattle.faults.specs.Faulty.{told, Rest, Found}
+use Rattle.lists.specs.Handed.{nodesTo, One}
+use Rattle.faults.specs.Faulty.{limitsOn, told, Rest, Found}
 use Rattle.lists.proofs.Peeled.{node-first, node-none, nodes-many, limit-first, limit-none, shared-first}
 use Rattle.faults.proofs.Faults.{told-stop, told-go}
 

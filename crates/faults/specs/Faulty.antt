@@ -7,16 +7,19 @@ use Prim.Native.Nat.{ℕ, zero, suc, _-_, _/_, _≤_, _<_}
 use lib.Dec.{T, leb}
 use lib.ListN.{length}
 use Rattle.meaning.specs.Refusal.{Answer, good, refused, onCall}
-use Rattle.meaning.specs.Lists.{Listed, standAt}
-use Rattle.meaning.specs.Writing.{ownFit, sharedOut}
-use Rattle.lists.specs.Handed.{limitsOn}
+use Rattle.meaning.specs.Lists.{Listed, Limit, standAt}
+use Rattle.meaning.specs.Writing.{limitsFrom, ownFit, sharedOut}
 
 -- a refusal's number on the call's side, or 0 where nothing is refused
 abbrev pub told : ℕ → Answer (Unit {0})
 told zero = good tt
 told (suc n) = refused (onCall (suc n))
 
--- the thresholds from the j-th on have the inner nodes from the k-th on, no node that one of them is of is below the i-th or behind n nodes, and each inner
+-- the thresholds from the j-th on, whose inner nodes begin at the k-th
+abbrev pub limitsOn : List ℕ → List ℕ → ℕ → ℕ → List Limit
+limitsOn hs inner j k = limitsFrom hs inner j k (length hs / 5 - j)
+
+-- these have the inner nodes from the k-th on, no node that one of them is of is below the i-th or behind n nodes, and each inner
 -- list forms a tree
 pub record Rest (hs inner : List ℕ) (n i j k : ℕ) : Type 0 where
   pub begun : j ≤ length hs / 5

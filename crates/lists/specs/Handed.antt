@@ -1,13 +1,13 @@
--- The numbers handed over as code asks for them: nodes and thresholds from one number on, one threshold, one inner list.
+-- The numbers handed over as code asks for them: nodes from one number up to another, one threshold, one inner list.
 -- Assumes nothing.
 use mathlib.Core.Path.{_≡_}
 use mathlib.Core.List.{List}
-use Prim.Native.Nat.{ℕ, _+_, _*_, _-_, _/_, _≤_}
+use Prim.Native.Nat.{ℕ, _+_, _*_, _-_, _≤_}
 use lib.Dec.{T}
 use lib.ListN.{length}
 use Rattle.meaning.specs.Refusal.{good}
-use Rattle.meaning.specs.Lists.{Listed, Limit, formTree}
-use Rattle.meaning.specs.Writing.{nodesFrom, innersAt, limitsFrom, nodesFit}
+use Rattle.meaning.specs.Lists.{Listed, formTree}
+use Rattle.meaning.specs.Writing.{nodesFrom, innersAt, nodesFit}
 
 -- the nodes from `first` up to `end`
 abbrev pub nodesTo : List ℕ → ℕ → ℕ → List (Listed ℕ)
@@ -16,10 +16,6 @@ nodesTo list first end = nodesFrom list first (end - first)
 -- they stand in the list
 abbrev pub Stand : List ℕ → ℕ → ℕ → Type 0
 Stand list first end = (first ≤ end) × (3 * end ≤ length list)
-
--- the thresholds from the j-th on, whose inner nodes begin at the k-th
-abbrev pub limitsOn : List ℕ → List ℕ → ℕ → ℕ → List Limit
-limitsOn hs inner j k = limitsFrom hs inner j k (length hs / 5 - j)
 
 -- the j-th threshold has the inner nodes from the k-th on, and they form a tree
 pub record One (hs inner : List ℕ) (j k : ℕ) : Type 0 where

@@ -15,7 +15,8 @@ use Rattle.meaning.specs.Message.{thresholdBytes, thresholdsBytes, requirementB
 use Rattle.meaning.specs.Writing.{innersAt, nodesFrom, limitAt, limitsFrom, listsIn}
 use Rattle.meaning.proofs.Tests.{and-both}
 use Rattle.meaning.proofs.ListsSound.{labelled-forms}
-use Rattle.lists.specs.Handed.{nodesTo, limitsOn}
+use Rattle.lists.specs.Handed.{nodesTo}
+use Rattle.faults.specs.Faulty.{limitsOn}
 use Rattle.limits.specs.Flat.{ahead, fixedAt, run, after, Each, thresholds}
 use Rattle.limits.proofs.Flat.{listBytes, flat-bytes}
 use Rattle.limits.proofs.Nodes.{nodes-next, nodes-end}

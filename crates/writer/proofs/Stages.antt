@@ -16,7 +16,8 @@ use Rattle.meaning.specs.Writing.{innersAt, nodesFrom, limitAt, limitsFrom, lis
 use Rattle.meaning.proofs.Tests.{and-both}
 use Rattle.meaning.proofs.ListsFit.{Fit}
 use Rattle.meaning.proofs.ListsSound.{LimitsFit, stand-open, limits-fit, lists-open}
-use Rattle.lists.specs.Handed.{One, limitsOn}
+use Rattle.lists.specs.Handed.{One}
+use Rattle.faults.specs.Faulty.{limitsOn}
 use Rattle.limits.specs.Flat.{fixedAt, run, after, Each}
 use Rattle.writer.specs.Ready.{Ready}
 use Rattle.limits.proofs.Nodes.{nodes-length}
