@@ -56,17 +56,24 @@ put-requires c κs =
       at-put-labelled .put-labelled .kept .1 .1 .1 .1 .1 .1 .1 .0,
     )
 
+-- where a turn begins: what is put so far, over the output as it was handed in
+here : (l : tie.At-loop Inv-loop μ-loop) → let a = l .before .before .before .before .before .before .before .before .before .before .args in
+    Stage (a .nodes .now) (a .limits .now) (a .inner .now) (a .out .now) (l .loop .out)
+    (requirementBytes (said (listsIn (a .nodes .now) (a .limits .now) (a .inner .now)))) (l .loop .k) (l .loop .j) (l .loop .first)
+here l =
+    let at-put-labelled = l .before .before .before in
+    let at-own-count = at-put-labelled .before .before in
+    let start = at-own-count .before .before .before .before .before in
+    l .loop .inv .5 (start .args .out .now)
+    (stage-first _ _ _ (start .args .out .now) _ _ _ (start .pre .0 .forms) (given _ _ _ (start .pre .0)) (at-own-count .own-count .ensures)
+    (at-put-labelled .put-labelled .ensures .0) (at-put-labelled .put-labelled .ensures .1))
+
 add-end : tie.Need-add-end Inv-loop μ-loop
 add-end c =
     let at-loop = c .before .before .before .before .before .before .before in
-    let at-put-labelled = at-loop .before .before .before in
-    let at-own-count = at-put-labelled .before .before in
-    let start = at-own-count .before .before .before .before .before in
+    let start = at-loop .before .before .before .before .before .before .before .before .before .before in
     let g = given _ _ _ (start .pre .0) in
-    let first = stage-first _ _ _ (start .args .out .now) _ _ _ (start .pre .0 .forms) g (at-own-count .own-count .ensures)
-    (at-put-labelled .put-labelled .ensures .0) (at-put-labelled .put-labelled .ensures .1) in
-    let s = at-loop .loop .inv .5 (start .args .out .now) first in
-    let r = stage-room _ _ _ _ _ _ _ _ _ (at-loop .loop .j + c .own-count2 .result) s (ap (λ (z : ℕ). at-loop .loop .j + z) (c .own-count2 .ensures)) in
+    let r = stage-room _ _ _ _ _ _ _ _ _ (at-loop .loop .j + c .own-count2 .result) (here at-loop) (ap (λ (z : ℕ). at-loop .loop .j + z) (c .own-count2 .ensures)) in
     omega (arith, r .1, g .most)
 
 put-labelled-requires-2 : tie.Need-put-labelled-requires-2 Inv-loop μ-loop
@@ -75,13 +82,9 @@ put-labelled-requires-2 c κs =
     let at-loop-test = at-put .before .before .before in
     let at-loop = at-loop-test .before in
     let at-put-labelled = at-loop .before .before .before in
-    let at-own-count = at-put-labelled .before .before in
-    let start = at-own-count .before .before .before .before .before in
+    let start = at-put-labelled .before .before .before .before .before .before .before in
     let g = given _ _ _ (start .pre .0) in
-    let first = stage-first _ _ _ (start .args .out .now) _ _ _ (start .pre .0 .forms) g (at-own-count .own-count .ensures)
-    (at-put-labelled .put-labelled .ensures .0) (at-put-labelled .put-labelled .ensures .1) in
-    let s = at-loop .loop .inv .5 (start .args .out .now) first in
-    let r = stage-room _ _ _ _ _ _ _ _ _ (at-loop .loop .j + c .before .own-count2 .result) s
+    let r = stage-room _ _ _ _ _ _ _ _ _ (at-loop .loop .j + c .before .own-count2 .result) (here at-loop)
     (ap (λ (z : ℕ). at-loop .loop .j + z) (c .before .own-count2 .ensures)) in (
       (at-loop-test .loop-test .taken, omega (arith, g .few)),
       (
@@ -109,14 +112,9 @@ loop-again c =
     let at-role = at-put .before in
     let at-loop-test = at-role .before .before in
     let at-loop = at-loop-test .before in
-    let at-put-labelled = at-loop .before .before .before in
-    let at-own-count = at-put-labelled .before .before in
-    let start = at-own-count .before .before .before .before .before in
+    let start = at-loop .before .before .before .before .before .before .before .before .before .before in
     let g = given _ _ _ (start .pre .0) in
-    let first = stage-first _ _ _ (start .args .out .now) _ _ _ (start .pre .0 .forms) g (at-own-count .own-count .ensures)
-    (at-put-labelled .put-labelled .ensures .0) (at-put-labelled .put-labelled .ensures .1) in
-    let s = at-loop .loop .inv .5 (start .args .out .now) first in
-    let r = stage-room _ _ _ _ _ _ _ _ _ (at-loop .loop .j + at-own-count2 .own-count2 .result) s
+    let r = stage-room _ _ _ _ _ _ _ _ _ (at-loop .loop .j + at-own-count2 .own-count2 .result) (here at-loop)
     (ap (λ (z : ℕ). at-loop .loop .j + z) (at-own-count2 .own-count2 .ensures)) in (
       omega (arith, at-loop .loop .inv .0),
       omega (arith, at-loop-test .loop-test .taken),
@@ -136,14 +134,7 @@ same-length c =
 
 returns : tie.Need-returns Inv-loop μ-loop
 returns c =
-    let at-put-labelled = c .before .before .before .before in
-    let at-own-count = at-put-labelled .before .before in
-    let start = at-own-count .before .before .before .before .before in
-    let g = given _ _ _ (start .pre .0) in
-    let first = stage-first _ _ _ (start .args .out .now) _ _ _ (start .pre .0 .forms) g (at-own-count .own-count .ensures)
-    (at-put-labelled .put-labelled .ensures .0) (at-put-labelled .put-labelled .ensures .1) in
-    let s = c .before .loop .inv .5 (start .args .out .now) first in
-    stage-all _ _ _ _ _ _ _ _ _ s (c .loop-test .left)
+    stage-all _ _ _ _ _ _ _ _ _ (here (c .before)) (c .loop-test .left)
 
 pub put-nodes-spec : {M : Type 1} → statement M
 put-nodes-spec =
