@@ -44,7 +44,7 @@
  *   11  threshold inside an inner concept, or in a requirement that must be
  *       plain
  *   12  a 17th threshold
- *   13  comparison, p or q against the rules
+ *   13  comparison is none of 0 to 3
  *   14  reduced size above 60
  *   15  asked item or name not in range (a link's ends are items)
  *   16  map buffer shorter than the written nodes
@@ -57,9 +57,13 @@
  *   21  output shorter than the message
  *   22  a list is empty, its depths form no tree, or a threshold's node is not in
  *       the list or below the one before
+ *   23  q is 0 or above 1,000 (place of q)
+ *   24  p is above q (place of p)
+ *   25  p and q share a factor above 1 (place of p)
  *   Where several hold, the one that the call comes to first is given: it reads
- *   the register, then the requirement, each from left to right, and then tests
- *   its own numbers in the order in which the call lists them below.
+ *   the register, then the requirement, each from left to right (but within a
+ *   threshold q before p: 13, 23, 24, 25), and then tests its own numbers in
+ *   the order in which the call lists them below.
  *
  * No call keeps anything after it returns, takes memory of its own other than
  * the stack (64 KiB of it at most), or writes to memory that it was not lent, so
@@ -108,7 +112,7 @@ void svelgandur_read_register(const uint8_t *image, size_t image_length,
  * Reads a requirement message.
  *   message   the bytes, all of them.
  *   answer    good: 1, how many nodes are written, how many thresholds, 0.
- *             refused, on the requirement's side: 1 to 3, 7 to 14.
+ *             refused, on the requirement's side: 1 to 3, 7 to 14, 23 to 25.
  * The message is only read.
  */
 void svelgandur_read_requirement(const uint8_t *message, size_t message_length,
@@ -158,7 +162,7 @@ struct svelgandur_threshold {
  *   answer    good: 1, how many bytes were written, 0, 0.
  *             refused, on the call's side: 22; what reading the message would
  *             refuse first, each node with its thresholds before its children: 7,
- *             9, 10, 12, 13, 14; 21.
+ *             9, 10, 12, 13, 23, 24, 25, 14; 21.
  *             22 also where a length does not go into whole nodes or thresholds,
  *             or the thresholds have more or fewer inner nodes than there are.
  * After a good answer svelgandur_read_requirement takes the bytes written, and
@@ -186,7 +190,7 @@ void svelgandur_write_requirement(const uint64_t *nodes, size_t nodes_length,
  *   answer    good: 1, numerator, denominator (in lowest terms), how many places
  *             of the map were written: as many as nodes are written.
  *             refused, on the register's side: 1 to 8; on the requirement's
- *             side: 1 to 3, 7 to 14; on the call's side: 15, 16.
+ *             side: 1 to 3, 7 to 14, 23 to 25; on the call's side: 15, 16.
  * After a good answer each written place of the map holds the item that the node
  * goes to, or SVELGANDUR_DROPPED for a dropped node and all below it, or else
  * SVELGANDUR_UNMAPPED where the node goes nowhere. The places behind keep their
@@ -206,7 +210,8 @@ void svelgandur_degree(const uint8_t *image, size_t image_length,
  *             brought to lowest terms. The margin is at most 3,486,784,401,000
  *             either way.
  *             refused, on the register's side: 1 to 8; on the requirement's
- *             side: 1 to 3, 7 to 14; on the call's side: 15, 13.
+ *             side: 1 to 3, 7 to 14, 23 to 25; on the call's side: 15, 23, 24,
+ *             25.
  * Image and message are only read.
  */
 void svelgandur_margin(const uint8_t *image, size_t image_length,
@@ -223,9 +228,9 @@ void svelgandur_margin(const uint8_t *image, size_t image_length,
  *             (as many as nodes are written), 0, 0.
  *             no: SVELGANDUR_NO (2), 0, 0, 0.
  *             refused, on the register's side: 1 to 8; on the requirement's
- *             side: 1 to 3, 7 to 14; on the call's side: 15, 16. (16 comes before
- *             the yes or no is known. 11 and 14 are for inner concepts only: the
- *             outer tree may have any size.)
+ *             side: 1 to 3, 7 to 14, 23 to 25; on the call's side: 15, 16. (16
+ *             comes before the yes or no is known. 11 and 14 are for inner
+ *             concepts only: the outer tree may have any size.)
  * After a yes each written place of the map holds the item that the node goes
  * to, and the places behind keep their contents. A no writes nothing to the map.
  * Image and message are only read.

@@ -142,9 +142,10 @@ struct call {
 
 #define N(number) (UINT32_C(1) << (number))
 #define REGISTER (N(1) | N(2) | N(3) | N(4) | N(5) | N(6) | N(7) | N(8))
+#define FRACTION (N(23) | N(24) | N(25))
 #define REQUIREMENT                                                            \
     (N(1) | N(2) | N(3) | N(7) | N(8) | N(9) | N(10) | N(11) | N(12) | N(13) | \
-     N(14))
+     N(14) | FRACTION)
 
 enum {
     READ_REGISTER,
@@ -167,12 +168,13 @@ static struct call calls[CALLS] = {
     {"read_requirement", {0, REQUIREMENT, 0}, 0, 0, 0},
     {"inner_part", {N(0), 0, 0}, 0, 0, 0},
     {"write_requirement",
-     {0, 0, N(7) | N(9) | N(10) | N(12) | N(13) | N(14) | N(21) | N(22)},
+     {0, 0,
+      N(7) | N(9) | N(10) | N(12) | N(13) | FRACTION | N(14) | N(21) | N(22)},
      0,
      0,
      0},
     {"degree", {REGISTER, REQUIREMENT, N(15) | N(16)}, 0, 0, 0},
-    {"margin", {REGISTER, REQUIREMENT, N(13) | N(15)}, 0, 0, 0},
+    {"margin", {REGISTER, REQUIREMENT, N(15) | FRACTION}, 0, 0, 0},
     {"member", {REGISTER, REQUIREMENT, N(15) | N(16)}, 0, 0, 0},
     {"open", {REGISTER, 0, 0}, 0, 0, 0},
     {"edit_name", {REGISTER, 0, N(15) | N(17) | N(18)}, 0, 0, 0},
@@ -180,6 +182,9 @@ static struct call calls[CALLS] = {
     {"undo", {REGISTER, 0, N(17) | N(19) | N(20)}, 0, 0, 0},
     {"keep", {REGISTER, 0, N(17)}, 0, 0, 0},
 };
+
+/* Which of them it has given. */
+static uint32_t met[CALLS][3];
 
 /* The four numbers, and one on either side of them. */
 struct answer {
@@ -207,10 +212,11 @@ static int judged(int which, const struct answer *answer, size_t image,
     if (numbers[0] == SVELGANDUR_REFUSED) {
         const size_t ends[3] = {image, message, 0};
         require(numbers[1] <= SVELGANDUR_CALL, "no such side");
-        require(numbers[2] <= 22 &&
+        require(numbers[2] < 32 &&
                     call->sides[numbers[1]] & N((unsigned)numbers[2]),
                 "a refusal that is not the call's own");
         require(numbers[3] <= ends[numbers[1]], "a place outside");
+        met[which][numbers[1]] |= N((unsigned)numbers[2]);
         call->refused++;
         return 0;
     }
@@ -282,17 +288,28 @@ static uint64_t items_said(void) {
     return said ? said : 1;
 }
 
-static const unsigned char fractions[][2] = {{0, 1}, {1, 1}, {1, 2},
-                                             {1, 3}, {2, 3}, {3, 4}};
+/* p and q, now and then against the rules: two for each of 23, 24, 25. */
+static const uint16_t *any_fraction(void) {
+    static const uint16_t good[][2] = {{0, 1}, {1, 1}, {1, 2},
+                                       {1, 3}, {2, 3}, {3, 4}};
+    static const uint16_t bad[][2] = {{1, 0}, {1, 1001}, {3, 2},
+                                      {4, 2}, {0, 2},    {2, 4}};
+    return below(20) ? good[below(6)] : bad[below(6)];
+}
+
+/* The number of a comparison, now and then of none. */
+static uint64_t any_comparison(void) {
+    return below(40) ? below(4) : 4 + below(252);
+}
 
 static void make_node(int depth, int *nodes, int *thresholds);
 
 static void make_threshold(int *thresholds) {
-    const unsigned char *fraction = fractions[below(6)];
+    const uint16_t *fraction = any_fraction();
     int inner_nodes = 1 + (int)below(8), none = 0;
     size_t length_at;
     --*thresholds;
-    put(message, &message_length, 1, below(4));
+    put(message, &message_length, 1, any_comparison());
     put(message, &message_length, 2, fraction[0]);
     put(message, &message_length, 2, fraction[1]);
     length_at = message_length;
@@ -408,12 +425,12 @@ static void writing(void) {
     struct answer answer = fresh();
     uint64_t owner = 0;
     for (at = 0; at < count; at++) {
-        const unsigned char *fraction = fractions[below(6)];
+        const uint16_t *fraction = any_fraction();
         size_t own = make_list(inner + inner_count, 12);
         if (node_count > owner + 1 && !below(2))
             owner += below(node_count - owner);
         thresholds[at].node = below(40) ? owner : number(4);
-        thresholds[at].comparison = below(20) ? below(4) : number(4);
+        thresholds[at].comparison = below(20) ? any_comparison() : number(4);
         thresholds[at].p = below(20) ? fraction[0] : number(4);
         thresholds[at].q = below(20) ? fraction[1] : number(5);
         thresholds[at].inner_nodes = below(40) ? own : number(12);
@@ -479,7 +496,7 @@ static void questions(void) {
     struct lent map = lend(places, 2 * (below(4) ? 64 : below(80)), 0);
     uint16_t *map_at = (uint16_t *)(void *)map.at;
     uint64_t item = number(items_said());
-    const unsigned char *fraction = fractions[below(6)];
+    const uint16_t *fraction = any_fraction();
     struct answer answer = fresh();
     svelgandur_degree(img.at, img.bytes, msg.at, msg.bytes, item, map_at,
                       map.bytes / 2, answer.numbers);
@@ -606,6 +623,16 @@ static void session(void) {
     take_back(buffer);
 }
 
+/* Every call that can refuse a threshold for its comparison, p or q did so, on
+ * each side that it can. */
+static void require_thresholds_met(int which) {
+    int side;
+    for (side = 0; side < 3; side++)
+        require(!(calls[which].sides[side] & (N(13) | FRACTION) &
+                  ~met[which][side]),
+                "a threshold's fault that was not met");
+}
+
 int main(int words, char **word_list) {
     uint64_t rounds, total = 0;
     int which;
@@ -634,6 +661,7 @@ int main(int words, char **word_list) {
                " refused\n",
                call->name, call->good, call->no, call->refused);
         require(call->good && call->refused, "a call with one answer only");
+        require_thresholds_met(which);
     }
     printf("boundary: %" PRIu64 " calls\n", total);
     return 0;

@@ -6,7 +6,7 @@ use crate::meeting::Meeting;
 use crate::message::{Each, Message, Passing};
 use crate::numbers::{Numbers, Reached};
 use crate::register::Register;
-use crate::{allowed, common_factor, refuse, Answer, Refusal, Side};
+use crate::{common_factor, fraction_fault, refuse, Answer, Refusal, Side};
 
 pub const REFUSED: u64 = 0;
 pub const GOOD: u64 = 1;
@@ -87,8 +87,8 @@ fn try_margin(image: &[u8], message: &[u8], item: u64, p: u64, q: u64) -> Result
     let register = Register::whole(image)?;
     let tree = Message::plain(message)?;
     let item = asked(&register, item)?;
-    if !allowed(p, q) {
-        return refuse(Side::Call, 13, 0);
+    if let Some((number, _)) = fraction_fault(p, q) {
+        return refuse(Side::Call, number, 0);
     }
     let (mut graph, mut numbers) = (Graph::of(register), Numbers::none());
     let scale = numbers.work_out(&mut graph, &tree, Reached::One(item as u16));

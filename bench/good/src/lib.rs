@@ -112,9 +112,17 @@ pub fn common_factor(a: u64, b: u64) -> u64 {
     a << twos
 }
 
-/// The rules for p/q.
-pub fn allowed(p: u64, q: u64) -> bool {
-    (1..=1000).contains(&q) && p <= q && common_factor(p, q) == 1
+/// What is wrong with p/q, if something is: the number, and how far behind a
+/// threshold's first byte the p or q at fault stands.
+#[inline]
+pub fn fraction_fault(p: u64, q: u64) -> Option<(u8, usize)> {
+    if !(1..=1000).contains(&q) {
+        return Some((23, 3));
+    }
+    if p > q {
+        return Some((24, 1));
+    }
+    (common_factor(p, q) > 1).then_some((25, 1))
 }
 
 /// The numbers of the ones of a word, lowest first.

@@ -3,7 +3,7 @@
 
 use crate::tree::Tree;
 use crate::{
-    allowed, eight, head, pair, refuse, Refusal, Side, MOST_DEPTH, MOST_NODES, MOST_ROLE,
+    eight, fraction_fault, head, pair, refuse, Refusal, Side, MOST_DEPTH, MOST_NODES, MOST_ROLE,
     MOST_SIZE, MOST_THRESHOLDS,
 };
 
@@ -189,8 +189,11 @@ fn threshold(
         _ => {}
     }
     let (comparison, p, q) = (bytes[at], pair(bytes, at + 1), pair(bytes, at + 3));
-    if comparison > 3 || !allowed(p as u64, q as u64) {
+    if comparison > 3 {
         return refuse(Side::Requirement, 13, at);
+    }
+    if let Some((number, behind)) = fraction_fault(p as u64, q as u64) {
+        return refuse(Side::Requirement, number, at + behind);
     }
     if left < 7 {
         return refuse(Side::Requirement, 1, at + 5);

@@ -4,7 +4,7 @@
 use crate::calls::{answer, GOOD};
 use crate::tree::Tree;
 use crate::{
-    allowed, refuse, Answer, Refusal, Side, MOST_DEPTH, MOST_NODES, MOST_ROLE, MOST_SIZE,
+    fraction_fault, refuse, Answer, Refusal, Side, MOST_DEPTH, MOST_NODES, MOST_ROLE, MOST_SIZE,
     MOST_THRESHOLDS,
 };
 
@@ -111,8 +111,11 @@ fn written(
             if count >= MOST_THRESHOLDS {
                 return refused(12);
             }
-            if numbers[1] > 3 || !allowed(numbers[2], numbers[3]) {
+            if numbers[1] > 3 {
                 return refused(13);
+            }
+            if let Some((number, _)) = fraction_fault(numbers[2], numbers[3]) {
+                return refused(number);
             }
             let list;
             (list, rest) = rest.split_at(3 * numbers[4] as usize);

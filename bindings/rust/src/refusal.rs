@@ -37,7 +37,7 @@ impl fmt::Display for Side {
 #[derive(Clone, Copy, PartialEq, Eq, Hash, Debug)]
 pub struct Refusal {
     pub side: Side,
-    /// 1 to 22: see [`Refusal::sentence`].
+    /// 1 to 25: see [`Refusal::sentence`].
     pub number: u64,
     /// 0 on the call's side.
     pub place: u64,
@@ -72,7 +72,7 @@ impl Refusal {
             10 => "there are more than 64 nodes",
             11 => "a threshold stands inside an inner concept, or where none may stand",
             12 => "there is a 17th threshold",
-            13 => "a comparison, or the fraction p/q, is against the rules",
+            13 => "a threshold's comparison is none of <, <=, > and >=",
             14 => "the reduced size of a concept is above 60",
             15 => "the item or the name that is asked for is out of range",
             16 => "the map has fewer places than the requirement has nodes",
@@ -84,6 +84,9 @@ impl Refusal {
             20 => "a link more does not fit: 4,096 stand, or the buffer has no room",
             21 => "the output is shorter than the message",
             22 => "a list is empty or forms no tree, or a threshold's node is out of its place",
+            23 => "a threshold's q is 0 or above 1,000",
+            24 => "a threshold's p is above its q",
+            25 => "a threshold's p and q share a factor above 1",
             _ => "the number is not known here",
         }
     }

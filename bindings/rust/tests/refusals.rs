@@ -2,7 +2,7 @@
 
 mod common;
 
-use common::{image, judged, message, node, threshold, Q1, R1};
+use common::{image, judged, message, node, threshold, BAD_FRACTIONS, Q1, R1};
 use svelgandur::{
     degree, degree_into, margin, member, member_into, read_register, read_requirement, Fact,
     Refusal, Session, Side,
@@ -92,16 +92,6 @@ fn requirements() {
             3 + 10 + 16 * 17,
         ),
         (
-            message(judged(&[], &[threshold(4, 1, 2, &leaf)], &[])),
-            13,
-            13,
-        ),
-        (
-            message(judged(&[], &[threshold(0, 2, 4, &leaf)], &[])),
-            13,
-            13,
-        ),
-        (
             message(judged(&[], &[half(&node(&names, &[]))], &[])),
             14,
             20,
@@ -109,6 +99,52 @@ fn requirements() {
     ];
     for (bytes, number, place) in cases {
         let wanted = refusal(Side::Requirement, number, place);
+        assert_eq!(requirement_refused(&bytes), wanted);
+    }
+}
+
+/// The faults of a threshold's comparison, p and q, alone and in pairs, with
+/// the number and how far behind the threshold's first byte it stands.
+const THRESHOLD_FAULTS: [(u8, u16, u16, u64, u64); 14] = [
+    (4, 1, 2, 13, 0),
+    (255, 1, 2, 13, 0),
+    (4, 1, 0, 13, 0),
+    (4, 2, 1, 13, 0),
+    (4, 2, 4, 13, 0),
+    (3, 0, 0, 23, 3),
+    (3, 1, 0, 23, 3),
+    (3, 1, 1001, 23, 3),
+    (3, 1002, 1001, 23, 3),
+    (3, 1001, 1001, 23, 3),
+    (3, 3, 2, 24, 1),
+    (3, 4, 2, 24, 1),
+    (3, 0, 2, 25, 1),
+    (3, 2, 4, 25, 1),
+];
+
+#[test]
+fn thresholds() {
+    let leaf = node(&[1], &[]);
+    let half = threshold(3, 1, 2, &leaf);
+    for (comparison, p, q, number, behind) in THRESHOLD_FAULTS {
+        let bad = |inner: &[u8]| threshold(comparison, p, q, inner);
+        let alone = message(judged(&[], &[bad(&leaf)], &[]));
+        let second = message(judged(&[], &[half.clone(), bad(&leaf)], &[]));
+        let child = judged(&[], &[bad(&leaf)], &[]);
+        let on_a_child = message(node(&[], &[(0, child)]));
+        let bad_inside = message(judged(&[], &[bad(&[])], &[]));
+        let seventeenth = [&vec![half.clone(); 16][..], &[bad(&leaf)]].concat();
+        for (bytes, at) in [
+            (alone, 13),
+            (second, 30),
+            (on_a_child, 24),
+            (bad_inside, 13),
+        ] {
+            let wanted = refusal(Side::Requirement, number, at + behind);
+            assert_eq!(requirement_refused(&bytes), wanted, "{comparison} {p}/{q}");
+        }
+        let wanted = refusal(Side::Requirement, 12, 13 + 16 * 17);
+        let bytes = message(judged(&[], &seventeenth, &[]));
         assert_eq!(requirement_refused(&bytes), wanted);
     }
 }
@@ -129,9 +165,20 @@ fn questions() {
         assert_eq!(margin(&R1, &Q1, item, 1, 2), Err(wanted));
         assert_eq!(member(&R1, &Q1, item), Err(wanted));
     }
-    let wanted = refusal(Side::Call, 13, 0);
-    for (p, q) in [(0, 0), (2, 1), (2, 4), (1, 1001), (1, u64::MAX)] {
-        assert_eq!(margin(&R1, &Q1, 0, p, q), Err(wanted));
+}
+
+/// The item comes before the fraction, and the requirement before both.
+#[test]
+fn margins() {
+    let leaf = node(&[1], &[]);
+    let judging = message(judged(&[], &[threshold(3, 2, 4, &leaf)], &[]));
+    for (p, q, number) in BAD_FRACTIONS {
+        let wanted = refusal(Side::Call, number, 0);
+        assert_eq!(margin(&R1, &Q1, 0, p, q), Err(wanted), "{p}/{q}");
+        let wanted = refusal(Side::Call, 15, 0);
+        assert_eq!(margin(&R1, &Q1, 3, p, q), Err(wanted), "{p}/{q}");
+        let wanted = refusal(Side::Requirement, 25, 14);
+        assert_eq!(margin(&R1, &judging, 3, p, q), Err(wanted), "{p}/{q}");
     }
 }
 
@@ -197,7 +244,7 @@ fn sessions() {
 #[test]
 fn sentences() {
     let sentence = |number| refusal(Side::Register, number, 0).sentence();
-    for number in 1..=20 {
+    for number in 1..=25 {
         assert_ne!(sentence(number), sentence(0));
         for other in 1..number {
             assert_ne!(sentence(number), sentence(other));
@@ -206,5 +253,9 @@ fn sentences() {
     let shown = register_refused(&R1[..40]).to_string();
     let wanted =
         "register refused 3 at 1: the length in the head is not that of the bytes that follow";
+    assert_eq!(shown, wanted);
+    let bytes = message(judged(&[], &[threshold(3, 1, 0, &[])], &[]));
+    let shown = requirement_refused(&bytes).to_string();
+    let wanted = "requirement refused 23 at 16: a threshold's q is 0 or above 1,000";
     assert_eq!(shown, wanted);
 }

@@ -3,7 +3,7 @@
 
 mod common;
 
-use common::{message, node, threshold, Q1};
+use common::{message, node, threshold, BAD_FRACTIONS, Q1};
 use svelgandur::{
     member, read_requirement, Comparison, Concept, Refusal, Requirement, Side, LONGEST_MESSAGE,
 };
@@ -78,8 +78,6 @@ fn refusals() {
         (deep(17).into(), 9),
         (broad(64).into(), 10),
         (many(17), 12),
-        (Requirement::new().at_least(2, 4, names(&[])), 13),
-        (Requirement::new().at_least(1, 1001, names(&[])), 13),
         (
             Requirement::new().at_least(1, 2, Concept::new().names(0..61)),
             14,
@@ -91,6 +89,36 @@ fn refusals() {
     assert!(Requirement::from(deep(16)).message().is_ok());
     assert!(Requirement::from(broad(63)).message().is_ok());
     assert!(many(16).message().is_ok());
+}
+
+/// Each fault of p and q, alone and with a fault that is tested before or
+/// behind it.
+#[test]
+fn fractions() {
+    let too_large = || Concept::new().names(0..61);
+    let sixteen = (0..16).fold(Requirement::new(), |all, _| all.at_least(1, 1, names(&[])));
+    for (p, q, number) in BAD_FRACTIONS {
+        let bad = |concept| Requirement::new().at_least(p, q, concept);
+        for requirement in [
+            bad(names(&[])),
+            bad(too_large()),
+            bad(names(&[]).child(32, names(&[]))),
+            bad(names(&[])).child(32, names(&[])),
+            bad(names(&[])).at_least(1, 2, too_large()),
+            Requirement::new()
+                .below(1, 2, names(&[]))
+                .child(0, bad(names(&[]))),
+        ] {
+            assert_eq!(refused(&requirement), (Side::Call, number, 0), "{p}/{q}");
+        }
+        let before = Requirement::new().at_least(1, 2, too_large());
+        let before = before.at_least(p, q, names(&[]));
+        assert_eq!(refused(&before), (Side::Call, 14, 0));
+        let one_more = sixteen.clone().at_least(p, q, names(&[]));
+        assert_eq!(refused(&one_more), (Side::Call, 12, 0));
+        let short = bad(names(&[])).message_into(&mut []);
+        assert_eq!(short.map_err(|refusal| refusal.number), Err(number));
+    }
 }
 
 #[test]

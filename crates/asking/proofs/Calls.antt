@@ -1,7 +1,7 @@
 -- The two calls, of a register and a plain requirement that were read or refused: each test's refusal in the document's order, and the answers.
 -- Assumes nothing.
 use mathlib.Core.Path.{_≡_, refl, sym, ap, ap₂, _∙_}
-use mathlib.Core.Bool.{Bool, true, false, not}
+use mathlib.Core.Bool.{false, not}
 use mathlib.Core.List.{List, map}
 use mathlib.Core.Option.{some}
 use Prim.Native.Nat.{ℕ, _≤_, _<_}
@@ -17,13 +17,12 @@ use Rattle.meaning.specs.Refusal.{Answer, good, refused, onCall, refuseIf, _>>=
 use Rattle.meaning.specs.Bytes.{Bytes}
 use Rattle.meaning.specs.Tree.{Concept, nodes}
 use Rattle.meaning.specs.Register.{Register, judged, readRegister}
-use Rattle.meaning.specs.Fraction.{Frac, _//_, lowest, margin, marginOver}
+use Rattle.meaning.specs.Fraction.{Frac, _//_, lowest, wrongWith, lawful, fraction, margin, marginOver}
 use Rattle.meaning.specs.Degree.{degreeOf, answered}
-use Rattle.meaning.specs.Message.{lawful}
 use Rattle.meaning.specs.Shown.{degreeMap, shown, markNumber}
 use Rattle.meaning.specs.Calls.{readPlain, inRange, Found, degreeCall, afterDegree, Against, marginCall}
 use Rattle.meaning.proofs.Tests.{of-not}
-use Rattle.meaning.proofs.MessageLabel.{lawful-open}
+use Rattle.meaning.proofs.FractionRows.{lawful-takes, found-none, found-some}
 use Rattle.meaning.proofs.Reading.{took, stopped, pass, stop, below, not-below, at-most, not-le}
 use Rattle.meaning.proofs.Image.{whole-buffer}
 use Rattle.meaning.proofs.Rows.{holds-nodes}
@@ -71,7 +70,7 @@ degreeThen item room g t =
 abbrev pub marginThen : ℕ → ℕ → ℕ → Register → Concept → Answer Against
 marginThen item p q g t =
     let d = answered (judged g) t item in
-    refuseIf (not (lawful p q)) (onCall 13) >> good (record { margin = margin d (p // q); over = marginOver d (p // q) })
+    fraction onCall p q >> good (record { margin = margin d (p // q); over = marginOver d (p // q) })
 
 abbrev degreeNext : ℕ → ℕ → Register → Concept → Answer Found
 degreeNext item room g t = inRange g item >> degreeThen item room g t
@@ -206,16 +205,17 @@ module _ (image message : List ℕ) (item : ℕ) where
     margin-no-item l p q r is =
         ap paperMargin is ∙ sym (margin-then p q ∙ stop (leb (length (w .register .names)) item) _ _ (at-most _ item (omega (arith, w .items))))
 
-    -- 13
-    pub margin-no-threshold : item < n → (p q : ℕ) (test : Bool) → test ≡ not (lawful p q) → test ≡ true → (r : Margin) → r ≡ marginRefused 13 → MarginDone p q r
-    margin-no-threshold i p q test says l r is =
-        ap paperMargin is ∙ sym (margin-then p q ∙ in-range _ i ∙ stop (not (lawful p q)) _ _ (sym says ∙ l))
+    -- what is wrong with the fraction
+    pub margin-no-threshold : item < n → (p q number : ℕ) → number ≡ wrongWith p q → (number ≡ 0 → ⊥) → (r : Margin) → r ≡ marginRefused number → MarginDone p q r
+    margin-no-threshold i p q number says l r is =
+        ap paperMargin is ∙ ap (λ (z : ℕ). refused (onCall z)) says
+        ∙ sym (margin-then p q ∙ in-range _ i ∙ stop (not (lawful p q)) _ _ (found-some number p q says l))
 
-    module _ (p q : ℕ) (test : Bool) (says : test ≡ not (lawful p q)) (left : test ≡ false) (d : Degree) (f : Fraction)
+    module _ (p q number : ℕ) (says : number ≡ wrongWith p q) (left : number ≡ 0) (d : Degree) (f : Fraction)
         (h : Graded (w .register) (w .tree) item d)
         (low : (f .num ≡ lowest (d .number // d .scale) .num) × (f .den ≡ lowest (d .number // d .scale) .den)) where
       ok : not (lawful p q) ≡ false
-      ok = sym says ∙ left
+      ok = found-none number p q says left
 
       -- the two numbers of the degree and of the threshold are small
       pub margin-small : (f .num ≤ f .den) × (f .den ≤ mostScale) × (p ≤ q) × (q ≤ mostQ)
@@ -226,8 +226,8 @@ module _ (image message : List ℕ) (item : ℕ) where
           let num : f .num ≡ answered G t item .num = ap (λ (z : Frac). z .num) same in
           let den : f .den ≡ answered G t item .den = ap (λ (z : Frac). z .den) same in
           let small = scale-small t (w .held .held .small) in
-          let fit = lawful-open p q (of-not (lawful p q) ok) in
-          (omega (arith, answered-at-most-one G t item), omega (arith, lowest-le (degreeOf G t item) .1, scale-in t), fit .1, fit .0)
+          let fit = lawful-takes p q (of-not (lawful p q) ok) in
+          (omega (arith, answered-at-most-one G t item), omega (arith, lowest-le (degreeOf G t item) .1, scale-in t), fit .most, fit .small)
 
       pub margin-answer : item < n → (m : Signed) → (m .num ≡ margin (f .num // f .den) (p // q)) × (m .den ≡ marginOver (f .num // f .den) (p // q))
           → SFits w64 (m .num) → MarginDone p q (GoodMargin (toZ w64 (ofZ w64 (m .num))) (m .den))

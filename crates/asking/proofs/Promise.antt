@@ -4,7 +4,7 @@
 -- Assumes nothing.
 use mathlib.Core.Path.{_≡_, refl, sym, ap, ap₂, subst, _∙_}
 use mathlib.Core.Logic.{_↔_, _⊎_, inl, inr}
-use mathlib.Core.Bool.{Bool, true, false, not}
+use mathlib.Core.Bool.{Bool, true, false}
 use mathlib.Core.List.{List, [], _∷_, _++_}
 use mathlib.Core.Option.{some}
 use Prim.Native.Nat.{ℕ, _≤_, _∣_}
@@ -21,19 +21,21 @@ use Rattle.meaning.specs.Tree.{Concept, nodes, roleAt, subtree}
 use Rattle.meaning.specs.Graph.{Graph}
 use Rattle.meaning.specs.Register.{judged}
 use Rattle.meaning.specs.Whole.{WholeMap, held}
-use Rattle.meaning.specs.Fraction.{Frac, _//_, Same, Lowest, margin, marginOver, Comparison, compares}
+use Rattle.meaning.specs.Fraction.{Frac, _//_, Same, Lowest, fraction, margin, marginOver, Comparison, compares}
+use Rattle.meaning.specs.FractionRows.{FractionTakes, FractionRow}
 use Rattle.meaning.specs.Partial.{IsDegree}
 use Rattle.meaning.specs.Degree.{degree, degreeOf, answered}
 use Rattle.meaning.specs.Reduce.{reduce}
 use Rattle.meaning.specs.Requirement.{bare}
-use Rattle.meaning.specs.Message.{lawful}
 use Rattle.meaning.specs.Shown.{degreeMap, shown, markNumber}
 use Rattle.meaning.specs.Calls.{Found, degreeCall, afterDegree, Against, marginCall}
 use Rattle.meaning.proofs.Tests.{holds}
-use Rattle.meaning.proofs.Reading.{pass, stop, below, not-below, le-of-not-below, good-inj, not-good}
+use Rattle.meaning.proofs.Reading.{pass, stop, halted, went, below, not-below, le-of-not-below}
 use Rattle.meaning.proofs.Image.{read-image}
 use Rattle.meaning.proofs.Degree.{answered-is, answered-lowest}
-use Rattle.meaning.proofs.MessageLabel.{lawful-open}
+use Rattle.meaning.proofs.FractionRows.{fraction-decided}
+use Rattle.meaning.proofs.Orders.{sameSide}
+use Rattle.meaning.proofs.Given.{one-of, among, ofQuestion, margin-gives}
 use Rattle.meaning.proofs.One.{answered-one}
 use Rattle.meaning.proofs.Shown.{Shows, degree-shows, degree-lowest}
 use Rattle.meaning.proofs.Picked.{Greatest}
@@ -215,8 +217,8 @@ module _ (image message : List ℕ) (item : ℕ) where
 
     margin-row : (f : Refusal) → MarginRow image message item p q f → marginCall image message item p q ≡ refused f
     margin-row f (before x) = margin-asked ∙ early-stops image message item (marginThen item p q) f x
-    margin-row f (noThreshold x l is) =
-        margin-asked ∙ askable-goes image message item (marginThen item p q) x ∙ stop (not (lawful p q)) _ _ (ap not l) ∙ ap refused (sym is)
+    margin-row f (noThreshold x r) =
+        margin-asked ∙ askable-goes image message item (marginThen item p q) x ∙ halted (fraction onCall p q) _ f (fraction-decided p q onCall .refused-where f r)
 
     abbrev against : Askable image message item → Against
     against x =
@@ -225,18 +227,20 @@ module _ (image message : List ℕ) (item : ℕ) where
 
     margin-taken : (x : MarginTakes image message item p q) → marginCall image message item p q ≡ good (against (x .asked))
     margin-taken x =
-        margin-asked ∙ askable-goes image message item (marginThen item p q) (x .asked) ∙ pass (not (lawful p q)) _ _ (ap not (x .rule))
+        margin-asked ∙ askable-goes image message item (marginThen item p q) (x .asked)
+        ∙ went (fraction onCall p q) _ (fraction-decided p q onCall .good-where (x .rule) .1)
 
     margin-either : ((f : Refusal) × MarginRow image message item p q f) ⊎ MarginTakes image message item p q
     margin-either = go (early-or-askable image message item)
       where
-        ruled : (x : Askable image message item) (b : Bool) → lawful p q ≡ b → ((f : Refusal) × MarginRow image message item p q f) ⊎ MarginTakes image message item p q
-        ruled x true d = inr (record { asked = x; rule = d })
-        ruled x false d = inl (onCall 13, noThreshold x d refl)
+        ruled : Askable image message item → FractionTakes p q ⊎ ((f : Refusal) × FractionRow onCall p q f)
+            → ((f : Refusal) × MarginRow image message item p q f) ⊎ MarginTakes image message item p q
+        ruled x (inl t) = inr (record { asked = x; rule = t })
+        ruled x (inr r) = inl (r .0, noThreshold x (r .1))
 
         go : ((f : Refusal) × Early image message item f) ⊎ Askable image message item → ((f : Refusal) × MarginRow image message item p q f) ⊎ MarginTakes image message item p q
         go (inl x) = inl (x .0, before (x .1))
-        go (inr x) = ruled x (lawful p q) refl
+        go (inr x) = ruled x (fraction-decided p q onCall .either)
 
     -- what a good answer m over o is, of a degree
     pub record MarginSays (d : Frac) (m : ℤ) (o : ℕ) : Type 0 where
@@ -281,8 +285,7 @@ module _ (image message : List ℕ) (item : ℕ) where
           let z : GoodMargin (margin d (p // q)) (marginOver d (p // q)) ≡ GoodMargin m o = sym (margin-result x) ∙ e in
           let a : margin d (p // q) ≡ m = cc in
           let b : marginOver d (p // q) ≡ o = cc in
-          let fit = lawful-open p q (holds (x .rule)) in
-          let small = margin-fits G t item p q (x .asked .small) (fit .1) (fit .0) in
+          let small = margin-fits G t item p q (x .asked .small) (x .rule .most) (x .rule .small) in
           record {
             margin-is = sym a;
             over-is = sym b;
@@ -290,6 +293,11 @@ module _ (image message : List ℕ) (item : ℕ) where
             zero-is = subst (λ (y : ℤ). (y ≡ pos 0) ↔ Same d (p // q)) a (margin-zero d (p // q));
             within = (subst (λ (y : ℤ). natAbs y ≤ mostMargin) a (small .0), subst (λ (y : ℕ). y ≤ mostMargin) b (small .1));
           }
+
+      -- document 02, §2: 13 is for a comparison, and a margin has none
+      pub never-thirteen : r ≡ RefusedMargin (onCall 13) → ⊥
+      unfolding ofQuestion among one-of sameSide
+      never-thirteen e = margin-gives image message item p q .only (onCall 13) (sym h ∙ ap paperMargin e)
 
       pub margin-within : (m : ℤ) (o : ℕ) → r ≡ GoodMargin m o → natAbs m ≤ mostMargin
       margin-within m o e = margin-says (margin-good-exactly .0 (m, o, e)) m o e .within .0

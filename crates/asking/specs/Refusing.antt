@@ -2,7 +2,6 @@
 -- "A number is given exactly when its row holds and nothing earlier in the order below applies."
 -- Assumes nothing.
 use mathlib.Core.Path.{_≡_}
-use mathlib.Core.Bool.{true, false}
 use mathlib.Core.List.{List, [], _∷_}
 use Prim.Native.Nat.{ℕ, _≤_, _<_}
 use lib.ListN.{length}
@@ -14,7 +13,8 @@ use Rattle.meaning.specs.Register.{Register, readRegister}
 use Rattle.meaning.specs.Reduce.{reduce, size}
 use Rattle.meaning.specs.Bounds.{mostSize}
 use Rattle.meaning.specs.Requirement.{Requirement, bare}
-use Rattle.meaning.specs.Message.{Part, readRequirement, lawful}
+use Rattle.meaning.specs.FractionRows.{FractionTakes, FractionRow}
+use Rattle.meaning.specs.Message.{Part, readRequirement}
 use Rattle.meaning.specs.Calls.{degreeCall, afterDegree, marginCall}
 use Rattle.asking.specs.declared.Answered.{Answered}
 use Rattle.asking.specs.declared.Margin.{Margin}
@@ -61,11 +61,11 @@ DegreePromise image message item old new r =
 
 pub record MarginTakes (image message : List ℕ) (item p q : ℕ) : Type 0 where
   pub asked : Askable image message item
-  pub rule : lawful p q ≡ true
+  pub rule : FractionTakes p q
 
 pub data MarginRow (image message : List ℕ) (item p q : ℕ) (f : Refusal) : Type 0 where
   before : Early image message item f → MarginRow image message item p q f
-  noThreshold : Askable image message item → lawful p q ≡ false → f ≡ onCall 13 → MarginRow image message item p q f
+  noThreshold : Askable image message item → FractionRow onCall p q f → MarginRow image message item p q f
 
 -- what the call promises of its result
 abbrev pub MarginPromise : List ℕ → List ℕ → ℕ → ℕ → ℕ → Margin → Type 0

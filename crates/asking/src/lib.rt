@@ -96,8 +96,9 @@ pub fn margin_of(image: &[u8], message: &[u8], item: usize, p: usize, q: usize) 
             if item >= items {
                 return margin_refused(15);
             }
-            if fractions::wrong(p, q) {
-                return margin_refused(13);
+            let number = fractions::wrong(p, q);
+            if number != 0 {
+                return margin_refused(number);
             }
             let d = shown::degree_at(
                 image,

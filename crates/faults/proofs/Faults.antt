@@ -8,11 +8,12 @@ use native.Mathlib.Omega.{arith}
 use lib.Dec.{leb, ltb}
 use Rattle.meaning.specs.Refusal.{Answer, good, refused, onCall, refuseIf, _>>_}
 use Rattle.meaning.specs.Bounds.{mostRole, mostLevels, mostNodes, mostThresholds, mostSize}
-use Rattle.meaning.specs.Fraction.{lawful}
+use Rattle.meaning.specs.Fraction.{wrongWith, lawful}
 use Rattle.meaning.specs.Reduce.{reduce, size}
 use Rattle.meaning.specs.Lists.{Listed, Limit, concept}
 use Rattle.meaning.specs.Writing.{nodeAt, nodeFits, nodesFit, limitFits}
 use Rattle.meaning.proofs.Reading.{pass, stop, halted, went, not-below, below, at-most, not-le}
+use Rattle.meaning.proofs.FractionRows.{found-none, found-some}
 use Rattle.meaning.proofs.ListsFit.{test-role, fits-node}
 use Rattle.lists.specs.Handed.{nodesTo}
 use Rattle.faults.specs.Faulty.{told}
@@ -23,6 +24,10 @@ use Rattle.lists.proofs.Peeled.{node-first, node-none}
 pub told-stop : (n : ℕ) (a b : Answer (Unit {0})) → (n ≡ 0 → ⊥) → told n ≡ a → told n ≡ (a >> b)
 told-stop zero a b h e = absurd (h refl)
 told-stop (suc n) a b h e = sym (halted a b (onCall (suc n)) (sym e))
+
+told-some : (n : ℕ) → (n ≡ 0 → ⊥) → told n ≡ refused (onCall n)
+told-some zero h = absurd (h refl)
+told-some (suc n) h = refl
 
 pub told-go : (n : ℕ) (a b : Answer (Unit {0})) → n ≡ 0 → told n ≡ a → (a >> b) ≡ b
 told-go n a b h e = went a b (sym e ∙ ap told h)
@@ -77,7 +82,7 @@ module _ (list : List ℕ) (i k end : ℕ) where
 pub record Begun (k : ℕ) (h : Limit) : Type 0 where
   pub few : k < mostThresholds
   pub kind : h .how ≤ 3
-  pub right : not (lawful (h .p) (h .q)) ≡ false
+  pub right : wrongWith (h .p) (h .q) ≡ 0
 
 module _ (k : ℕ) (h : Limit) where
   pub limit-many : mostThresholds ≤ k → told 12 ≡ limitFits k h
@@ -88,18 +93,19 @@ module _ (k : ℕ) (h : Limit) where
   unfolding limitFits
   limit-how f l = sym (pass (leb mostThresholds k) _ _ (not-le mostThresholds k f) ∙ stop (ltb 3 (h .how)) _ _ (below 3 (h .how) l))
 
-  pub limit-wrong : k < mostThresholds → h .how ≤ 3 → not (lawful (h .p) (h .q)) ≡ true → told 13 ≡ limitFits k h
+  pub limit-wrong : k < mostThresholds → h .how ≤ 3 → (n : ℕ) → n ≡ wrongWith (h .p) (h .q) → (n ≡ 0 → ⊥) → told n ≡ limitFits k h
   unfolding limitFits
-  limit-wrong f l w =
-      sym (pass (leb mostThresholds k) _ _ (not-le mostThresholds k f) ∙ pass (ltb 3 (h .how)) _ _ (not-below 3 (h .how) l)
-      ∙ stop (not (lawful (h .p) (h .q))) _ _ w)
+  limit-wrong f l n is z =
+      told-some n z ∙ ap (λ (m : ℕ). refused (onCall m)) is
+      ∙ sym (pass (leb mostThresholds k) _ _ (not-le mostThresholds k f) ∙ pass (ltb 3 (h .how)) _ _ (not-below 3 (h .how) l)
+      ∙ stop (not (lawful (h .p) (h .q))) _ _ (found-some n (h .p) (h .q) is z))
 
   module _ (b : Begun k h) where
     left : limitFits k h ≡ (nodesFit 0 (h .inner) >> refuseIf (ltb mostSize (size (reduce (concept (h .inner))))) (onCall 14))
     unfolding limitFits
     left =
         pass (leb mostThresholds k) _ _ (not-le mostThresholds k (b .few)) ∙ pass (ltb 3 (h .how)) _ _ (not-below 3 (h .how) (b .kind))
-        ∙ pass (not (lawful (h .p) (h .q))) _ _ (b .right)
+        ∙ pass (not (lawful (h .p) (h .q))) _ _ (found-none _ (h .p) (h .q) refl (b .right))
 
     -- what the tests of its inner list say, which is xs
     module _ (n : ℕ) (xs : List (Listed ℕ)) (same : xs ≡ h .inner) (e : told n ≡ nodesFit 0 xs) where

@@ -46,7 +46,7 @@ fn nodes_fault(list: &[u64], first: usize, end: usize) -> usize
     0
 }
 
-// The j-th threshold, whose inner nodes begin at `first`: 12, 13, those of the inner list, 14.
+// The j-th threshold, whose inner nodes begin at `first`: 12, 13, what is wrong with its fraction, those of the inner list, 14.
 fn limit_fault(limits: &[u64], inner: &[u64], j: usize, first: usize) -> usize
     requires { ⌜ One (now limits) (now inner) j first ⌝ }
     ensures { λ r. ⌜ told r ≡ limitFits j (limitAt (now (limits .entry)) (now (inner .entry)) j first) ⌝ }
@@ -57,8 +57,9 @@ fn limit_fault(limits: &[u64], inner: &[u64], j: usize, first: usize) -> usize
     if 3 < lists::part(limits, j, 1) {
         return 13;
     }
-    if fractions::wrong(lists::part(limits, j, 2), lists::part(limits, j, 3)) {
-        return 13;
+    let wrong = fractions::wrong(lists::part(limits, j, 2), lists::part(limits, j, 3));
+    if wrong != 0 {
+        return wrong;
     }
     let end = first + lists::part(limits, j, 4);
     let number = nodes_fault(inner, first, end);

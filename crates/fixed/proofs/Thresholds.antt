@@ -1,25 +1,26 @@
 -- Reading thresholds and their inner concepts: each end, as the code comes to it.
 -- Assumes nothing.
-use mathlib.Core.Path.{_≡_, refl, sym, ap, _∙_, subst}
+use mathlib.Core.Path.{_≡_, refl, sym, ap, _∙_}
 use mathlib.Core.Bool.{Bool, true, false, _&&_, not, cond}
 use mathlib.Core.List.{List, [], _∷_, _++_}
 use Prim.Native.Nat.{ℕ, zero, suc, _+_, _-_, _≤_, _<_}
 use native.Mathlib.Decide.{decLt}
 use native.Mathlib.Omega.{arith}
-use lib.Dec.{T, T-not, ltb, leb, leb→le}
+use lib.Dec.{ltb, leb, leb→le}
 use lib.ListN.{length}
 use Rattle.meaning.specs.declared.Side.the-variants.{Requirement as requirement}
 use Rattle.meaning.specs.declared.Refusal.{Refusal}
 use Rattle.meaning.specs.Refusal.{Answer, good, refused, at, refuseIf, _>>=_, _>>_}
 use Rattle.meaning.specs.Bytes.{number, fields}
 use Rattle.meaning.specs.Tree.{Concept}
-use Rattle.meaning.specs.Fraction.{_//_, lawful, fraction}
+use Rattle.meaning.specs.Fraction.{_//_, wrongWith, lawful, fraction}
 use Rattle.meaning.specs.Reduce.{reduce, size}
 use Rattle.meaning.specs.Bounds.{mostSize}
 use Rattle.meaning.specs.Requirement.{Threshold}
-use Rattle.meaning.specs.Message.{Part, Spot, comparison, readInner, readThreshold, readThresholds}
-use Rattle.meaning.proofs.Tests.{holds, is-true, is-false, of-not, and-both}
+use Rattle.meaning.specs.Message.{Part, Spot, comparison, faultAt, readInner, readThreshold, readThresholds}
+use Rattle.meaning.proofs.Tests.{holds, is-true, of-not, and-both}
 use Rattle.meaning.proofs.Reading.{pass, stop, stopped, halted, took, below, not-below, at-most, not-le, fitted}
+use Rattle.meaning.proofs.FractionRows.{found-none, found-some}
 use Rattle.fixed.specs.Spots.{spot, nodeIn, wholeInner}
 use Rattle.fixed.specs.Fixed.{lawfulAt}
 
@@ -128,7 +129,7 @@ module _ (s : List ℕ) (end owner p n : ℕ) (ps : List Part) where
       whole : {B : Type 0} (k : Answer B) → (fields requirement end (1 ∷ 2 ∷ 2 ∷ []) p >> k) ≡ k
       whole k = fitted requirement end (1 ∷ 2 ∷ 2 ∷ []) p k (omega arith)
 
-      -- 13 of the comparison, then of the fraction, are one rule here
+      -- the comparison, and then the fraction
       abbrev compared : Bool
       compared = leb (number s p 1) 3
 
@@ -138,16 +139,7 @@ module _ (s : List ℕ) (end owner p n : ℕ) (ps : List Part) where
       abbrev ruled : {B : Type 0} → Answer B → Answer B
       ruled k =
           refuseIf (ltb 3 (number s p 1)) (at requirement 13 p)
-          >> (fraction (at requirement 13 p) (number s (p + 1) 2) (number s (p + 3) 2) >> k)
-
-      broken : {B : Type 0} (k : Answer B) → lawfulAt s p ≡ false → ruled k ≡ refused (at requirement 13 p)
-      broken k e = go (decLt 3 (number s p 1))
-        where
-          go : Dec (3 < number s p 1) → ruled k ≡ refused (at requirement 13 p)
-          go (yes a) = stop (ltb 3 (number s p 1)) _ _ (below 3 (number s p 1) a)
-          go (no a) =
-              pass (ltb 3 (number s p 1)) _ _ (not-below 3 (number s p 1) (omega arith))
-              ∙ stop (not low) _ _ (ap not (ap (λ (b : Bool). b && low) (sym (at-most (number s p 1) 3 (omega arith))) ∙ e))
+          >> (fraction (faultAt p) (number s (p + 1) 2) (number s (p + 3) 2) >> k)
 
       kept-rule : {B : Type 0} (k : Answer B) → lawfulAt s p ≡ true → ruled k ≡ k
       kept-rule k e =
@@ -155,9 +147,17 @@ module _ (s : List ℕ) (end owner p n : ℕ) (ps : List Part) where
           pass (ltb 3 (number s p 1)) _ _ (not-below 3 (number s p 1) (leb→le (number s p 1) 3 (c .0)))
           ∙ pass (not low) _ _ (ap not (is-true low (c .1)))
 
-      pub threshold-rule : lawfulAt s p ≡ false → readThreshold s end owner w ≡ refused (at requirement 13 p)
+      pub threshold-how : 3 < number s p 1 → readThreshold s end owner w ≡ refused (at requirement 13 p)
       unfolding readThreshold
-      threshold-rule e = open-room _ ∙ whole _ ∙ broken _ e
+      threshold-how h = open-room _ ∙ whole _ ∙ stop (ltb 3 (number s p 1)) _ _ (below 3 (number s p 1) h)
+
+      -- the number that is found wrong with the fraction
+      pub threshold-fraction : number s p 1 ≤ 3 → (k : ℕ) → k ≡ wrongWith (number s (p + 1) 2) (number s (p + 3) 2) → (k ≡ 0 → ⊥)
+          → readThreshold s end owner w ≡ refused (faultAt p k)
+      unfolding readThreshold
+      threshold-fraction h k is some′ =
+          open-room _ ∙ whole _ ∙ pass (ltb 3 (number s p 1)) _ _ (not-below 3 (number s p 1) h)
+          ∙ stop (not low) _ _ (found-some k _ _ is some′) ∙ ap (λ (z : ℕ). refused (faultAt p z)) (sym is)
 
       module _ (kept : lawfulAt s p ≡ true) where
         abbrev len : ℕ
@@ -197,21 +197,11 @@ module _ (s : List ℕ) (end owner p n : ℕ) (ps : List Part) where
 
 -- ---- the comparison, p and q as code tests them
 
-module _ (s : List ℕ) (p x y : ℕ) (bad : Bool) (ex : x ≡ number s (p + 1) 2) (ey : y ≡ number s (p + 3) 2) (is : bad ≡ not (lawful x y)) (small : number s p 1 ≤ 3) where
-  abbrev ok : Bool
-  ok = lawful (number s (p + 1) 2) (number s (p + 3) 2)
+module _ (s : List ℕ) (p x y n : ℕ) (ex : x ≡ number s (p + 1) 2) (ey : y ≡ number s (p + 3) 2) (is : n ≡ wrongWith x y) where
+  pub wrong-here : n ≡ wrongWith (number s (p + 1) 2) (number s (p + 3) 2)
+  wrong-here = rw (ex, ey) at is
 
-  law : bad ≡ not ok
-  law = rw (ex, ey) at is
-
-  whole-rule : lawfulAt s p ≡ ok
-  whole-rule = ap (λ (b : Bool). b && ok) (at-most (number s p 1) 3 small)
-
-  pub rule-kept : bad ≡ false → lawfulAt s p ≡ true
-  rule-kept e = whole-rule ∙ is-true ok (of-not ok (sym law ∙ e))
-
-  pub rule-broken : bad ≡ true → lawfulAt s p ≡ false
-  rule-broken e = whole-rule ∙ is-false ok (T-not ok (subst T (sym e ∙ law) tt))
-
-pub rule-above : (s : List ℕ) (p : ℕ) → 3 < number s p 1 → lawfulAt s p ≡ false
-rule-above s p h = ap (λ (b : Bool). b && lawful (number s (p + 1) 2) (number s (p + 3) 2)) (not-le (number s p 1) 3 h)
+  pub rule-kept : number s p 1 ≤ 3 → n ≡ 0 → lawfulAt s p ≡ true
+  rule-kept small z =
+      let ok = lawful (number s (p + 1) 2) (number s (p + 3) 2) in
+      ap (λ (b : Bool). b && ok) (at-most (number s p 1) 3 small) ∙ is-true ok (of-not ok (found-none n _ _ wrong-here z))

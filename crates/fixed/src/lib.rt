@@ -3,6 +3,7 @@ ghost use mathlib.Core.Path.{_≡_};
 ghost use mathlib.Core.Bool.{_&&_};
 ghost use Prim.Native.Nat.{_+_, _<_};
 ghost use lib.Dec.{ltb};
+ghost use Rattle.meaning.specs.Message.{faultPlace};
 ghost use Rattle.fixed.specs.Spots.{Here};
 ghost use Rattle.fixed.specs.Fixed.{nodeCut, thresholdCut, NodeFixed, EdgeFixed, ThresholdFixed};
 
@@ -89,7 +90,7 @@ pub fn edge(s: &[u8], end: usize, at: usize) -> EdgeFields
     EdgeFields::Good { role }
 }
 
-// At a threshold: 12, 1, 13, 1 (inner length). There are so many thresholds before it.
+// At a threshold: 12, 1, 13, what is wrong with its fraction, 1 (inner length). There are so many thresholds before it.
 pub fn threshold(s: &[u8], end: usize, at: usize, parts: usize) -> ThresholdFields
     requires { ⌜ Here (now s) end at ⌝ }
     ensures { λ r. ⌜ ThresholdFixed (now (s .entry)) end at parts r ⌝ }
@@ -112,10 +113,11 @@ pub fn threshold(s: &[u8], end: usize, at: usize, parts: usize) -> ThresholdFiel
             place: at,
         };
     }
-    if fractions::wrong(fields::two(s, at + 1), fields::two(s, at + 3)) {
+    let number = fractions::wrong(fields::two(s, at + 1), fields::two(s, at + 3));
+    if number != 0 {
         return ThresholdFields::Refused {
-            number: 13,
-            place: at,
+            number,
+            place: fault_place(at, number),
         };
     }
     if end - at < 7 {
@@ -132,6 +134,17 @@ pub fn threshold(s: &[u8], end: usize, at: usize, parts: usize) -> ThresholdFiel
         };
     }
     ThresholdFields::Good { stop: at + 7 + len }
+}
+
+// Where what is wrong with the fraction of a threshold stands: 23 at its q, 24 and 25 at its p.
+fn fault_place(at: usize, number: usize) -> usize
+    requires { ⌜ at + 3 < 18446744073709551616 ⌝ }
+    ensures { λ r. ⌜ r ≡ faultPlace at number ⌝ }
+{
+    if number == 23 {
+        return at + 3;
+    }
+    at + 1
 }
 
 // Whether a node of an inner concept has thresholds.

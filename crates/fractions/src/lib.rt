@@ -1,14 +1,13 @@
 // Fractions as two numbers: the common divisor, lowest terms, what is wrong with a threshold's fraction, the four comparisons, the margin.
 ghost use mathlib.Core.Path.{_≡_};
-ghost use mathlib.Core.Bool.{not};
 ghost use Prim.Native.Nat.{_≤_, _<_};
 ghost use lib.IntN.{subℕ};
 ghost use mir.Syntax.{w64};
 ghost use mir.Val.{SFits};
 ghost use Rattle.meaning.specs.Bounds.{mostQ, mostScale, mostMargin};
-ghost use Rattle.meaning.specs.Fraction.{_//_, gcd, compares, margin, marginOver};
+ghost use Rattle.meaning.specs.Fraction.{_//_, gcd, wrongWith, compares, margin, marginOver};
 ghost use Rattle.meaning.specs.Fraction.{lowest as lowestOf};
-ghost use Rattle.meaning.specs.Message.{lawful, comparison};
+ghost use Rattle.meaning.specs.Message.{comparison};
 
 // A fraction.
 pub struct Fraction {
@@ -48,20 +47,24 @@ pub fn lowest(num: u64, den: u64) -> Fraction
     }
 }
 
-// Whether p/q is no threshold: that wants q from 1 to 1,000, p at most q, no common factor above 1.
-pub fn wrong(p: usize, q: usize) -> bool
-    ensures { λ r. ⌜ r ≡ not (lawful p q) ⌝ }
+// What is wrong with the fraction p/q of a threshold, by its number, and 0 where nothing is: 23 (q is 0 or too large), 24 (p exceeds q), 25 (they share
+// a factor above 1).
+pub fn wrong(p: usize, q: usize) -> usize
+    ensures { λ r. ⌜ r ≡ wrongWith p q ⌝ }
 {
     if q < 1 {
-        return true;
+        return 23;
     }
     if meaning::MOST_Q < q {
-        return true;
+        return 23;
     }
     if q < p {
-        return true;
+        return 24;
     }
-    common_divisor(p, q) != 1
+    if common_divisor(p, q) != 1 {
+        return 25;
+    }
+    0
 }
 
 // Whether number / scale satisfies a comparison with p / q, by cross-multiplication: 0 is <, 1 is ≤, 2 is >, 3 is ≥.

@@ -17,7 +17,7 @@ use Rattle.meaning.specs.Refusal.{Answer, good, refused, at, refuseIf, _
 use Rattle.meaning.specs.Bytes.{number, bytes, fields, readHead, headed}
 use Rattle.meaning.specs.Names.{isSet}
 use Rattle.meaning.specs.Tree.{node, Forest, none, more, Concept, count, under, nodes, levels, levelsF, nodesF, each, eachF, written, writtenF, relabel}
-use Rattle.meaning.specs.Fraction.{_//_, gcd, gcdIn, lowest, lawful, atLeast}
+use Rattle.meaning.specs.Fraction.{_//_, gcd, gcdIn, lowest, wrongWith, lawful, atLeast}
 use Rattle.meaning.specs.Register.{Link, Register, rises, above, allSets, linksOf, wellFormed, readRegister}
 use Rattle.meaning.specs.Register.{encode as image, itemsBytes, linksBytes, targets, readItems, readLink, readLinks, readBody, readRegisterBy}
 use Rattle.meaning.specs.Whole.{any, meetsBy}
@@ -161,7 +161,7 @@ pub one : Threshold
 one = record { how = atLeast; limit = 1 // 1; inner = inner }
 
 one-sound : T (soundThreshold one)
-unfolding one gcd gcdIn
+unfolding one wrongWith gcd gcdIn
 one-sound = both-and (lawful 1 1) (soundInner inner) tt inner-sound
 
 unfoldable pub alike : ℕ → List Threshold
@@ -262,13 +262,13 @@ rows =
     ∷ is requirement 14 3 (readPlain (message (plain (sized 1))))
     -- q 1,000 and 1,001, in a threshold and of a margin; q 1 and 0; p as great as q and greater
     ∷ accepted (readRequirement (root 1 0 (limit 1 1000)))
-    ∷ is requirement 13 13 (readRequirement (root 1 0 (limit 1 1001)))
+    ∷ is requirement 23 16 (readRequirement (root 1 0 (limit 1 1001)))
     ∷ accepted (marginCall R1 Q1 0 1 1000)
-    ∷ is call 13 0 (marginCall R1 Q1 0 1 1001)
+    ∷ is call 23 0 (marginCall R1 Q1 0 1 1001)
     ∷ accepted (marginCall R1 Q1 0 0 1)
-    ∷ is call 13 0 (marginCall R1 Q1 0 1 0)
+    ∷ is call 23 0 (marginCall R1 Q1 0 1 0)
     ∷ accepted (marginCall R1 Q1 0 1 1)
-    ∷ is call 13 0 (marginCall R1 Q1 0 2 1)
+    ∷ is call 24 0 (marginCall R1 Q1 0 2 1)
     -- role 31 and 32, of an edge and of a link
     ∷ accepted (readRequirement (root 0 1 (31 ∷ empty)))
     ∷ is requirement 7 13 (readRequirement (root 0 1 (32 ∷ empty)))
@@ -281,7 +281,7 @@ unfolding
     rows is sameSide root asked repeat empty chain fan oneItem linkBytes accepted limit sized broom R1 Q1 allTrue
     marginCall readPlain readRequirement readRegisterBy readBody readItems readLink readLinks readHead number bytes fields headed
     image message nodeBytes thresholdsBytes itemsBytes linksBytes readNode readChildren noThresholds readThreshold readThresholds withThresholds
-    degree best lowest gcd gcdIn reduce keptOf dropped size scale meetsBy any every targets count under nodes relabel ones refuseIf _>>=_ _>>_
+    degree best lowest gcd gcdIn wrongWith reduce keptOf dropped size scale meetsBy any every targets count under nodes relabel ones refuseIf _>>=_ _>>_
 small = tt
 
 -- ---- the table

@@ -5,8 +5,10 @@ pub mod Rising
 pub mod Stores
 -- Reading and writing: laws, register images, requirement messages
 pub mod Reading
+pub mod Decided
 pub mod Head
 pub mod Image
+pub mod FractionRows
 pub mod MessageTree
 pub mod MessageLabel
 pub mod Message
@@ -65,5 +67,6 @@ pub mod Worked
 pub mod Sheet
 pub mod Orders
 pub mod SessionOrders
+pub mod Given
 pub mod Bounds
 pub mod Slips

@@ -7,14 +7,14 @@ use mathlib.Core.List.{List, [], _∷_, _++_, append-assoc, append-nil, Forall�
 use Prim.Native.Nat.{ℕ, zero, suc, _+_, _*_, _≤_, _<_}
 use native.Mathlib.Nat.{add-zero}
 use native.Mathlib.Omega.{arith}
-use lib.Dec.{T, ltb, leb, eqb, leb→le, le→leb, ltb→lt, lt→ltb}
+use lib.Dec.{T, ltb, leb, leb→le, le→leb, ltb→lt, lt→ltb}
 use lib.ListN.{length, length-append}
 use Rattle.meaning.specs.declared.Side.the-variants.{Requirement as requirement}
 use Rattle.meaning.specs.Refusal.{good, at, _>>=_, _>>_}
 use Rattle.meaning.specs.Bytes.{number, bytes, Bytes}
 use Rattle.meaning.specs.Names.{isSet}
 use Rattle.meaning.specs.Tree.{Tree, node, Forest, none, more, Concept, nodes, levels, each, written}
-use Rattle.meaning.specs.Fraction.{_//_, gcd, Comparison, less, atMost, greater, atLeast}
+use Rattle.meaning.specs.Fraction.{_//_, Comparison, less, atMost, greater, atLeast}
 use Rattle.meaning.specs.Reduce.{reduce, size}
 use Rattle.meaning.specs.Requirement.{Threshold, Label, every}
 use Rattle.meaning.specs.Message.{lawful, code, comparison, bounded, soundInner, soundThreshold}
@@ -25,6 +25,7 @@ use Rattle.meaning.proofs.Tests.{and-both, both-and, is-true, of-not}
 use Rattle.meaning.proofs.Reading.{good-inj, then-test, then-take, then-fit, of-test, of-take, of-fit, not-below, le-of-not-below, total}
 use Rattle.meaning.proofs.Reading.{Stands, stands-none, stands-split, stands-join, number-of, number-below, number-stands, bytes-of, byte-of}
 use Rattle.meaning.proofs.Reading.{byte-stands, stands-self, none-bytes, cons-bytes, append-bytes, bytes-bytes}
+use Rattle.meaning.proofs.FractionRows.{lawful-takes}
 use Rattle.meaning.proofs.MessageTree.{Kind, Within, same-spot, pastLabel, past, partsOf, partsOfF, owned, tree-length, tree-bytes, LabelAt}
 use Rattle.meaning.proofs.MessageTree.{TreeAt, LabelRead, TreeRead, node-read, node-back}
 
@@ -148,10 +149,7 @@ coded (suc (suc zero)) h = refl
 coded (suc (suc (suc n))) h = omega arith
 
 pub lawful-open : (p q : ℕ) → T (lawful p q) → (q ≤ mostQ) × (p ≤ q)
-lawful-open p q h =
-    let c = and-both (leb 1 q && leb q mostQ && leb p q) (eqb (gcd p q) 1) h in
-    let d = and-both (leb 1 q && leb q mostQ) (leb p q) (c .0) in
-    (leb→le q mostQ (and-both (leb 1 q) (leb q mostQ) (d .0) .1), leb→le p q (d .1))
+lawful-open p q h = let t = lawful-takes p q h in (t .small, t .most)
 
 pub threshold-length : (h : Threshold) → length (thresholdBytes h) ≡ 7 + length (conceptBytes (h .inner))
 unfolding bytes

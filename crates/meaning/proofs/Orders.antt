@@ -11,7 +11,7 @@ use Rattle.meaning.specs.declared.Side.the-variants.{Register as registe
 use Rattle.meaning.specs.Refusal.{Answer, good, refused, refuseIf, _>>=_, _>>_}
 use Rattle.meaning.specs.Bytes.{number, bytes, fields, readHead, headed}
 use Rattle.meaning.specs.Tree.{node, Forest, none, more, Concept, count, under, nodes, relabel}
-use Rattle.meaning.specs.Fraction.{gcd, lowest}
+use Rattle.meaning.specs.Fraction.{gcd, lowest, wrongWith}
 use Rattle.meaning.specs.Register.{targets, itemsBytes, linksBytes, readItems, readLink, readLinks, readBody, readRegisterBy, readRegister, readBuffer}
 use Rattle.meaning.specs.Register.{encode as image}
 use Rattle.meaning.specs.Whole.{any, meetsBy}
@@ -87,6 +87,10 @@ root thresholds kids rest = headed (bytes 8 0 ++ (thresholds ∷ kids ∷ []) ++
 unfoldable pub asked : List ℕ → List ℕ
 asked inner = 3 ∷ bytes 2 1 ++ bytes 2 1 ++ bytes 2 (lib.ListN.length inner) ++ inner
 
+-- the first five bytes of a threshold
+unfoldable pub limited : ℕ → ℕ → ℕ → List ℕ
+limited how p q = how ∷ bytes 2 p ++ bytes 2 q
+
 unfoldable pub repeat : ℕ → List ℕ → List ℕ
 repeat zero l = []
 repeat (suc k) l = l ++ repeat k l
@@ -109,7 +113,7 @@ wide : Concept
 wide = node 0 (fan 31)
 
 pub messages : List Bool
-unfolding is root asked repeat empty chain fan wide
+unfolding is root asked limited repeat empty chain fan wide
 messages =
     is requirement 1 0 (readRequirement (1 ∷ []))
     -- a node: 1 at each of its fields
@@ -120,17 +124,35 @@ messages =
     ∷ is requirement 9 190 (readRequirement (headed (chain 17)))
     ∷ is requirement 10 707 (readRequirement (root 0 64 (repeat 64 (0 ∷ empty))))
     ∷ is requirement 9 707 (readRequirement (root 0 48 (repeat 47 (0 ∷ empty) ++ (0 ∷ chain 16))))
-    -- a threshold: 12 before 1, 1, 13, 1 (inner length)
+    -- a threshold: 12 before 1, 1, 13, 23, 24, 25, 1 (inner length)
     ∷ is requirement 12 285 (readRequirement (root 17 0 (repeat 16 (asked empty))))
     ∷ is requirement 1 13 (readRequirement (root 1 0 []))
     ∷ is requirement 1 14 (readRequirement (root 1 0 (9 ∷ 0 ∷ [])))
     ∷ is requirement 1 16 (readRequirement (root 1 0 (9 ∷ 0 ∷ 5 ∷ 0 ∷ [])))
-    ∷ is requirement 13 13 (readRequirement (root 1 0 (4 ∷ 0 ∷ 1 ∷ 0 ∷ 1 ∷ [])))
-    ∷ is requirement 13 13 (readRequirement (root 1 0 (3 ∷ 0 ∷ 1 ∷ 0 ∷ 0 ∷ [])))
-    ∷ is requirement 13 13 (readRequirement (root 1 0 (3 ∷ 0 ∷ 2 ∷ 0 ∷ 1 ∷ [])))
-    ∷ is requirement 13 13 (readRequirement (root 1 0 (3 ∷ 0 ∷ 2 ∷ 0 ∷ 4 ∷ [])))
-    ∷ is requirement 13 13 (readRequirement (root 1 0 (3 ∷ 0 ∷ 0 ∷ 0 ∷ 2 ∷ [])))
-    ∷ is requirement 13 13 (readRequirement (root 1 0 (3 ∷ 0 ∷ 1 ∷ bytes 2 1001)))
+    -- 13 at the threshold, before each of the fraction's; 12 before them
+    ∷ is requirement 13 13 (readRequirement (root 1 0 (limited 4 1 1)))
+    ∷ is requirement 13 13 (readRequirement (root 1 0 (limited 4 1 0)))
+    ∷ is requirement 13 13 (readRequirement (root 1 0 (limited 4 2 1)))
+    ∷ is requirement 13 13 (readRequirement (root 1 0 (limited 4 2 4)))
+    ∷ is requirement 12 285 (readRequirement (root 17 0 (repeat 16 (asked empty) ++ limited 3 1 0)))
+    -- 23 at q, also where p exceeds it or a factor is shared
+    ∷ is requirement 23 16 (readRequirement (root 1 0 (limited 3 0 0)))
+    ∷ is requirement 23 16 (readRequirement (root 1 0 (limited 3 1 0)))
+    ∷ is requirement 23 16 (readRequirement (root 1 0 (limited 3 1 1001)))
+    ∷ is requirement 23 16 (readRequirement (root 1 0 (limited 3 1002 1001)))
+    ∷ is requirement 23 16 (readRequirement (root 1 0 (limited 3 2 1002)))
+    -- 24 at p, also where a factor is shared; 25 at p, of 0/2 too
+    ∷ is requirement 24 14 (readRequirement (root 1 0 (limited 3 2 1)))
+    ∷ is requirement 24 14 (readRequirement (root 1 0 (limited 3 4 2)))
+    ∷ is requirement 25 14 (readRequirement (root 1 0 (limited 3 2 4)))
+    ∷ is requirement 25 14 (readRequirement (root 1 0 (limited 3 2 2)))
+    ∷ is requirement 25 14 (readRequirement (root 1 0 (limited 3 0 2)))
+    -- the places go with the threshold: the second of a root, and that of a child
+    ∷ is requirement 23 33 (readRequirement (root 2 0 (asked empty ++ limited 3 1 0)))
+    ∷ is requirement 24 31 (readRequirement (root 2 0 (asked empty ++ limited 3 2 1)))
+    ∷ is requirement 25 31 (readRequirement (root 2 0 (asked empty ++ limited 3 2 4)))
+    ∷ is requirement 23 27 (readRequirement (root 0 1 (0 ∷ bytes 8 0 ++ (1 ∷ 0 ∷ []) ++ limited 3 1 0)))
+    ∷ is requirement 25 25 (readRequirement (root 0 1 (0 ∷ bytes 8 0 ++ (1 ∷ 0 ∷ []) ++ limited 3 2 4)))
     ∷ is requirement 1 18 (readRequirement (root 1 0 (3 ∷ 0 ∷ 1 ∷ 0 ∷ 1 ∷ 0 ∷ [])))
     ∷ is requirement 1 18 (readRequirement (root 1 0 (3 ∷ 0 ∷ 1 ∷ 0 ∷ 1 ∷ 0 ∷ 10 ∷ bytes 9 0)))
     -- its inner concept, with its own end: 1, 11; then 8, 14
@@ -162,11 +184,14 @@ calls =
     ∷ is requirement 14 3 (degreeCall R1 (message (plain wide)) 9 0)
     ∷ is call 15 0 (degreeCall R1 Q1 3 1)
     ∷ is call 16 0 (degreeCall R1 Q1 2 1)
-    -- the margin: 15, 13
+    -- the margin: 15, 23, 24, 25
     ∷ is requirement 14 3 (marginCall R1 (message (plain wide)) 9 1 0)
     ∷ is call 15 0 (marginCall R1 Q1 3 1 0)
-    ∷ is call 13 0 (marginCall R1 Q1 2 1 0)
-    ∷ is call 13 0 (marginCall R1 Q1 2 2 4)
+    ∷ is call 23 0 (marginCall R1 Q1 2 1 0)
+    ∷ is call 23 0 (marginCall R1 Q1 2 2 1002)
+    ∷ is call 24 0 (marginCall R1 Q1 2 4 2)
+    ∷ is call 25 0 (marginCall R1 Q1 2 2 4)
+    ∷ is call 25 0 (marginCall R1 Q1 2 0 2)
     -- yes or no: 15, 16, and no 11 or 14 of the outer tree
     ∷ is register 1 0 (memberCall [] [] 9 0)
     ∷ is requirement 1 0 (memberCall R1 [] 9 0)
@@ -176,8 +201,8 @@ calls =
 
 pub orders : T (allTrue (registers ++ messages ++ calls))
 unfolding
-    registers messages calls is sameSide root asked repeat empty chain fan wide wideAsked oneItem linkBytes R1 Q1
+    registers messages calls is sameSide root asked limited repeat empty chain fan wide wideAsked oneItem linkBytes R1 Q1
     allTrue degreeCall marginCall memberCall readPlain readRequirement readRegisterBy readBody readItems readLink readLinks readHead number bytes fields headed
-    image message nodeBytes thresholdsBytes itemsBytes linksBytes readNode readChildren noThresholds readThreshold readThresholds withThresholds shown yesBy degree best lowest gcd
+    image message nodeBytes thresholdsBytes itemsBytes linksBytes readNode readChildren noThresholds readThreshold readThresholds withThresholds shown yesBy degree best lowest gcd wrongWith
     reduce keptOf dropped size scale meetsBy any every targets count under nodes relabel ones refuseIf _>>=_ _>>_
 orders = tt

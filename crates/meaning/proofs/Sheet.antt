@@ -5,7 +5,7 @@ use lib.Count.{ones}
 use Rattle.meaning.specs.Refusal.{refuseIf, _>>=_, _>>_}
 use Rattle.meaning.specs.Bytes.{number, bytes, fields, readHead, headed}
 use Rattle.meaning.specs.Tree.{count, under, nodes, relabel}
-use Rattle.meaning.specs.Fraction.{gcd, lowest}
+use Rattle.meaning.specs.Fraction.{gcd, lowest, wrongWith}
 use Rattle.meaning.specs.Register.{targets, itemsBytes, linksBytes, readItems, readLink, readLinks, readBody, readRegisterBy}
 use Rattle.meaning.specs.Register.{encode as image}
 use Rattle.meaning.specs.Whole.{any, meetsBy}
@@ -22,6 +22,6 @@ pub sheet : T (allTrue rows)
 unfolding
     rows allTrue sameList sameWhole degreeCall marginCall memberCall readPlain readRequirement readRegisterBy readBody readItems readLink readLinks
     itemsBytes linksBytes readHead number bytes fields headed image message nodeBytes thresholdsBytes
-    readNode readChildren noThresholds readThreshold readThresholds withThresholds shown yesBy degree best lowest gcd reduce keptOf dropped size scale
+    readNode readChildren noThresholds readThreshold readThresholds withThresholds shown yesBy degree best lowest gcd wrongWith reduce keptOf dropped size scale
     meetsBy any every refuseIf _>>=_ _>>_ targets count under nodes relabel ones
 sheet = tt

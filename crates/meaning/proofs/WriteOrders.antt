@@ -1,4 +1,4 @@
--- Document 02, §1: the order of the writing call's tests, on lists that break two rules at once, each pair of neighbours in the order; and each bound from
+-- Document 02, §1 and §2: the order of the writing call's tests, on lists that break two rules at once, each pair of neighbours in the order; and each bound from
 -- both sides. One table, proved by computation.
 -- Assumes nothing.
 use mathlib.Core.Bool.{Bool, true, false}
@@ -11,7 +11,7 @@ use Rattle.meaning.specs.Refusal.{Answer, good, refused, refuseIf, _>>=_
 use Rattle.meaning.specs.Bytes.{bytes, headed}
 use lib.Count.{ones}
 use Rattle.meaning.specs.Tree.{count, under}
-use Rattle.meaning.specs.Fraction.{gcd}
+use Rattle.meaning.specs.Fraction.{gcd, wrongWith}
 use Rattle.meaning.specs.Reduce.{reduce, keptOf, dropped, size}
 use Rattle.meaning.specs.Message.{encode, nodeBytes, thresholdsBytes}
 use Rattle.meaning.specs.Lists.{goOn, formTree, standAt, form, gathered, others, grown, firstTree, concept, owned, labelled, said}
@@ -52,6 +52,10 @@ roots (suc n) = 0 ∷ 0 ∷ 0 ∷ roots n
 half : ℕ → ℕ → ℕ → List ℕ
 half owner how inner = owner ∷ how ∷ 1 ∷ 2 ∷ inner ∷ []
 
+-- a threshold of the root, with this comparison and fraction and two inner nodes
+limited : ℕ → ℕ → ℕ → List ℕ
+limited how p q = 0 ∷ how ∷ p ∷ q ∷ 2 ∷ []
+
 -- nodes of one name under different roles; below a root with these names: 31 nodes, reduced size 60 and the names
 fan : ℕ → List ℕ
 fan zero = []
@@ -65,7 +69,7 @@ taken n (good m) = eqb (length m) n
 taken n (refused r) = false
 
 pub writings : List Bool
-unfolding is down wide halves root pair roots half fan sized taken
+unfolding is down wide halves root pair roots half limited fan sized taken
 writings =
     -- 22: no node, another depth at first, a jump by two, a second root, a rest
     is call 22 0 (writeCall [] [] [] 100)
@@ -94,12 +98,25 @@ writings =
     ∷ is call 10 0 (writeCall (root ++ wide 64) [] [] 0)
     ∷ taken 189 (writeCall (down 0 17) [] [] 189)
     ∷ taken 706 (writeCall (root ++ wide 63) [] [] 706)
-    -- a node's thresholds before its children: 12, 13, the inner list, 14
+    -- a node's thresholds before its children: 12, 13, 23, 24, 25, the inner list, 14
     ∷ is call 13 0 (writeCall (pair 32) (half 0 4 1) root 0)
     ∷ is call 12 0 (writeCall root (halves 16 ++ half 0 4 1) (roots 17) 0)
     ∷ taken 285 (writeCall root (halves 16) (roots 16) 285)
     ∷ is call 13 0 (writeCall root (half 0 4 2) (pair 32) 0)
-    ∷ is call 13 0 (writeCall root (0 ∷ 3 ∷ 2 ∷ 4 ∷ 2 ∷ []) (pair 32) 0)
+    ∷ is call 13 0 (writeCall root (limited 4 1 0) (pair 32) 0)
+    ∷ is call 13 0 (writeCall root (limited 4 2 1) (pair 32) 0)
+    ∷ is call 13 0 (writeCall root (limited 4 2 4) (pair 32) 0)
+    ∷ is call 12 0 (writeCall root (halves 16 ++ limited 3 1 0) (roots 16 ++ pair 32) 0)
+    ∷ is call 23 0 (writeCall root (limited 3 1 0) (pair 32) 0)
+    ∷ is call 23 0 (writeCall root (limited 3 1002 1001) (pair 32) 0)
+    ∷ is call 23 0 (writeCall root (limited 3 2 1002) (pair 32) 0)
+    ∷ is call 24 0 (writeCall root (limited 3 2 1) (pair 32) 0)
+    ∷ is call 24 0 (writeCall root (limited 3 4 2) (pair 32) 0)
+    ∷ is call 25 0 (writeCall root (limited 3 2 4) (pair 32) 0)
+    ∷ is call 25 0 (writeCall root (limited 3 0 2) (pair 32) 0)
+    ∷ taken 41 (writeCall root (limited 3 0 1) (pair 31) 41)
+    ∷ taken 41 (writeCall root (limited 3 1 1000) (pair 31) 41)
+    ∷ is call 23 0 (writeCall root (limited 3 1 1001) (pair 31) 41)
     ∷ is call 7 0 (writeCall root (half 0 3 32) (sized 1 ++ (0 ∷ 1 ∷ 32 ∷ [])) 0)
     ∷ is call 9 0 (writeCall root (half 0 3 18) (down 0 18) 0)
     ∷ is call 10 0 (writeCall root (half 0 3 65) (root ++ wide 64) 0)
@@ -113,8 +130,8 @@ writings =
 
 pub write-orders : T (allTrue writings)
 unfolding
-    writings is sameSide down wide halves root pair roots half fan sized taken allTrue
+    writings is sameSide down wide halves root pair roots half limited fan sized taken allTrue
     writeCall whole sharedOut nodesFrom limitsFrom nodeFits nodesFit limitFits ownFit listsFit
     goOn formTree standAt form gathered others grown firstTree concept owned labelled said
-    encode nodeBytes thresholdsBytes bytes headed gcd reduce keptOf dropped size count under ones refuseIf _>>=_ _>>_
+    encode nodeBytes thresholdsBytes bytes headed gcd wrongWith reduce keptOf dropped size count under ones refuseIf _>>=_ _>>_
 write-orders = tt

@@ -1,7 +1,7 @@
 -- The writing call is refused exactly when a row of its table holds, with that row's number, and good exactly when none does.
 -- Assumes nothing.
-use mathlib.Core.Path.{_≡_, refl, sym, ap, _∙_, subst}
-use mathlib.Core.Logic.{_⊎_, inl, inr, _↔_}
+use mathlib.Core.Path.{_≡_, refl}
+use mathlib.Core.Logic.{_⊎_, inl, inr}
 use mathlib.Core.Bool.{Bool, true, false, not, _&&_, cond}
 use mathlib.Core.List.{List, [], _∷_}
 use Prim.Native.Nat.{ℕ, suc, _≤_, _<_}
@@ -10,94 +10,20 @@ use native.Mathlib.Decide.{decLt, ℕ-discrete}
 use lib.Dec.{ltb, leb, eqb}
 use lib.ListN.{length}
 use Rattle.meaning.specs.declared.Refusal.{Refusal}
-use Rattle.meaning.specs.Refusal.{Answer, good, refused, onCall, refuseIf, Exactly, _>>=_, _>>_}
-use Rattle.meaning.specs.Fraction.{lawful}
+use Rattle.meaning.specs.Refusal.{good, onCall, refuseIf, Exactly}
+use Rattle.meaning.specs.Fraction.{fraction}
+use Rattle.meaning.specs.FractionRows.{FractionTakes, FractionRow}
 use Rattle.meaning.specs.Reduce.{reduce, size}
 use Rattle.meaning.specs.Message.{encode}
 use Rattle.meaning.specs.Lists.{Listed, Limit, form, concept, said}
 use Rattle.meaning.specs.Writing.{nodeFits, nodesFit, limitFits, ownFit, listsFit, listsIn, whole, writeCall}
 use Rattle.meaning.specs.WriteRows.{NodeTakes, NodeRow, roleAbove, tooDeep, tooMany, NodesTake, NodesRow, LimitTakes, LimitRow, seventeenth, noComparison}
 use Rattle.meaning.specs.WriteRows.{noFraction, badInner, tooLarge, OwnTake, OwnRow, ListsTake, ListsRow, WriteTakes, WriteRow, noLists, unread, short}
-use Rattle.meaning.proofs.Reading.{not-good, good-inj, pass, stop, halted, went, not-below, below, at-most, not-le}
+use Rattle.meaning.proofs.Reading.{not-below, below, at-most, not-le}
+use Rattle.meaning.proofs.Decided.{Decided, exactly, last, next, same-rows, none-tested, less-decided, swapped}
+use Rattle.meaning.proofs.FractionRows.{fraction-decided}
 use Rattle.meaning.proofs.Lists.{same, other}
 use Rattle.meaning.proofs.ListsFit.{test-role}
-
-refused-inj : {A : Type 0} {g f : Refusal} → _≡_ {A = Answer A} (refused g) (refused f) → g ≡ f
-refused-inj e = cc
-
--- an answer that is decided: what is taken is good, a row gives its refusal, and one of the two is so
-pub record Decided {A : Type 0} (a : Answer A) (Row : Refusal → Type 0) (Takes : Type 0) : Type 0 where
-  pub good-where : Takes → (x : A) × (a ≡ good x)
-  pub refused-where : (f : Refusal) → Row f → a ≡ refused f
-  pub either : Takes ⊎ ((f : Refusal) × Row f)
-
-pub exactly : {A : Type 0} {a : Answer A} {Row : Refusal → Type 0} {Takes : Type 0} → Decided a Row Takes → Exactly a Row Takes
-exactly {A} {a} {Row} {Takes} d = record {
-  refuses = λ f. ((λ e. row f e (d .either)), d .refused-where f);
-  takes = ((λ g. take g (d .either)), d .good-where);
-}
-  where
-    row : (f : Refusal) → a ≡ refused f → Takes ⊎ ((g : Refusal) × Row g) → Row f
-    row f e (inl t) = absurd (not-good (sym e ∙ d .good-where t .1))
-    row f e (inr r) = let z : refused (r .0) ≡ refused f = sym (d .refused-where (r .0) (r .1)) ∙ e in subst Row (refused-inj z) (r .1)
-
-    take : (x : A) × (a ≡ good x) → Takes ⊎ ((g : Refusal) × Row g) → Takes
-    take g (inl t) = t
-    take g (inr r) = absurd (not-good (sym (d .refused-where (r .0) (r .1)) ∙ g .1))
-
--- ---- steps, one after the other
-
--- a last step, whose row is that its test holds
-last : (b : Bool) (n : ℕ) {Row Takes : Type 0} → (Row → b ≡ true) → (Takes → b ≡ false) → Takes ⊎ Row → Decided (refuseIf b (onCall n)) (λ f. Row × (f ≡ onCall n)) Takes
-unfolding refuseIf
-last b n {Row} {Takes} r t (inl w) = record {
-  good-where = λ u. (tt, rw (t u) refl);
-  refused-where = λ f u. rw (r (u .0), u .1) refl;
-  either = inl w;
-}
-last b n {Row} {Takes} r t (inr w) = record {
-  good-where = λ u. (tt, rw (t u) refl);
-  refused-where = λ f u. rw (r (u .0), u .1) refl;
-  either = inr (onCall n, (w, refl));
-}
-
--- a step and what follows it
-next : {B : Type 0} {a : Answer (Unit {0})} {b : Answer B} {Row Row′ : Refusal → Type 0} {Takes Takes′ : Type 0} → Decided a Row Takes → Decided b Row′ Takes′
-    → Decided (a >> b) (λ f. Row f ⊎ (Takes × Row′ f)) (Takes × Takes′)
-next {B} {a} {b} {Row} {Row′} {Takes} {Takes′} d e = record {
-  good-where = λ u. let g = e .good-where (u .1) in (g .0, went a b (one (u .0)) ∙ g .1);
-  refused-where = rows;
-  either = which (d .either) (e .either);
-}
-  where
-    one : Takes → a ≡ good tt
-    one t = d .good-where t .1
-
-    rows : (f : Refusal) → Row f ⊎ (Takes × Row′ f) → (a >> b) ≡ refused f
-    rows f (inl r) = halted a b f (d .refused-where f r)
-    rows f (inr r) = went a b (one (r .0)) ∙ e .refused-where f (r .1)
-
-    which : Takes ⊎ ((f : Refusal) × Row f) → Takes′ ⊎ ((f : Refusal) × Row′ f) → (Takes × Takes′) ⊎ ((f : Refusal) × (Row f ⊎ (Takes × Row′ f)))
-    which (inl t) (inl u) = inl (t, u)
-    which (inl t) (inr r) = inr (r .0, inr (t, r .1))
-    which (inr r) u = inr (r .0, inl (r .1))
-
--- the same rows in other words
-same-rows : {A : Type 0} {a : Answer A} {Row Row′ : Refusal → Type 0} {Takes Takes′ : Type 0} → Decided a Row Takes → ((f : Refusal) → Row f → Row′ f)
-    → ((f : Refusal) → Row′ f → Row f) → (Takes → Takes′) → (Takes′ → Takes) → Decided a Row′ Takes′
-same-rows {A} {a} {Row} {Row′} {Takes} {Takes′} d to from there back = record {
-  good-where = λ u. d .good-where (back u);
-  refused-where = λ f r. d .refused-where f (from f r);
-  either = which (d .either);
-}
-  where
-    which : Takes ⊎ ((f : Refusal) × Row f) → Takes′ ⊎ ((f : Refusal) × Row′ f)
-    which (inl t) = inl (there t)
-    which (inr r) = inr (r .0, to (r .0) (r .1))
-
--- nothing is tested
-none-tested : Decided {A = Unit {0}} (good tt) (λ f. ⊥) (Unit {0})
-none-tested = record { good-where = λ u. (tt, refl); refused-where = λ f r. absurd r; either = inl tt }
 
 -- ---- a node
 
@@ -109,17 +35,6 @@ role-decided i x = go (decLt 31 (x .role)) (decLt 0 i)
     go (no n) d = inl (λ l. omega (arith, n))
     go (yes r) (no n) = inl (λ l. absurd (n l))
 
-less-decided : (m n : ℕ) → (m < n) ⊎ (n ≤ m)
-less-decided m n = go (decLt m n)
-  where
-    go : Dec (m < n) → (m < n) ⊎ (n ≤ m)
-    go (yes l) = inl l
-    go (no l) = inr (omega (arith, l))
-
-swapped : {A B : Type 0} → A ⊎ B → B ⊎ A
-swapped (inl a) = inr a
-swapped (inr b) = inl b
-
 node-decided : (i : ℕ) (x : Listed ℕ) → Decided (nodeFits i x) (NodeRow i x) (NodeTakes i x)
 unfolding nodeFits
 node-decided i x =
@@ -127,13 +42,13 @@ node-decided i x =
     (λ u. record { role = u .0; depth = u .1 .0; many = u .1 .1 }) (λ u. (u .role, (u .depth, u .many)))
   where
     role : Decided (refuseIf (ltb 0 i && ltb 31 (x .role)) (onCall 7)) (λ f. ((0 < i) × (31 < x .role)) × (f ≡ onCall 7)) (0 < i → x .role ≤ 31)
-    role = last (ltb 0 i && ltb 31 (x .role)) 7 (λ r. rw (below 0 i (r .0), below 31 (x .role) (r .1)) refl) (test-role i (x .role)) (role-decided i x)
+    role = last (ltb 0 i && ltb 31 (x .role)) (onCall 7) (λ r. rw (below 0 i (r .0), below 31 (x .role) (r .1)) refl) (test-role i (x .role)) (role-decided i x)
 
     depth : Decided (refuseIf (leb 17 (x .depth)) (onCall 9)) (λ f. (16 < x .depth) × (f ≡ onCall 9)) (x .depth ≤ 16)
-    depth = last (leb 17 (x .depth)) 9 (λ r. at-most 17 (x .depth) (omega (arith, r))) (λ r. not-le 17 (x .depth) (omega (arith, r))) (swapped (less-decided 16 (x .depth)))
+    depth = last (leb 17 (x .depth)) (onCall 9) (λ r. at-most 17 (x .depth) (omega (arith, r))) (λ r. not-le 17 (x .depth) (omega (arith, r))) (swapped (less-decided 16 (x .depth)))
 
     many : Decided (refuseIf (leb 64 i) (onCall 10)) (λ f. (64 ≤ i) × (f ≡ onCall 10)) (i < 64)
-    many = last (leb 64 i) 10 (at-most 64 i) (not-le 64 i) (less-decided i 64)
+    many = last (leb 64 i) (onCall 10) (at-most 64 i) (not-le 64 i) (less-decided i 64)
 
     to : (f : Refusal) → (((0 < i) × (31 < x .role)) × (f ≡ onCall 7))
         ⊎ ((0 < i → x .role ≤ 31) × (((16 < x .depth) × (f ≡ onCall 9)) ⊎ ((x .depth ≤ 16) × ((64 ≤ i) × (f ≡ onCall 10))))) → NodeRow i x f
@@ -163,36 +78,36 @@ module _ (k : ℕ) (h : Limit) where
   n = size (reduce (concept (h .inner)))
 
   few : Decided (refuseIf (leb 16 k) (onCall 12)) (λ f. (16 ≤ k) × (f ≡ onCall 12)) (k < 16)
-  few = last (leb 16 k) 12 (at-most 16 k) (not-le 16 k) (less-decided k 16)
+  few = last (leb 16 k) (onCall 12) (at-most 16 k) (not-le 16 k) (less-decided k 16)
 
   how : Decided (refuseIf (ltb 3 (h .how)) (onCall 13)) (λ f. (3 < h .how) × (f ≡ onCall 13)) (h .how ≤ 3)
-  how = last (ltb 3 (h .how)) 13 (below 3 (h .how)) (not-below 3 (h .how)) (swapped (less-decided 3 (h .how)))
+  how = last (ltb 3 (h .how)) (onCall 13) (below 3 (h .how)) (not-below 3 (h .how)) (swapped (less-decided 3 (h .how)))
 
-  rule : Decided (refuseIf (not (lawful (h .p) (h .q))) (onCall 13)) (λ f. (lawful (h .p) (h .q) ≡ false) × (f ≡ onCall 13)) (lawful (h .p) (h .q) ≡ true)
-  rule = last (not (lawful (h .p) (h .q))) 13 (λ e. rw e refl) (λ e. rw e refl) (law-decided (lawful (h .p) (h .q)))
+  rule : Decided (fraction onCall (h .p) (h .q)) (FractionRow onCall (h .p) (h .q)) (FractionTakes (h .p) (h .q))
+  rule = fraction-decided (h .p) (h .q) onCall
 
   small : Decided (refuseIf (ltb 60 n) (onCall 14)) (λ f. (60 < n) × (f ≡ onCall 14)) (n ≤ 60)
-  small = last (ltb 60 n) 14 (below 60 n) (not-below 60 n) (swapped (less-decided 60 n))
+  small = last (ltb 60 n) (onCall 14) (below 60 n) (not-below 60 n) (swapped (less-decided 60 n))
 
   abbrev Steps : Refusal → Type 0
   Steps f =
       ((16 ≤ k) × (f ≡ onCall 12))
       ⊎ ((k < 16) × (((3 < h .how) × (f ≡ onCall 13))
-      ⊎ ((h .how ≤ 3) × (((lawful (h .p) (h .q) ≡ false) × (f ≡ onCall 13))
-      ⊎ ((lawful (h .p) (h .q) ≡ true) × (NodesRow 0 (h .inner) f
+      ⊎ ((h .how ≤ 3) × (FractionRow onCall (h .p) (h .q) f
+      ⊎ (FractionTakes (h .p) (h .q) × (NodesRow 0 (h .inner) f
       ⊎ (NodesTake 0 (h .inner) × ((60 < n) × (f ≡ onCall 14)))))))))
 
   limit-to : (f : Refusal) → Steps f → LimitRow k h f
   limit-to f (inl r) = seventeenth (r .0) (r .1)
   limit-to f (inr (a, inl r)) = noComparison a (r .0) (r .1)
-  limit-to f (inr (a, inr (b, inl r))) = noFraction a b (r .0) (r .1)
+  limit-to f (inr (a, inr (b, inl r))) = noFraction a b r
   limit-to f (inr (a, inr (b, inr (c, inl r)))) = badInner a b c r
   limit-to f (inr (a, inr (b, inr (c, inr (d, r))))) = tooLarge a b c d (r .0) (r .1)
 
   limit-from : (f : Refusal) → LimitRow k h f → Steps f
   limit-from f (seventeenth a e) = inl (a, e)
   limit-from f (noComparison a b e) = inr (a, inl (b, e))
-  limit-from f (noFraction a b c e) = inr (a, inr (b, inl (c, e)))
+  limit-from f (noFraction a b r) = inr (a, inr (b, inl r))
   limit-from f (badInner a b c r) = inr (a, inr (b, inr (c, inl r)))
   limit-from f (tooLarge a b c d l e) = inr (a, inr (b, inr (c, inr (d, (l, e)))))
 
@@ -246,10 +161,10 @@ module _ (nodes hs inner : List ℕ) (room : ℕ) where
   given = record { good-where = λ u. (message, refl); refused-where = λ f r. absurd r; either = inl tt }
 
   formed : Decided (refuseIf (not lists) (onCall 22)) (λ f. (lists ≡ false) × (f ≡ onCall 22)) (lists ≡ true)
-  formed = last (not lists) 22 (λ e. rw e refl) (λ e. rw e refl) (law-decided lists)
+  formed = last (not lists) (onCall 22) (λ e. rw e refl) (λ e. rw e refl) (law-decided lists)
 
   enough : Decided (refuseIf (ltb room (length message)) (onCall 21)) (λ f. (room < length message) × (f ≡ onCall 21)) (length message ≤ room)
-  enough = last (ltb room (length message)) 21 (below room (length message)) (not-below room (length message)) (swapped (less-decided room (length message)))
+  enough = last (ltb room (length message)) (onCall 21) (below room (length message)) (not-below room (length message)) (swapped (less-decided room (length message)))
 
   abbrev Take : Type 0
   Take = ListsTake 0 (listsIn nodes hs inner .outer) (listsIn nodes hs inner .limits)

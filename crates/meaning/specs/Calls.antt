@@ -1,5 +1,6 @@
 -- The answer of each public call as a function of what is handed in, in the document's order of tests:
 -- "A degree or yes/no reads the register, the requirement, then 11 and 14 (degree and margin only), 15, 13 (margin only), 16 (no margin)."
+-- Of the margin's 13, document 02, §2 makes 23, 24 and 25.
 -- Assumes nothing.
 use mathlib.Core.Bool.{Bool, true, false}
 use mathlib.Core.List.{List, [], _∷_}
@@ -65,7 +66,7 @@ marginCall image message item p q = do
   g ← readRegister image
   t ← readPlain message
   inRange g item
-  fraction (onCall 13) p q
+  fraction onCall p q
   let d = answered (judged g) t item
   good (record { margin = margin d (p // q); over = marginOver d (p // q) })
 

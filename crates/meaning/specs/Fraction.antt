@@ -1,7 +1,7 @@
 -- Fractions, lowest terms, what is wrong with a fraction, the margin, and the four comparisons.
 -- Assumes nothing.
 use mathlib.Core.Path.{_≡_}
-use mathlib.Core.Bool.{Bool, _&&_, not}
+use mathlib.Core.Bool.{Bool, _||_, not, cond}
 use Prim.Native.Nat.{ℕ, zero, suc, _+_, _*_, _/_, _%_, _≤_, _<_, _∣_}
 use lib.Dec.{leb, ltb, eqb}
 use lib.IntN.{ℤ, subℕ}
@@ -57,13 +57,18 @@ pub record Lowest (p low : Frac) : Type 0 where
 
 -- ---- the fraction of a threshold
 
--- "The threshold is p/q, q from 1 to 1,000, p at most q, no common factor above 1"
-abbrev pub lawful : ℕ → ℕ → Bool
-lawful p q = leb 1 q && leb q mostQ && leb p q && eqb (gcd p q) 1
+-- what is wrong with p/q, by its number, and 0 where nothing is. Document 02, §2: "in this order .., 23 when q is 0 or too large .., 24 when p exceeds q ..,
+-- 25 when p and q share a factor above 1"
+unfoldable pub wrongWith : ℕ → ℕ → ℕ
+wrongWith p q = cond (ltb q 1 || ltb mostQ q) 23 (cond (ltb q p) 24 (cond (eqb (gcd p q) 1) 0 25))
 
--- what is wrong with a fraction: the step that reading and the margin share
-abbrev pub fraction : Refusal → ℕ → ℕ → Answer (Unit {0})
-fraction r p q = refuseIf (not (lawful p q)) r
+-- nothing is: "The threshold is p/q, q from 1 to 1,000, p at most q, no common factor above 1"
+abbrev pub lawful : ℕ → ℕ → Bool
+lawful p q = eqb (wrongWith p q) 0
+
+-- the step that reading, writing and the margin share; `say n` is the refusal with number n
+abbrev pub fraction : (ℕ → Refusal) → ℕ → ℕ → Answer (Unit {0})
+fraction say p q = refuseIf (not (lawful p q)) (say (wrongWith p q))
 
 -- ---- a degree against a threshold
 

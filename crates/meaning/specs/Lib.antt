@@ -8,6 +8,7 @@ pub mod Register
 pub mod Whole
 pub mod Reduce
 pub mod Fraction
+pub mod FractionRows
 pub mod Partial
 pub mod Degree
 pub mod Requirement

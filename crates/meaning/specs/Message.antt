@@ -1,11 +1,12 @@
 -- Document 01, "Requirement message": the bytes of a requirement, and their reading with every refusal.
 -- Assumes nothing.
-use mathlib.Core.Bool.{Bool, _&&_}
+use mathlib.Core.Bool.{Bool, _&&_, cond}
 use mathlib.Core.List.{List, [], _∷_, _++_}
 use Prim.Native.Nat.{ℕ, zero, suc, _+_}
-use lib.Dec.{ltb, leb}
+use lib.Dec.{ltb, leb, eqb}
 use lib.ListN.{length, take, drop}
 use Rattle.meaning.specs.declared.Side.the-variants.{Requirement as requirement}
+use Rattle.meaning.specs.declared.Refusal.{Refusal}
 use Rattle.meaning.specs.Refusal.{Answer, good, refused, at, refuseIf, _>>=_, _>>_}
 use Rattle.meaning.specs.Bytes.{number, bytes, fields, readHead, unequal, headed}
 use Rattle.meaning.specs.Names.{isSet}
@@ -140,14 +141,22 @@ noThresholds s w = do
 abbrev pub readInner : List ℕ → ℕ → ℕ → Answer (Concept × Spot)
 readInner s end p = readNode (noThresholds s) s end mostLevels (record { next = p; nodes = 0; parts = [] })
 
--- "At a threshold: 12, 1, 13, 1 (inner length), then the inner concept, 8, 14." One of the written node `owner`
+-- what is wrong with the fraction of a threshold at place p stands "at the place of the p or q at fault": 23 at q, 24 and 25 at p
+abbrev pub faultPlace : ℕ → ℕ → ℕ
+faultPlace p n = cond (eqb n 23) (p + 3) (p + 1)
+
+abbrev pub faultAt : ℕ → ℕ → Refusal
+faultAt p n = at requirement n (faultPlace p n)
+
+-- "At a threshold: 12, 1, 13, 1 (inner length), then the inner concept, 8, 14"; after 13, which is "for the comparison byte", 23, 24 and 25. One of the
+-- written node `owner`
 unfoldable pub readThreshold : List ℕ → ℕ → ℕ → Spot → Answer (Threshold × Spot)
 readThreshold s end owner w = do
   let p = w .next
   refuseIf (leb mostThresholds (length (w .parts))) (at requirement 12 p)
   fields requirement end (1 ∷ 2 ∷ 2 ∷ []) p
   refuseIf (ltb 3 (number s p 1)) (at requirement 13 p)
-  fraction (at requirement 13 p) (number s (p + 1) 2) (number s (p + 3) 2)
+  fraction (faultAt p) (number s (p + 1) 2) (number s (p + 3) 2)
   fields requirement end (2 ∷ []) (p + 5)
   let len = number s (p + 5) 2
   refuseIf (ltb end (p + 7 + len)) (at requirement 1 (p + 5))

@@ -1,6 +1,6 @@
 -- Document 02, §1, row by row, in the document's own numbers: what the writing call takes, and what it refuses with which number. "22 when a list is
 -- empty, its depths form no tree .. or a threshold's node isn't in the list or is below the one before; 7, 9, 10 and 12 to 14 as in reading, after 22 and
--- before 21, all on the call's side."
+-- before 21, all on the call's side." §2's 23 to 25 come after 13, as in reading.
 -- Assumes nothing.
 use mathlib.Core.Path.{_≡_}
 use mathlib.Core.Logic.{_⊎_}
@@ -10,7 +10,7 @@ use Prim.Native.Nat.{ℕ, suc, _≤_, _<_}
 use lib.ListN.{length}
 use Rattle.meaning.specs.declared.Refusal.{Refusal}
 use Rattle.meaning.specs.Refusal.{onCall}
-use Rattle.meaning.specs.Fraction.{lawful}
+use Rattle.meaning.specs.FractionRows.{FractionTakes, FractionRow}
 use Rattle.meaning.specs.Reduce.{reduce, size}
 use Rattle.meaning.specs.Message.{encode}
 use Rattle.meaning.specs.Lists.{Listed, Limit, form, concept, said}
@@ -46,16 +46,16 @@ NodesRow i (x ∷ xs) f = NodeRow i x f ⊎ (NodeTakes i x × NodesRow (suc i) x
 pub record LimitTakes (k : ℕ) (h : Limit) : Type 0 where
   pub few : k < 16
   pub how : h .how ≤ 3
-  pub rule : lawful (h .p) (h .q) ≡ true
+  pub rule : FractionTakes (h .p) (h .q)
   pub inner : NodesTake 0 (h .inner)
   pub small : size (reduce (concept (h .inner))) ≤ 60
 
 pub data LimitRow (k : ℕ) (h : Limit) (f : Refusal) : Type 0 where
   seventeenth : 16 ≤ k → f ≡ onCall 12 → LimitRow k h f
   noComparison : k < 16 → 3 < h .how → f ≡ onCall 13 → LimitRow k h f
-  noFraction : k < 16 → h .how ≤ 3 → lawful (h .p) (h .q) ≡ false → f ≡ onCall 13 → LimitRow k h f
-  badInner : k < 16 → h .how ≤ 3 → lawful (h .p) (h .q) ≡ true → NodesRow 0 (h .inner) f → LimitRow k h f
-  tooLarge : k < 16 → h .how ≤ 3 → lawful (h .p) (h .q) ≡ true → NodesTake 0 (h .inner) → 60 < size (reduce (concept (h .inner))) → f ≡ onCall 14
+  noFraction : k < 16 → h .how ≤ 3 → FractionRow onCall (h .p) (h .q) f → LimitRow k h f
+  badInner : k < 16 → h .how ≤ 3 → FractionTakes (h .p) (h .q) → NodesRow 0 (h .inner) f → LimitRow k h f
+  tooLarge : k < 16 → h .how ≤ 3 → FractionTakes (h .p) (h .q) → NodesTake 0 (h .inner) → 60 < size (reduce (concept (h .inner))) → f ≡ onCall 14
       → LimitRow k h f
 
 -- those of the i-th node, of the thresholds from the k-th on

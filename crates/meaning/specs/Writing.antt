@@ -1,7 +1,7 @@
 -- Document 02, §1: the call that writes a requirement's message, as a function of what is handed in, in its order of refusals:
 -- "22 when a list is empty, its depths form no tree (first 0, each later one from 1 to one above the one before) or a threshold's node isn't in the
 -- list or is below the one before; 7, 9, 10 and 12 to 14 as in reading, after 22 and before 21, all on the call's side." "21 when the output buffer is
--- too short".
+-- too short". §2's 23 to 25 come after 13, as in reading, "with place 0".
 -- Assumes nothing.
 use mathlib.Core.Bool.{Bool, not, _&&_, cond}
 use mathlib.Core.List.{List, [], _∷_, _++_}
@@ -89,12 +89,12 @@ nodesFit i (x ∷ xs) = do
   nodeFits i x
   nodesFit (suc i) xs
 
--- "12, 13, the inner list by the same rule, 14": the k-th threshold
+-- 12, 13, what is wrong with the fraction, the inner list by the same rule, 14: the k-th threshold
 unfoldable pub limitFits : ℕ → Limit → Answer (Unit {0})
 limitFits k h = do
   refuseIf (leb mostThresholds k) (onCall 12)
   refuseIf (ltb 3 (h .how)) (onCall 13)
-  fraction (onCall 13) (h .p) (h .q)
+  fraction onCall (h .p) (h .q)
   nodesFit 0 (h .inner)
   refuseIf (ltb mostSize (size (reduce (concept (h .inner))))) (onCall 14)
 

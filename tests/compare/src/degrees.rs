@@ -5,19 +5,20 @@ use second::fraction::Fraction;
 use second::gen::edges::{threes, Q1, R1};
 use second::gen::registers::register_of;
 use second::gen::{
-    any_pair_bytes, concept_edges, damaged_register, damaged_requirement, largest_register,
-    medium_register, plain_within_size, register_edges, requirement_edges, small_plain,
-    small_register, Palette, Rng,
+    any_pair_bytes, call_fractions, concept_edges, damaged_register, damaged_requirement,
+    largest_register, medium_register, plain_within_size, register_edges, requirement_edges,
+    small_plain, small_register, Palette, Rng,
 };
 use second::reduce::reduce;
 use second::register::{self, Register};
-use second::requirement::{self, Node};
+use second::requirement::{self, Comparison, Node};
 use second::{brute, Refusal, Side};
 
 use crate::fence;
 use crate::library::{self, Answer};
 use crate::part::{hex, refused, Call, Difference, Outcome, Part, Seen, GOOD};
-use crate::sheet;
+use crate::requirements;
+use crate::sheet::{self, asking, threshold};
 use crate::small;
 use crate::worst::{
     all_linked, broom, bushy, chain, comb, deep_halves, fans, halves, late, late_halves,
@@ -27,7 +28,6 @@ const DEGREE: &str = "degree";
 const MARGIN: &str = "margin";
 
 const READING: (Side, &[u64]) = (Side::Register, &[1, 2, 3, 4, 5, 6, 7, 8]);
-const PLAIN: (Side, &[u64]) = (Side::Requirement, &[1, 2, 3, 7, 8, 9, 10, 11, 12, 13, 14]);
 
 pub const PART: Part = Part {
     name: "degrees",
@@ -35,12 +35,16 @@ pub const PART: Part = Part {
         Call {
             name: DEGREE,
             kinds: &[GOOD],
-            refusals: &[READING, PLAIN, (Side::Call, &[15, 16])],
+            refusals: &[READING, requirements::READING, (Side::Call, &[15, 16])],
         },
         Call {
             name: MARGIN,
             kinds: &[GOOD],
-            refusals: &[READING, PLAIN, (Side::Call, &[13, 15])],
+            refusals: &[
+                READING,
+                requirements::READING,
+                (Side::Call, &[15, 23, 24, 25]),
+            ],
         },
     ],
     run,
@@ -50,6 +54,7 @@ fn run(seen: &mut Seen, seed: u64) -> Result<(), Difference> {
     let mut rng = Rng::new(seed);
     sheet(seen)?;
     edges(seen)?;
+    fractions(seen)?;
     every_small_one(seen)?;
     every_map_tried(seen, &mut rng)?;
     rooms(seen, &mut rng)?;
@@ -237,6 +242,34 @@ fn edges(seen: &mut Seen) -> Result<(), Difference> {
             degree_against(seen, question, &before(64), Err(refusal))?;
             margin_against(seen, question, (2, 3), Err(refusal))?;
         }
+    }
+    Ok(())
+}
+
+/// Margins against fractions at each edge of the rules, whose refusals were
+/// worked out by hand. An item that is not there comes before them, and a bad
+/// fraction in the requirement before both.
+fn fractions(seen: &mut Seen) -> Result<(), Difference> {
+    let good = Question {
+        image: &R1,
+        message: &Q1,
+        item: 0,
+    };
+    let judging = asking(vec![threshold(Comparison::AtLeast, 2, 4, Node::leaf(1))]);
+    let judging = requirement::encode(&judging);
+    for (p, q, number) in call_fractions() {
+        let against = (p, q);
+        match number {
+            Some(number) => margin_against(seen, good, against, Err(Refusal::call(number)))?,
+            None => margin(seen, good, against)?,
+        }
+        let no_item = Question { item: 3, ..good };
+        margin_against(seen, no_item, against, Err(Refusal::call(15)))?;
+        let both = Question {
+            message: &judging,
+            ..no_item
+        };
+        margin_against(seen, both, against, Err(Refusal::requirement(25, 14)))?;
     }
     Ok(())
 }

@@ -17,6 +17,7 @@ use second::{Refusal, Side};
 use crate::fence;
 use crate::library;
 use crate::part::{hex, refused, Call, Difference, Outcome, Part, Seen, GOOD, NO};
+use crate::requirements;
 use crate::sheet::{self, asking, threshold};
 use crate::small;
 use crate::worst::{all_linked, bushy, chain, comb, fans, sixteen_thresholds};
@@ -30,7 +31,7 @@ pub const PART: Part = Part {
         kinds: &[GOOD, NO],
         refusals: &[
             (Side::Register, &[1, 2, 3, 4, 5, 6, 7, 8]),
-            (Side::Requirement, &[1, 2, 3, 7, 8, 9, 10, 11, 12, 13, 14]),
+            requirements::READING,
             (Side::Call, &[15, 16]),
         ],
     }],

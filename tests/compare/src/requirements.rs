@@ -16,13 +16,20 @@ use crate::part::{hex, refused, Call, Difference, Outcome, Part, Seen, GOOD};
 const READ: &str = "read requirement";
 const INNER: &str = "inner part";
 
+/// What reading a requirement can refuse, in this call and in every other that
+/// reads one.
+pub const READING: (Side, &[u64]) = (
+    Side::Requirement,
+    &[1, 2, 3, 7, 8, 9, 10, 11, 12, 13, 14, 23, 24, 25],
+);
+
 pub const PART: Part = Part {
     name: "requirements",
     calls: &[
         Call {
             name: READ,
             kinds: &[GOOD],
-            refusals: &[(Side::Requirement, &[1, 2, 3, 7, 8, 9, 10, 11, 12, 13, 14])],
+            refusals: &[READING],
         },
         // This call alone gives no number: four zeros, which read as number 0 of side 0.
         Call {

@@ -1,6 +1,8 @@
 //! Writing requirement messages from lists.
 
-use second::gen::{plain, small_register, small_with_thresholds, with_thresholds, Palette, Rng};
+use second::gen::{
+    call_fractions, plain, small_register, small_with_thresholds, with_thresholds, Palette, Rng,
+};
 use second::requirement::{self, encode};
 use second::writing::{self, lists};
 use second::Side;
@@ -21,7 +23,7 @@ pub const PART: Part = Part {
     calls: &[Call {
         name: WRITE,
         kinds: &[GOOD],
-        refusals: &[(Side::Call, &[7, 9, 10, 12, 13, 14, 21, 22])],
+        refusals: &[(Side::Call, &[7, 9, 10, 12, 13, 14, 21, 22, 23, 24, 25])],
     }],
     run,
 };
@@ -243,45 +245,80 @@ fn inner_edges() -> Vec<(Lists, u64)> {
     edges
 }
 
-/// Comparisons and fractions at each edge of their rules.
+/// One threshold on the first of two nodes: comparisons and fractions at each
+/// edge of their rules, and a bad fraction with another fault before or behind
+/// it.
 fn fraction_edges() -> Vec<(Lists, u64)> {
-    [
-        (0, 1, 2, 0),
-        (3, 1, 2, 0),
-        (4, 1, 2, 13),
-        (1 << 32, 1, 2, 13),
-        (u64::MAX, 1, 2, 13),
-        (3, 0, 1, 0),
-        (3, 1, 1, 0),
-        (3, 0, 0, 13),
-        (3, 1, 0, 13),
-        (3, 2, 1, 13),
-        (3, 0, 2, 13),
-        (3, 2, 4, 13),
-        (3, 999, 1000, 0),
-        (3, 1000, 1000, 13),
-        (3, 1, 1001, 13),
-        (3, 65_537, 65_538, 13),
-        (3, 1 << 63, u64::MAX, 13),
-    ]
-    .into_iter()
-    .map(|(how, p, q, number)| ([chain(1), vec![0, how, p, q, 1], chain(0)], number))
-    .collect()
+    let one = |how, p, q, inner: Vec<u64>| {
+        let threshold = vec![0, how, p, q, inner.len() as u64 / 3];
+        [chain(1), threshold, inner]
+    };
+    let mut edges = Vec::new();
+    for how in 0..4 {
+        edges.push((one(how, 1, 2, chain(0)), 0));
+    }
+    for (p, q, number) in call_fractions() {
+        let number = number.map(u64::from);
+        edges.push((one(3, p, q, chain(0)), number.unwrap_or(0)));
+        for how in [4, 256, 1 << 32, u64::MAX] {
+            edges.push((one(how, p, q, chain(0)), 13));
+        }
+        for (inner, own) in [
+            (Vec::new(), 22),
+            (node(1, 1, 0).to_vec(), 22),
+            ([node(1, 0, 0), node(1, 1, 32)].concat(), 7),
+            (chain(17), 9),
+            ([star(0, 0), node(0, 1, 0).repeat(64)].concat(), 10),
+            (star(u64::MAX, 0), 14),
+        ] {
+            // 22 comes before all other numbers.
+            let first = if own == 22 { None } else { number };
+            edges.push((one(3, p, q, inner), first.unwrap_or(own)));
+        }
+        edges.extend(among_others(p, q, number));
+    }
+    edges
 }
 
+/// A fraction at the second threshold of two, the 16th and the 17th, and on a
+/// node whose role, or that of a node before or behind it, is too high.
+fn among_others(p: u64, q: u64, number: Option<u64>) -> Vec<(Lists, u64)> {
+    let with = |nodes: Vec<u64>, owners: &[u64]| {
+        let (mut own, inner) = thresholds(owners, &chain(0));
+        let last = own.len() - 5;
+        own[last + 2..last + 4].copy_from_slice(&[p, q]);
+        [nodes, own, inner]
+    };
+    let roles = |first, second| [node(0, 0, 0), node(0, 1, first), node(0, 1, second)].concat();
+    vec![
+        (with(star(0, 2), &[0, 0]), number.unwrap_or(0)),
+        (with(star(0, 2), &[0, 2]), number.unwrap_or(0)),
+        (with(star(0, 2), &[0; 16]), number.unwrap_or(0)),
+        (with(star(0, 2), &[0; 17]), 12),
+        (with(star(0, 2), &[2, 1]), 22),
+        (with(roles(0, 32), &[1]), number.unwrap_or(7)),
+        (with(roles(32, 0), &[1]), 7),
+        (with(roles(32, 0), &[2]), 7),
+    ]
+}
+
+/// Each with room enough, and with none: 21 comes last.
 fn by_hand(seen: &mut Seen) -> Result<(), Difference> {
     for (all, number) in edges() {
-        write(seen, &all, LONGEST)?;
-        let mut out = vec![UNWRITTEN; LONGEST];
-        let answer = library::write_requirement([&all[0], &all[1], &all[2]], &mut out);
-        let expected = match number {
-            0 => [GOOD, answer[1], 0, 0],
-            number => [0, 2, number, 0],
-        };
-        let outcome = |answer| Outcome { answer, lent: () };
-        seen.compare(WRITE, outcome(answer), outcome(expected), || {
-            vec![("by hand", format!("{all:?}"))]
-        })?;
+        for room in [LONGEST, 0] {
+            write(seen, &all, room)?;
+            let mut out = vec![UNWRITTEN; room];
+            let answer = library::write_requirement([&all[0], &all[1], &all[2]], &mut out);
+            let expected = match number {
+                0 if room == 0 => [0, 2, 21, 0],
+                0 => [GOOD, answer[1], 0, 0],
+                number => [0, 2, number, 0],
+            };
+            let outcome = |answer| Outcome { answer, lent: () };
+            seen.compare(WRITE, outcome(answer), outcome(expected), || {
+                vec![("by hand", format!("{all:?}"))]
+            })?;
+        }
     }
     Ok(())
 }
@@ -392,6 +429,19 @@ fn any_list(rng: &mut Rng, nodes: usize, deepest: u64) -> Vec<u64> {
     list
 }
 
+/// Three fractions for each fault, some of them with a later one as well.
+const BAD_FRACTIONS: [[u64; 2]; 9] = [
+    [1, 0],
+    [1, 1001],
+    [2002, 1001],
+    [2, 1],
+    [4, 2],
+    [1001, 1000],
+    [0, 2],
+    [2, 4],
+    [1000, 1000],
+];
+
 /// Lists at and near their bounds, with a fault here and there: which of two
 /// comes first.
 fn crowded(seen: &mut Seen, rng: &mut Rng) -> Result<(), Difference> {
@@ -413,8 +463,8 @@ fn crowded(seen: &mut Seen, rng: &mut Rng) -> Result<(), Difference> {
                 }
             };
             let how = if rng.chance(60) { 4 } else { rng.below(4) };
-            let [p, q] = match rng.below(60) {
-                0 => rng.pick(&[[1, 0], [2, 1], [0, 2], [2, 4], [1, 1001]]),
+            let [p, q] = match rng.below(30) {
+                0 => rng.pick(&BAD_FRACTIONS),
                 _ => rng.pick(&[[0, 1], [1, 1], [1, 2], [2, 3], [999, 1000]]),
             };
             all[1].extend([owner, how, p, q, inner.len() as u64 / 3]);

@@ -11,7 +11,7 @@ fn wanted() -> Vec<String> {
             .collect()
     };
     let mut kinds = refusals("register", &[1, 2, 3, 4, 5, 6, 7, 8]);
-    let of_requirements = [1, 2, 3, 7, 8, 9, 10, 11, 12, 13, 14];
+    let of_requirements = [1, 2, 3, 7, 8, 9, 10, 11, 12, 13, 14, 23, 24, 25];
     kinds.extend(refusals("requirement", &of_requirements));
     for other in ["degrees", "yes", "no", "input too long"] {
         kinds.push(other.to_string());

@@ -10,7 +10,7 @@ pub use crate::brute::degree as brute_degree;
 use crate::fraction::Fraction;
 use crate::reduce::{reduce, Concept, Kept, MOST_SIZE};
 use crate::register::{read_whole, Register};
-use crate::requirement::{self, fraction_allowed, Node};
+use crate::requirement::{self, fraction_fault, Node};
 use crate::Refusal;
 
 /// The map's value where the parent is unmapped or has no such successor.
@@ -140,7 +140,7 @@ pub fn degree(
     Ok((degree.num as u64, degree.den as u64, degrees.map(item)))
 }
 
-/// The margin call, in the order register, requirement, 11, 14, 15, 13.
+/// The margin call, in the order register, requirement, 11, 14, 15, 23, 24, 25.
 /// Answers N × q − p × D and what it stands over, D × q.
 pub fn margin(
     register: &[u8],
@@ -153,8 +153,8 @@ pub fn margin(
     let root = requirement::read(requirement)?;
     let concept = plain_concept(&root)?;
     let item = register.item(item).ok_or(Refusal::call(15))?;
-    if !fraction_allowed(p, q) {
-        return Err(Refusal::call(13));
+    if let Some((number, _)) = fraction_fault(p, q) {
+        return Err(Refusal::call(number));
     }
     let mut degrees = Degrees::of(&register, &concept).ok_or(outer_too_large())?;
     let degree = degrees.at(item);

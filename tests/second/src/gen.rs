@@ -12,7 +12,7 @@ pub mod rng;
 pub mod sessions;
 
 pub use damage::{damaged_register, damaged_requirement, random_bytes};
-pub use edges::{concept_edges, register_edges, requirement_edges, Edge};
+pub use edges::{call_fractions, concept_edges, register_edges, requirement_edges, Edge};
 pub use registers::{largest_register, medium_register, small_register, Palette};
 pub use requirements::{
     met_somewhere, plain, plain_within_size, small_plain, small_with_thresholds, with_thresholds,

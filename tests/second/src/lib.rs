@@ -10,7 +10,7 @@
 //! |---|---|
 //! | `field` | the common head; number 1, 2, 3 of "Refusal numbers" |
 //! | `register` | "Register image" |
-//! | `requirement` | "Requirement message" |
+//! | `requirement` | "Requirement message"; §2 of document 02 |
 //! | `reduce` | "Reduction and degree", its first paragraph |
 //! | `fraction`, `degree` | "Reduction and degree", "Map shown" |
 //! | `member` | "Reduction and degree", its last paragraph; "Map shown" |

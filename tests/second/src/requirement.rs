@@ -1,8 +1,9 @@
 //! The requirement: a tree of nodes, each with names, thresholds and children.
 //!
 //! Renders "Requirement message" of document 01 and the requirement's numbers
-//! 1 to 3 and 7 to 14. (The 11 of a requirement that must be plain and the 14
-//! of the outer concept come after reading: see `degree`.)
+//! 1 to 3 and 7 to 14, with the numbers 23 to 25 of §2 of document 02. (The 11
+//! of a requirement that must be plain and the 14 of the outer concept come
+//! after reading: see `degree`.)
 
 use crate::field::{with_head, Behind, Fields};
 use crate::fraction::{greatest_common_factor, Fraction};
@@ -156,9 +157,27 @@ pub fn thresholds(root: &Node) -> Vec<&Threshold> {
         .collect()
 }
 
-/// The rules for p/q, for a threshold in a message and for a margin's own.
-pub fn fraction_allowed(p: u64, q: u64) -> bool {
-    (1..=MOST_Q).contains(&q) && p <= q && greatest_common_factor(u128::from(p), u128::from(q)) == 1
+/// The number of a fraction that is at fault.
+#[derive(Clone, Copy, PartialEq, Eq, Debug)]
+pub enum AtFault {
+    P,
+    Q,
+}
+
+/// What is wrong with p/q, if something is: the refusal number, in the order
+/// 23, 24, 25, and which of the two is at fault. The same rules hold for a
+/// threshold in a message, for one in a list and for a margin's own fraction.
+pub fn fraction_fault(p: u64, q: u64) -> Option<(u32, AtFault)> {
+    if q == 0 || q > MOST_Q {
+        return Some((23, AtFault::Q));
+    }
+    if p > q {
+        return Some((24, AtFault::P));
+    }
+    if greatest_common_factor(u128::from(p), u128::from(q)) > 1 {
+        return Some((25, AtFault::P));
+    }
+    None
 }
 
 /// Reads a whole message.
@@ -215,21 +234,28 @@ impl Tree {
         Ok(node)
     }
 
-    /// At a threshold: 12, 1 (the first 5 bytes), 13, 1 (inner length), then
-    /// the inner concept, 8, 14.
+    /// At a threshold: 12, 1 (the first 5 bytes), 13, 23, 24, 25, 1 (inner
+    /// length), then the inner concept, 8, 14.
     fn threshold(&mut self, fields: &mut Fields<'_>) -> Result<Threshold, Refusal> {
         let place = fields.place();
         self.thresholds += 1;
         if self.thresholds > MOST_THRESHOLDS {
             return Err(fields.refuse(12, place));
         }
-        let comparison = Comparison::from_byte(fields.take(1)?);
+        let comparison = fields.take(1)?;
+        let p_place = fields.place();
         let p = fields.take(2)?;
+        let q_place = fields.place();
         let q = fields.take(2)?;
-        let comparison = match comparison {
-            Some(comparison) if fraction_allowed(p, q) => comparison,
-            _ => return Err(fields.refuse(13, place)),
+        let comparison = match Comparison::from_byte(comparison) {
+            Some(comparison) => comparison,
+            None => return Err(fields.refuse(13, place)),
         };
+        match fraction_fault(p, q) {
+            Some((number, AtFault::P)) => return Err(fields.refuse(number, p_place)),
+            Some((number, AtFault::Q)) => return Err(fields.refuse(number, q_place)),
+            None => {}
+        }
         let length_place = fields.place();
         let len = fields.take(2)? as usize;
         let start = fields.place();

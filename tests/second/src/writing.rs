@@ -1,14 +1,15 @@
 //! A requirement handed over as lists of numbers, and the message written for
 //! it.
 //!
-//! Renders §1 of document 02. A node is three numbers: names, depth, role. A
-//! threshold is five: node, comparison, p, q and how many inner nodes it has;
-//! the inner nodes of all thresholds stand one after the other.
+//! Renders §1 of document 02, with the numbers of §2. A node is three numbers:
+//! names, depth, role. A threshold is five: node, comparison, p, q and how many
+//! inner nodes it has; the inner nodes of all thresholds stand one after the
+//! other.
 
 use crate::reduce::{reduce, MOST_SIZE};
 use crate::register::MOST_ROLE;
 use crate::requirement::{
-    encode, fraction_allowed, Comparison, Node, Threshold, MOST_DEPTH, MOST_NODES, MOST_THRESHOLDS,
+    encode, fraction_fault, Comparison, Node, Threshold, MOST_DEPTH, MOST_NODES, MOST_THRESHOLDS,
 };
 use crate::Refusal;
 
@@ -142,17 +143,17 @@ impl Counted {
         Ok(node)
     }
 
-    /// A threshold: 12, 13, the inner list, 14.
+    /// A threshold: 12, 13, 23, 24, 25, the inner list, 14.
     fn threshold(&mut self, wide: &WideThreshold<'_>) -> Result<Threshold, Refusal> {
         self.thresholds += 1;
         if self.thresholds > MOST_THRESHOLDS {
             return Err(Refusal::call(12));
         }
+        let comparison = Comparison::from_byte(wide.numbers[1]).ok_or(Refusal::call(13))?;
         let [p, q] = [wide.numbers[2], wide.numbers[3]];
-        let comparison = match Comparison::from_byte(wide.numbers[1]) {
-            Some(comparison) if fraction_allowed(p, q) => comparison,
-            _ => return Err(Refusal::call(13)),
-        };
+        if let Some((number, _)) = fraction_fault(p, q) {
+            return Err(Refusal::call(number));
+        }
         let inner = Counted::default().node(&wide.inner)?;
         if reduce(&inner).size() > MOST_SIZE {
             return Err(Refusal::call(14));

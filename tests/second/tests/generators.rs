@@ -1,7 +1,7 @@
 //! The generators make what they promise: a comparison over inputs that never
 //! meet an edge would prove little.
 
-use std::collections::BTreeSet;
+use std::collections::{BTreeMap, BTreeSet};
 
 use second::degree::{degree, Degrees, DROPPED, UNMAPPED};
 use second::gen::*;
@@ -40,23 +40,25 @@ fn the_largest_register_is_the_largest() {
 fn damage_meets_every_number() {
     let mut rng = Rng::new(52);
     let mut on_register = BTreeSet::new();
-    let mut on_requirement = BTreeSet::new();
+    let mut on_requirement = BTreeMap::new();
     for _ in 0..20_000 {
         let (register, root) = small_pair(&mut rng);
         let bytes = damaged_register(&mut rng, &register);
         on_register.extend(read_whole(&bytes).err().map(|refusal| refusal.number));
         let bytes = damaged_requirement(&mut rng, &root);
-        on_requirement.extend(
-            requirement::read(&bytes)
-                .err()
-                .map(|refusal| refusal.number),
-        );
+        if let Err(refusal) = requirement::read(&bytes) {
+            *on_requirement.entry(refusal.number).or_insert(0) += 1;
+        }
     }
     assert_eq!(Vec::from_iter(on_register), [1, 2, 3, 4, 5, 6, 7, 8]);
     assert_eq!(
-        Vec::from_iter(on_requirement),
-        [1, 2, 3, 7, 8, 9, 10, 11, 12, 13, 14]
+        Vec::from_iter(on_requirement.keys().copied()),
+        [1, 2, 3, 7, 8, 9, 10, 11, 12, 13, 14, 23, 24, 25]
     );
+    for number in [13, 23, 24, 25] {
+        let times: u32 = on_requirement[&number];
+        assert!(times > 200, "{number}: {times} times");
+    }
 }
 
 fn depth(node: &Node) -> usize {

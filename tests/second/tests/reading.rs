@@ -118,9 +118,10 @@ fn decisive(refusal: Refusal, len: usize) -> usize {
     match refusal.number {
         2 | 3 => 3,
         8 | 12 => 0,
-        7 | 11 => 1,
-        1 | 4 | 5 => 2,
-        6 | 13 => 5,
+        7 | 11 | 13 => 1,
+        1 | 4 | 5 | 23 => 2,
+        24 | 25 => 4,
+        6 => 5,
         9 | 10 => 10,
         _ => len,
     }

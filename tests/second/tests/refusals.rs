@@ -1,13 +1,14 @@
 //! Each refusal number at its place, and the order in which they are tested.
-//! The expectations are worked out by hand from document 01.
+//! The expectations are worked out by hand from documents 01 and 02.
 
 use second::degree::{degree, margin};
 use second::gen::edges::{Q1, R1};
-use second::gen::{concept_edges, register_edges, requirement_edges};
+use second::gen::{call_fractions, concept_edges, register_edges, requirement_edges};
 use second::member::member;
 use second::register::{encode, read_session, read_whole, Register};
 use second::requirement::{self, inner_part, Comparison, Node, Threshold};
 use second::session::{self, Fact, Step};
+use second::writing::write;
 use second::Refusal;
 
 #[test]
@@ -73,7 +74,7 @@ fn requirements_at_each_edge() {
     }
     assert_eq!(
         Vec::from_iter(numbers),
-        [1, 2, 3, 7, 8, 9, 10, 11, 12, 13, 14]
+        [1, 2, 3, 7, 8, 9, 10, 11, 12, 13, 14, 23, 24, 25]
     );
 }
 
@@ -138,29 +139,67 @@ fn the_order_of_a_margin() {
     assert_eq!(margin(&[0; 3], &[], 9, 0, 0), Err(Refusal::register(2, 0)));
     assert_eq!(margin(&R1, &[], 9, 0, 0), Err(Refusal::requirement(1, 0)));
     assert_eq!(margin(&R1, &Q1, 3, 0, 0), Err(Refusal::call(15)));
-    let bad = Err(Refusal::call(13));
-    for (p, q) in [
-        (0, 0),
-        (1, 0),
-        (0, 2),
-        (2, 2),
-        (2, 1),
-        (2, 4),
-        (1000, 1000),
-        (1, 1001),
-        (1 << 16, (1 << 16) + 1),
-        (1 << 32, 1),
-        (1, (1 << 32) + 2),
-        (u64::MAX, u64::MAX),
-        (u64::MAX, 1),
-        (1, u64::MAX),
-    ] {
-        assert_eq!(margin(&R1, &Q1, 0, p, q), bad, "{p}/{q}");
+    for (p, q, number) in call_fractions() {
+        let refusal = number.map(Refusal::call);
+        assert_eq!(margin(&R1, &Q1, 0, p, q).err(), refusal, "{p}/{q}");
+        assert_eq!(margin(&R1, &Q1, 3, p, q), Err(Refusal::call(15)));
+        assert_eq!(
+            margin(&R1, &[], 0, p, q),
+            Err(Refusal::requirement(1, 0)),
+            "{p}/{q}"
+        );
     }
     assert_eq!(margin(&R1, &Q1, 0, 0, 1), Ok((2, 3)));
     assert_eq!(margin(&R1, &Q1, 0, 1, 1), Ok((-1, 3)));
     assert_eq!(margin(&R1, &Q1, 0, 999, 1000), Ok((2000 - 2997, 3000)));
     assert_eq!(margin(&R1, &Q1, 0, 1, 1000), Ok((1997, 3000)));
+}
+
+/// A list of one node without names.
+const ONE_NODE: [u64; 3] = [0; 3];
+
+/// Writes one threshold on one node, into so many bytes, and says what refuses
+/// it.
+fn try_threshold(how: u64, p: u64, q: u64, inner: &[u64], room: usize) -> Option<Refusal> {
+    let threshold = [0, how, p, q, inner.len() as u64 / 3];
+    write(&ONE_NODE, &threshold, inner, room).err()
+}
+
+#[test]
+fn the_order_of_a_written_threshold() {
+    // Inner lists: one that is no tree, and two that reading would refuse.
+    let no_tree = [0, 1, 0];
+    let bad_role = [0, 0, 0, 0, 1, 32];
+    let too_large = [u64::MAX, 0, 0];
+    for (p, q, number) in call_fractions() {
+        let refused = |other: u32| Some(Refusal::call(number.unwrap_or(other)));
+        assert_eq!(
+            try_threshold(3, p, q, &ONE_NODE, 30),
+            number.map(Refusal::call),
+            "{p}/{q}"
+        );
+        assert_eq!(try_threshold(3, p, q, &ONE_NODE, 29), refused(21));
+        assert_eq!(try_threshold(3, p, q, &bad_role, 99), refused(7));
+        assert_eq!(try_threshold(3, p, q, &too_large, 99), refused(14));
+        // The lists come before all else, the comparison before the fraction.
+        let before = [
+            try_threshold(3, p, q, &[], 99),
+            try_threshold(3, p, q, &no_tree, 99),
+        ];
+        assert_eq!(before, [Some(Refusal::call(22)); 2]);
+        for how in [4, 256, 1 << 32, u64::MAX] {
+            let refusal = try_threshold(how, p, q, &ONE_NODE, 99);
+            assert_eq!(refusal, Some(Refusal::call(13)));
+        }
+        // A 17th threshold is one too many, whatever its fraction.
+        for (before, late) in [(15, number), (16, Some(12))] {
+            let halves = [0, 3, 1, 2, 1].repeat(before);
+            let thresholds = [&halves[..], &[0, 3, p, q, 1]].concat();
+            let inner = ONE_NODE.repeat(before + 1);
+            let refusal = write(&ONE_NODE, &thresholds, &inner, 999).err();
+            assert_eq!(refusal, late.map(Refusal::call), "{p}/{q}");
+        }
+    }
 }
 
 #[test]

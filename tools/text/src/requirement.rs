@@ -12,6 +12,13 @@ pub const MOST_Q: u64 = 1000;
 /// The comparisons, each at the place of its byte.
 pub const COMPARISONS: [&str; 4] = ["<", "<=", ">", ">="];
 
+// What is wrong with a threshold, in the words of the wrapper for Rust for the
+// library's refusals 13, 23, 24 and 25, with the bound `MOST_Q` in the second.
+pub const NO_COMPARISON: &str = "a threshold's comparison is none of <, <=, > and >=";
+pub const Q_OUT_OF_RANGE: &str = "a threshold's q is 0 or above 1,000";
+pub const P_ABOVE_Q: &str = "a threshold's p is above its q";
+pub const COMMON_FACTOR: &str = "a threshold's p and q share a factor above 1";
+
 /// One node, with all below it.
 #[derive(Clone, PartialEq, Eq, Debug)]
 pub struct Node {
@@ -75,18 +82,26 @@ impl Bounds {
     }
 }
 
-/// The rules for p/q.
-pub fn fraction(p: u64, q: u64) -> Result<(u16, u16), String> {
+/// The number of a fraction that is at fault.
+pub enum AtFault {
+    P,
+    Q,
+}
+
+/// The rules for p/q, in the document's order: what is wrong, and with which of
+/// the two.
+pub fn fraction(p: u64, q: u64) -> Result<(u16, u16), (AtFault, String)> {
     if !(1..=MOST_Q).contains(&q) {
-        return Err(format!("{p}/{q}: below the line stands 1 to {MOST_Q}"));
+        return Err((AtFault::Q, Q_OUT_OF_RANGE.to_string()));
     }
     if p > q {
-        return Err(format!("{p}/{q} is above 1"));
+        return Err((AtFault::P, P_ABOVE_Q.to_string()));
     }
     let factor = greatest_common_factor(p, q);
     if factor > 1 {
-        let (p_low, q_low) = (p / factor, q / factor);
-        return Err(format!("{p}/{q} is not in lowest terms: {p_low}/{q_low}"));
+        let (p, q) = (p / factor, q / factor);
+        let what = format!("{COMMON_FACTOR} ({p}/{q} is the same)");
+        return Err((AtFault::P, what));
     }
     Ok((p as u16, q as u16))
 }
@@ -156,13 +171,21 @@ fn take_threshold(fields: &mut Fields<'_>, bounds: &mut Bounds) -> Result<Thresh
         .threshold()
         .map_err(|what| Fault::byte(place, what))?;
     let comparison = fields.take(1, "a comparison")?;
+    let p_place = fields.place();
     let p = fields.take(2, "a threshold's p")?;
+    let q_place = fields.place();
     let q = fields.take(2, "a threshold's q")?;
     if comparison >= COMPARISONS.len() as u64 {
-        let what = format!("there is no comparison {comparison}");
+        let what = format!("{comparison}: {NO_COMPARISON}");
         return Err(Fault::byte(place, what));
     }
-    let (p, q) = fraction(p, q).map_err(|what| Fault::byte(place, what))?;
+    let (p, q) = fraction(p, q).map_err(|(number, what)| {
+        let place = match number {
+            AtFault::P => p_place,
+            AtFault::Q => q_place,
+        };
+        Fault::byte(place, format!("{p}/{q}: {what}"))
+    })?;
     let length_place = fields.place();
     let length = fields.take(2, "the length of an inner concept")?;
     let mut part = fields.part(length as usize, length_place)?;

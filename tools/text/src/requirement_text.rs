@@ -16,7 +16,9 @@
 
 use crate::fault::Fault;
 use crate::line::{self, Line};
-use crate::requirement::{fraction, Bounds, Node, Requirement, Threshold, COMPARISONS, INSIDE};
+use crate::requirement::{
+    fraction, Bounds, Node, Requirement, Threshold, COMPARISONS, INSIDE, NO_COMPARISON,
+};
 use crate::words::Words;
 
 /// The requirement that a text says.
@@ -130,21 +132,20 @@ fn comparison(head: &str) -> Result<(u8, u16, u16), String> {
     let sign = head.trim_end_matches(|one| one != '<' && one != '>' && one != '=');
     let rest = head[sign.len()..].trim();
     let Some(comparison) = COMPARISONS.iter().position(|one| *one == sign) else {
-        return Err(format!("'{sign}' is no comparison: <, <=, >, >="));
+        return Err(format!("'{sign}': {NO_COMPARISON}"));
     };
     let number = |digits: &str| -> Result<u64, String> {
         let digits = digits.trim();
         if digits.is_empty() || !digits.bytes().all(|byte| byte.is_ascii_digit()) {
             return Err(format!("'{rest}' is no fraction P/Q"));
         }
-        digits
-            .parse()
-            .map_err(|_| format!("'{digits}' is too large"))
+        // With more digits than a u64 has room for it is above every bound.
+        Ok(digits.parse().unwrap_or(u64::MAX))
     };
     let Some((p, q)) = rest.split_once('/') else {
         return Err(format!("'{rest}' is no fraction P/Q (0 is 0/1, 1 is 1/1)"));
     };
-    let (p, q) = fraction(number(p)?, number(q)?)?;
+    let (p, q) = fraction(number(p)?, number(q)?).map_err(|(_, what)| format!("{rest}: {what}"))?;
     Ok((comparison as u8, p, q))
 }
 

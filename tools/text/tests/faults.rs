@@ -194,7 +194,11 @@ fn requirements() {
         ),
         (
             "requirement\nroot:\n  >> 1/2: 1\n",
-            "line 3: '>>' is no comparison: <, <=, >, >=",
+            "line 3: '>>': a threshold's comparison is none of <, <=, > and >=",
+        ),
+        (
+            "requirement\nroot:\n  >> 4/0: 1\n",
+            "line 3: '>>': a threshold's comparison is none of <, <=, > and >=",
         ),
         (
             "requirement\nroot:\n  >= 1: 1\n",
@@ -205,32 +209,46 @@ fn requirements() {
             "line 3: '0.5/1' is no fraction P/Q",
         ),
         (
-            "requirement\nroot:\n  >= 1/0: 1\n",
-            "line 3: 1/0: below the line stands 1 to 1000",
-        ),
-        (
-            "requirement\nroot:\n  >= 1/1001: 1\n",
-            "line 3: 1/1001: below the line stands 1 to 1000",
-        ),
-        (
-            "requirement\nroot:\n  >= 3/2: 1\n",
-            "line 3: 3/2 is above 1",
-        ),
-        (
-            "requirement\nroot:\n  >= 4/6: 1\n",
-            "line 3: 4/6 is not in lowest terms: 2/3",
-        ),
-        (
-            "requirement\nroot:\n  < 0/2: 1\n",
-            "line 3: 0/2 is not in lowest terms: 0/1",
-        ),
-        (
             "requirement\nroot:\n  > 1/2: 1\n    > 1/2: 1\n",
             "line 4: a threshold inside the concept of a threshold",
         ),
     ];
     for (text, wanted) in cases {
         assert_eq!(requirement_fault(text), wanted, "{text}");
+    }
+}
+
+/// A bad fraction is shown as it is written; of two faults the first in the
+/// document's order is said.
+#[test]
+fn fractions() {
+    let q_at_fault = "a threshold's q is 0 or above 1,000";
+    let p_at_fault = "a threshold's p is above its q";
+    let common = "a threshold's p and q share a factor above 1";
+    let cases = [
+        ("1/0", q_at_fault, ""),
+        ("0/0", q_at_fault, ""),
+        ("1/1001", q_at_fault, ""),
+        ("1002/1001", q_at_fault, ""),
+        ("7/1001", q_at_fault, ""),
+        ("1/65538", q_at_fault, ""),
+        ("1/99999999999999999999", q_at_fault, ""),
+        ("99999999999999999999/0", q_at_fault, ""),
+        ("3/2", p_at_fault, ""),
+        ("4/2", p_at_fault, ""),
+        ("1001/1000", p_at_fault, ""),
+        ("65537/2", p_at_fault, ""),
+        ("99999999999999999999/1000", p_at_fault, ""),
+        ("4/6", common, " (2/3 is the same)"),
+        ("0/2", common, " (0/1 is the same)"),
+        ("1000/1000", common, " (1/1 is the same)"),
+        ("02 / 04", common, " (1/2 is the same)"),
+    ];
+    for (fraction, what, more) in cases {
+        // The fraction comes before the names, and its line before the next.
+        let text = format!("requirement\nroot:\n  >= {fraction}: 64\n    32:\n");
+        let wanted = format!("line 3: {fraction}: {what}{more}");
+        assert_eq!(requirement_fault(&text), wanted);
     }
 }
 
@@ -259,7 +277,7 @@ fn a_requirement_too_large() {
     let thresholds = "  > 0/1: 1\n".repeat(16);
     requirement_text::parse(&format!("{title}{thresholds}")).unwrap();
     assert_eq!(
-        requirement_fault(&format!("{title}{thresholds}  > 0/1: 1\n")),
+        requirement_fault(&format!("{title}{thresholds}  >> 1/0: 1\n")),
         "line 19: more than 16 thresholds"
     );
 }

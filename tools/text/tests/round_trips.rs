@@ -7,6 +7,7 @@ use second::gen::{
     random_bytes, register_edges, requirement_edges, with_thresholds, Palette, Rng,
 };
 use second::{register, requirement, Refusal};
+use svelgandur_text::requirement::{COMMON_FACTOR, NO_COMPARISON, P_ABOVE_Q, Q_OUT_OF_RANGE};
 use svelgandur_text::{
     register_text, requirement_text, Fault, Register, Requirement, Where, Words,
 };
@@ -39,8 +40,20 @@ fn requirement_round(bytes: &[u8], words: &Words) -> Result<(), Fault> {
     Ok(())
 }
 
+/// What a number of the second program is called here, where it has a sentence
+/// of its own.
+fn sentence(number: u32) -> &'static str {
+    match number {
+        13 => NO_COMPARISON,
+        23 => Q_OUT_OF_RANGE,
+        24 => P_ABOVE_Q,
+        25 => COMMON_FACTOR,
+        _ => "",
+    }
+}
+
 /// Bytes are taken where the second program takes them, and refused at its
-/// place. The reduced size, number 14, is not looked at here.
+/// place for its reason. The reduced size, number 14, is not looked at here.
 fn same_place(ours: Result<(), Fault>, second: Option<Refusal>) {
     match second {
         None => ours.unwrap(),
@@ -48,6 +61,8 @@ fn same_place(ours: Result<(), Fault>, second: Option<Refusal>) {
         Some(refusal) => {
             let fault = ours.expect_err("the second program refuses");
             assert_eq!(fault.at, Where::Byte(refusal.place), "{refusal}, {fault}");
+            let said = sentence(refusal.number);
+            assert!(fault.what.contains(said), "{refusal}, {fault}");
         }
     }
 }

@@ -11,6 +11,25 @@ pub const Q1: [u8; 24] = [
     1, 0, 0x15, 0, 0, 0, 0, 0, 0, 0, 6, 0, 1, 0, 0, 0, 0, 0, 0, 0, 0, 2, 0, 0,
 ];
 
+/// Fractions that a margin and a threshold refuse, each with its number; many
+/// have a later number's fault as well.
+pub const BAD_FRACTIONS: [(u64, u64, u64); 14] = [
+    (0, 0, 23),
+    (1, 0, 23),
+    (1, 1001, 23),
+    (1002, 1001, 23),
+    (1001, 1001, 23),
+    (65_537, 65_538, 23),
+    (u64::MAX, u64::MAX, 23),
+    (3, 2, 24),
+    (4, 2, 24),
+    (65_537, 2, 24),
+    (u64::MAX, 1, 24),
+    (0, 2, 25),
+    (2, 4, 25),
+    (1000, 1000, 25),
+];
+
 fn with_head(body: Vec<u8>) -> Vec<u8> {
     let length = (body.len() as u16).to_be_bytes();
     [vec![1, length[0], length[1]], body].concat()

@@ -18,13 +18,13 @@ read c = known _ _ _ _ _ _ _ _ _ _ (bytes-known (began c .args .image .now) (c .
 
 returns : tie.Need-returns
 returns c =
-    margin-no-item _ _ _ (read (c .before .before .before)) (omega (arith, c .before .if1 .taken)) _ _ (c .margin-refused .result) (search needs)
+    margin-no-item _ _ _ (read (c .before .before .before)) (omega (arith, c .before .if1 .taken)) _ _ (c .margin-refused .result) (c .margin-refused .ensures)
 
 returns-2 : tie.Need-returns-2
 returns-2 c =
     let at-if1 = c .before .before .before in
     margin-no-threshold _ _ _ (read (at-if1 .before .before)) (omega (arith, at-if1 .if1 .left)) _ _ _ (c .before .before .wrong .ensures) (c .before .if2 .taken)
-    (c .margin-refused2 .result) (search needs)
+    (c .margin-refused2 .result) (c .margin-refused2 .ensures)
 
 degree-at-requires : tie.Need-degree-at-requires
 degree-at-requires c κs =

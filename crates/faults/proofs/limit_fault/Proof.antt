@@ -4,12 +4,11 @@ use borrow.Author.Needs.{needs}
 use Rattle.faults.proofs.limit_fault.Statement.{statement}
 use Rattle.faults.proofs.limit_fault.Tie as tie
 use mathlib.Core.Path.{_≡_, sym, ap, ap₂, _∙_, subst}
-use mathlib.Core.Bool.{not}
 use mathlib.Core.List.{List}
 use Prim.Native.Nat.{ℕ, _+_, _≤_}
 use native.Mathlib.Omega.{arith}
 use lib.Dec.{T}
-use Rattle.meaning.specs.Fraction.{lawful}
+use Rattle.meaning.specs.Fraction.{wrongWith}
 use Rattle.meaning.specs.Lists.{Listed, Limit, formTree}
 use Rattle.meaning.specs.Writing.{innersAt, limitAt}
 use Rattle.lists.specs.Handed.{nodesTo}
@@ -25,15 +24,15 @@ kind : (d : tie.Else2) → looked (d .before .before .before .before .before) .h
 kind d = omega (arith, d .before .part .ensures, d .if2 .left)
 
 -- what is found of its fraction
-law : (d : tie.After-wrong) → not (lawful (looked (d .before .before .before .before .before .before .before .before) .p)
-    (looked (d .before .before .before .before .before .before .before .before) .q)) ≡ d .wrong .result
-law d = sym (d .wrong .ensures ∙ ap₂ (λ (p q : ℕ). not (lawful p q)) (d .before .before .part2 .ensures) (d .before .part3 .ensures))
+law : (d : tie.After-wrong) → d .wrong .result ≡ wrongWith (looked (d .before .before .before .before .before .before .before .before) .p)
+    (looked (d .before .before .before .before .before .before .before .before) .q)
+law d = d .wrong .ensures ∙ ap₂ wrongWith (d .before .before .part2 .ensures) (d .before .part3 .ensures)
 
 begun : (d : tie.Else3) → Begun (d .before .before .before .before .before .before .before .before .before .args .j)
     (looked (d .before .before .before .before .before .before .before .before .before))
 begun d =
     let else2 = d .before .before .before .before in
-    record { few = else2 .before .before .if1 .left; kind = kind else2; right = law (d .before) ∙ d .if3 .left }
+    record { few = else2 .before .before .if1 .left; kind = kind else2; right = sym (law (d .before)) ∙ d .if3 .left }
 
 -- the inner list up to its end
 upto : (d : tie.After-part4)
@@ -54,7 +53,7 @@ returns-2 c =
 returns-3 : tie.Need-returns-3
 returns-3 c =
     let else2 = c .before .before .before .before in
-    limit-wrong _ _ (else2 .before .before .if1 .left) (kind else2) (law (c .before) ∙ c .if3 .taken)
+    limit-wrong _ _ (else2 .before .before .if1 .left) (kind else2) _ (law (c .before)) (c .if3 .taken)
 
 returns-4 : tie.Need-returns-4
 returns-4 c =

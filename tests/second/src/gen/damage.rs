@@ -5,7 +5,7 @@ use super::registers::Palette;
 use super::requirements::tree;
 use super::rng::Rng;
 use crate::register::{self, Register};
-use crate::requirement::{self, Comparison, Node, Threshold};
+use crate::requirement::{self, Comparison, Node, Threshold, MOST_Q};
 
 /// Bytes of any content and a length up to `most`.
 pub fn random_bytes(rng: &mut Rng, most: usize) -> Vec<u8> {
@@ -237,11 +237,48 @@ fn damage_field(rng: &mut Rng, bytes: &mut [u8], kind: Kind, place: usize) {
     put(bytes, place, width, value);
 }
 
+/// A fraction against the rules, often with two faults at once.
+fn bad_fraction(rng: &mut Rng) -> (u16, u16) {
+    let factor = 2 + rng.below(8);
+    let q = 1 + rng.below(MOST_Q / factor);
+    let (within, above) = (rng.below(q + 1), q + 1 + rng.below(q));
+    let p = rng.pick(&[within, above]);
+    let (p, q) = match rng.below(6) {
+        0 => (p, 0),
+        1 => (p, rng.pick(&[MOST_Q + 1, MOST_Q + 2, 65_535])),
+        2 => (above, q),
+        _ => (factor * p, factor * q),
+    };
+    (p as u16, q as u16)
+}
+
+/// Writes a bad fraction over that of one of the tree's thresholds, now and
+/// then with a change of another field of it.
+fn damage_fraction(rng: &mut Rng, bytes: &mut [u8], good: &Node) {
+    let thresholds: Vec<usize> = layout(good)
+        .into_iter()
+        .filter(|(kind, _)| *kind == Kind::Comparison)
+        .map(|(_, place)| place)
+        .collect();
+    if thresholds.is_empty() {
+        return;
+    }
+    let place = rng.pick(&thresholds);
+    let (p, q) = bad_fraction(rng);
+    put(bytes, place + 1, 2, p.into());
+    put(bytes, place + 3, 2, q.into());
+    match rng.below(8) {
+        0 => damage_field(rng, bytes, Kind::Comparison, place),
+        1 => damage_field(rng, bytes, Kind::InnerLength, place + 5),
+        _ => {}
+    }
+}
+
 /// The message of a tree, damaged. (A few of the changes do no harm: those
 /// inputs are good ones and stay in.)
 pub fn damaged_requirement(rng: &mut Rng, good: &Node) -> Vec<u8> {
     let mut bytes = requirement::encode(good);
-    match rng.below(12) {
+    match rng.below(13) {
         0 => return random_bytes(rng, 60),
         1 => wrong_head(rng, &mut bytes),
         2 => return requirement::encode(&overgrown(rng, good)),
@@ -265,13 +302,15 @@ pub fn damaged_requirement(rng: &mut Rng, good: &Node) -> Vec<u8> {
                 damage_field(rng, &mut bytes, kind, place);
             }
         }
+        9 => damage_fraction(rng, &mut bytes, good),
         _ => blind_damage(rng, &mut bytes),
     }
     bytes
 }
 
 /// The tree with one bound of its own overstepped: depth, nodes, thresholds,
-/// a threshold inside an inner concept, or an inner concept too large.
+/// a threshold inside an inner concept, one against a bad fraction, or an inner
+/// concept too large.
 fn overgrown(rng: &mut Rng, good: &Node) -> Node {
     let palette = Palette {
         names: vec![0, 1, 2],
@@ -286,7 +325,7 @@ fn overgrown(rng: &mut Rng, good: &Node) -> Node {
         start: 0,
         len: 0,
     };
-    match rng.below(5) {
+    match rng.below(6) {
         0 => {
             let mut chain = Node::leaf(1);
             for _ in 0..16 {
@@ -313,6 +352,11 @@ fn overgrown(rng: &mut Rng, good: &Node) -> Node {
             let mut inner = tree(rng, &palette, 3, 2);
             inner.thresholds.push(threshold(Node::leaf(1)));
             root.thresholds.push(threshold(inner));
+        }
+        4 => {
+            let (p, q) = bad_fraction(rng);
+            let half = threshold(Node::leaf(1));
+            root.thresholds.push(Threshold { p, q, ..half });
         }
         _ => root
             .thresholds

@@ -1,5 +1,6 @@
 //! Inputs at each edge of the rules, with the refusal worked out by hand from
-//! the table in "Refusal numbers" of document 01 and not by any reader.
+//! the table in "Refusal numbers" of document 01 and from §2 of document 02,
+//! and not by any reader.
 
 use super::damage::mend_head;
 use super::registers::{largest_register, Palette};
@@ -271,13 +272,18 @@ fn broad(nodes: usize) -> Node {
     }
 }
 
-/// A chain whose last node stands at this depth.
-fn chain(depth: usize) -> Node {
-    (0..depth).fold(Node::leaf(1), |below, _| Node {
+/// A chain whose last node is this one, at this depth.
+fn at_depth(depth: usize, last: Node) -> Node {
+    (0..depth).fold(last, |below, _| Node {
         names: 0,
         thresholds: Vec::new(),
         children: vec![(0, below)],
     })
+}
+
+/// A chain whose last node stands at this depth.
+fn chain(depth: usize) -> Node {
+    at_depth(depth, Node::leaf(1))
 }
 
 /// The lowest so many names.
@@ -318,6 +324,11 @@ fn at_least_half(inner: Node) -> Threshold {
     }
 }
 
+/// Thresholds on one empty node each, which have 17 bytes.
+fn halves(count: usize) -> Vec<Threshold> {
+    vec![at_least_half(Node::leaf(0)); count]
+}
+
 fn with_threshold_list(names: u64, thresholds: Vec<Threshold>) -> Node {
     Node {
         names,
@@ -342,6 +353,11 @@ pub fn requirement_edges() -> Vec<Edge> {
     edges.taken("Q1", Q1.to_vec());
     node_edges(&mut edges);
     threshold_edges(&mut edges);
+    comparison_edges(&mut edges);
+    fraction_edges(&mut edges);
+    fraction_first_edges(&mut edges);
+    later_fraction_edges(&mut edges);
+    threshold_count_edges(&mut edges);
     inner_edges(&mut edges);
     edges.0
 }
@@ -443,6 +459,8 @@ fn threshold_edges(edges: &mut Edges) {
     edges.refused("half a p", one(&[0, 0]), 1, 14);
     edges.refused("no q", one(&[0, 0, 1]), 1, 16);
     edges.refused("half a q", one(&[4, 0, 1, 0]), 1, 16);
+    edges.refused("a p above every q, no q", one(&[3, 255, 255]), 1, 16);
+    edges.refused("half a q of 0", one(&[3, 255, 255, 0]), 1, 16);
     edges.refused(
         "bad comparison, nothing more",
         one(&[4, 0, 1, 0, 2]),
@@ -514,103 +532,280 @@ fn threshold_edges(edges: &mut Edges) {
         7,
         30,
     );
+}
 
+/// One threshold on the root: the numbers of its first 5 bytes, and all that
+/// stands behind them.
+fn one_threshold(comparison: u8, (p, q): (u16, u16), behind: &[u8]) -> Vec<u8> {
+    let (p, q) = (p.to_be_bytes(), q.to_be_bytes());
+    message(&[&node(0, 1, 0), &[comparison], &p, &q, behind])
+}
+
+/// Behind those 5 bytes: an inner concept of one node.
+fn one_inner_node() -> Vec<u8> {
+    [&[0, 10][..], &node(0, 0, 0)].concat()
+}
+
+fn comparison_edges(edges: &mut Edges) {
     for comparison in [0, 1, 2, 3] {
-        let bytes = one(&[&[comparison, 0, 1, 0, 2, 0, 10], &node(0, 0, 0)[..]].concat());
+        let bytes = one_threshold(comparison, (1, 2), &one_inner_node());
         edges.taken(format!("comparison {comparison}"), bytes);
     }
     for comparison in [4, 255] {
-        let bytes = one(&[&[comparison, 0, 1, 0, 2, 0, 10], &node(0, 0, 0)[..]].concat());
+        let bytes = one_threshold(comparison, (1, 2), &one_inner_node());
         edges.refused(format!("comparison {comparison}"), bytes, 13, 13);
     }
-    let with_fraction = |p: u16, q: u16| {
-        let [p1, p2] = p.to_be_bytes();
-        let [q1, q2] = q.to_be_bytes();
-        one(&[&[3, p1, p2, q1, q2, 0, 10], &node(0, 0, 0)[..]].concat())
-    };
-    for (p, q) in [
-        (0, 1),
-        (1, 1),
-        (1, 2),
-        (2, 3),
-        (1, 1000),
-        (999, 1000),
-        (1, 999),
-        (998, 999),
-        (1, 256),
-        (255, 256),
-    ] {
-        edges.taken(format!("threshold {p}/{q}"), with_fraction(p, q));
-    }
-    for (p, q) in [
-        (0, 0),
-        (1, 0),
-        (0, 2),
-        (0, 1000),
-        (2, 2),
-        (2, 1),
-        (2, 4),
-        (500, 1000),
-        (1000, 1000),
-        (1001, 1000),
-        (1, 1001),
-        (1000, 1001),
-        (1001, 1001),
-        (1000, 999),
-        (1, 65_535),
-        (65_535, 65_535),
-        (65_535, 1),
-        (256, 1),
-    ] {
-        edges.refused(format!("threshold {p}/{q}"), with_fraction(p, q), 13, 13);
-    }
+    // At the second threshold, before a fraction that is bad as well and behind
+    // one.
+    let mut bytes = requirement::encode(&with_threshold_list(0, halves(2)));
+    bytes[30] = 4;
+    edges.refused("the second comparison", bytes.clone(), 13, 30);
+    bytes[34] = 0;
+    edges.refused("the second comparison and q", bytes.clone(), 13, 30);
+    bytes[17] = 0;
+    edges.refused("the first q, the second comparison", bytes, 23, 16);
+}
 
-    // A threshold on one empty node has 17 bytes, and 16 of them 272.
-    let leaves = |count: usize| {
-        (0..count)
-            .map(|_| at_least_half(Node::leaf(0)))
-            .collect::<Vec<_>>()
+/// Fractions at each edge of the rules, within them.
+const GOOD_FRACTIONS: [(u16, u16); 10] = [
+    (0, 1),
+    (1, 1),
+    (1, 2),
+    (2, 3),
+    (1, 1000),
+    (999, 1000),
+    (1, 999),
+    (998, 999),
+    (1, 256),
+    (255, 256),
+];
+
+/// Fractions against the rules that one number refuses.
+struct Bad {
+    number: u32,
+    /// How far behind the threshold's first byte the p or q at fault stands.
+    behind: usize,
+    /// The first of them has a later number's fault as well, where it can.
+    fractions: &'static [(u16, u16)],
+}
+
+const BAD_FRACTIONS: [Bad; 3] = [
+    Bad {
+        number: 23,
+        behind: 3,
+        fractions: &[
+            (1, 0),
+            (0, 0),
+            (65_535, 0),
+            (0, 1001),
+            (1, 1001),
+            (1000, 1001),
+            (7, 1001),
+            (1001, 1001),
+            (1002, 1001),
+            (2002, 1001),
+            (1, 1024),
+            (1, 65_535),
+            (65_535, 65_535),
+        ],
+    },
+    Bad {
+        number: 24,
+        behind: 1,
+        fractions: &[
+            (4, 2),
+            (3, 2),
+            (2, 1),
+            (256, 1),
+            (1000, 999),
+            (1001, 1000),
+            (1002, 1000),
+            (65_535, 1),
+            (65_535, 1000),
+        ],
+    },
+    Bad {
+        number: 25,
+        behind: 1,
+        fractions: &[
+            (0, 2),
+            (2, 4),
+            (2, 2),
+            (6, 9),
+            (0, 1000),
+            (500, 1000),
+            (998, 1000),
+            (1000, 1000),
+            (999, 999),
+        ],
+    },
+];
+
+/// Fractions as a call hands them over, for a margin or in a list, each with
+/// the number that refuses it, if one does: those above, and ones that would
+/// be others if their high bits were lost on the way.
+pub fn call_fractions() -> Vec<(u64, u64, Option<u32>)> {
+    let mut list = vec![
+        (1, (1 << 16) + 2, Some(23)),
+        (1, (1 << 32) + 2, Some(23)),
+        (0, 1 << 63, Some(23)),
+        (65_537, 65_538, Some(23)),
+        (1 << 63, u64::MAX, Some(23)),
+        (u64::MAX, u64::MAX, Some(23)),
+        (u64::MAX, 0, Some(23)),
+        ((1 << 16) + 1, 2, Some(24)),
+        ((1 << 32) + 1, 2, Some(24)),
+        (1 << 32, 1, Some(24)),
+        (u64::MAX, 1, Some(24)),
+        (u64::MAX, 1000, Some(24)),
+    ];
+    let wide = |(p, q): (u16, u16)| (u64::from(p), u64::from(q));
+    for (p, q) in GOOD_FRACTIONS.map(wide) {
+        list.push((p, q, None));
+    }
+    for bad in BAD_FRACTIONS {
+        for (p, q) in bad.fractions.iter().copied().map(wide) {
+            list.push((p, q, Some(bad.number)));
+        }
+    }
+    list
+}
+
+/// Fractions at each edge of their rules, and the comparison before them.
+fn fraction_edges(edges: &mut Edges) {
+    for (p, q) in GOOD_FRACTIONS {
+        let bytes = one_threshold(3, (p, q), &one_inner_node());
+        edges.taken(format!("threshold {p}/{q}"), bytes);
+    }
+    for bad in BAD_FRACTIONS {
+        for (p, q) in bad.fractions {
+            let label = format!("threshold {p}/{q}");
+            let bytes = one_threshold(3, (*p, *q), &one_inner_node());
+            edges.refused(&label, bytes, bad.number, 13 + bad.behind);
+            let bytes = one_threshold(4, (*p, *q), &one_inner_node());
+            edges.refused(format!("comparison 4, {label}"), bytes, 13, 13);
+        }
+    }
+}
+
+/// A bad fraction before each fault of what stands behind it.
+fn fraction_first_edges(edges: &mut Edges) {
+    let inner = |length: u8, parts: &[&[u8]]| [&[0, length], &parts.concat()[..]].concat();
+    let faults = [
+        ("no inner length", vec![]),
+        ("half an inner length", vec![0]),
+        ("an inner length past the end", inner(1, &[])),
+        ("an inner length of 0", inner(0, &[])),
+        ("an inner node cut", inner(9, &[&node(0, 0, 0)])),
+        ("an inner threshold", inner(10, &[&node(0, 1, 0)])),
+        (
+            "an inner role of 32",
+            inner(21, &[&node(0, 0, 1), &[32], &node(0, 0, 0)]),
+        ),
+        (
+            "a byte left over within",
+            inner(11, &[&node(0, 0, 0), &[0]]),
+        ),
+        ("an inner size of 64", inner(10, &[&node(u64::MAX, 0, 0)])),
+        ("a byte left over", inner(10, &[&node(0, 0, 0), &[0]])),
+    ];
+    for bad in BAD_FRACTIONS {
+        let (p, q) = bad.fractions[0];
+        for (label, rest) in &faults {
+            let label = format!("{p}/{q}, {label}");
+            let bytes = one_threshold(3, (p, q), rest);
+            edges.refused(label, bytes, bad.number, 13 + bad.behind);
+        }
+    }
+}
+
+/// Requirements that have a threshold somewhere, with the place of its first
+/// byte, and no fault before it.
+fn having(threshold: &Threshold) -> Vec<(&'static str, Node, usize)> {
+    let listed = |before: Vec<Threshold>, behind: Vec<Threshold>| {
+        with_threshold_list(0, [before, vec![threshold.clone()], behind].concat())
     };
-    let sixteen = requirement::encode(&with_threshold_list(0, leaves(16)));
+    let below = |mut root: Node, role: u8, child: Node| {
+        root.children.push((role, child));
+        root
+    };
+    let alone = listed(vec![], vec![]);
+    let one_half = with_threshold_list(0, halves(1));
+    let long = vec![at_least_half(chain(16))];
+    vec![
+        ("the first of two", listed(vec![], halves(1)), 13),
+        ("the second", listed(halves(1), vec![]), 30),
+        ("behind 186 inner bytes", listed(long, vec![]), 206),
+        ("the 16th of 17", listed(halves(15), halves(1)), 268),
+        ("on a child", below(Node::leaf(0), 31, alone.clone()), 24),
+        ("on a later node", below(one_half, 0, alone.clone()), 41),
+        (
+            "the second of the second child",
+            below(broad(2), 0, listed(halves(1), vec![])),
+            52,
+        ),
+        (
+            "before role 32",
+            below(alone.clone(), 32, Node::leaf(0)),
+            13,
+        ),
+        ("at depth 16", at_depth(16, alone), 189),
+    ]
+}
+
+/// A bad fraction at a threshold that is not all that the message has, and at
+/// the first of two; a 17th is one too many whatever it says.
+fn later_fraction_edges(edges: &mut Edges) {
+    let against = |(p, q): (u16, u16)| Threshold {
+        p,
+        q,
+        ..at_least_half(Node::leaf(0))
+    };
+    for bad in BAD_FRACTIONS {
+        let (p, q) = bad.fractions[0];
+        let mut refused = |label: &str, root: &Node, number: u32, place: usize| {
+            let bytes = requirement::encode(root);
+            edges.refused(format!("{p}/{q}, {label}"), bytes, number, place);
+        };
+        let threshold = against((p, q));
+        for (label, root, place) in having(&threshold) {
+            refused(label, &root, bad.number, place + bad.behind);
+        }
+        for other in BAD_FRACTIONS {
+            let second = against(other.fractions[0]);
+            let both = with_threshold_list(0, vec![threshold.clone(), second]);
+            refused("then another", &both, bad.number, 13 + bad.behind);
+        }
+        let seventeen = with_threshold_list(0, [halves(16), vec![threshold]].concat());
+        refused("the 17th", &seventeen, 12, 285);
+    }
+}
+
+fn threshold_count_edges(edges: &mut Edges) {
+    let sixteen = requirement::encode(&with_threshold_list(0, halves(16)));
     edges.taken("16 thresholds", sixteen.clone());
     edges.refused(
         "17 thresholds",
-        requirement::encode(&with_threshold_list(0, leaves(17))),
+        requirement::encode(&with_threshold_list(0, halves(17))),
         12,
         285,
     );
     let mut unwritten = sixteen.clone();
     unwritten[11] = 17;
     edges.refused("the 17th not written", unwritten, 12, 285);
-    let mut child_has_it = with_threshold_list(0, leaves(16));
+    let mut child_has_it = with_threshold_list(0, halves(16));
     child_has_it
         .children
-        .push((0, with_threshold_list(0, leaves(1))));
+        .push((0, with_threshold_list(0, halves(1))));
     edges.refused(
         "the 17th on a child",
         requirement::encode(&child_has_it),
         12,
         296,
     );
-    let mut shared = with_threshold_list(0, leaves(15));
-    shared.children.push((0, with_threshold_list(0, leaves(1))));
+    let mut shared = with_threshold_list(0, halves(15));
+    shared.children.push((0, with_threshold_list(0, halves(1))));
     edges.taken("16 thresholds on two nodes", requirement::encode(&shared));
-    let mut bad_seventeenth = with_threshold_list(0, leaves(17));
-    bad_seventeenth.thresholds[16].q = 0;
-    edges.refused(
-        "the 17th bad as well",
-        requirement::encode(&bad_seventeenth),
-        12,
-        285,
-    );
-    let mut bad_sixteenth = with_threshold_list(0, leaves(17));
-    bad_sixteenth.thresholds[15].q = 0;
-    edges.refused(
-        "the 16th bad before the 17th",
-        requirement::encode(&bad_sixteenth),
-        13,
-        268,
-    );
 }
 
 fn inner_edges(edges: &mut Edges) {
@@ -651,24 +846,11 @@ fn inner_edges(edges: &mut Edges) {
         10,
         724,
     );
-    let mut deep = with_threshold_list(0, vec![at_least_half(Node::leaf(0))]);
-    for _ in 0..17 {
-        deep = Node {
-            names: 0,
-            thresholds: Vec::new(),
-            children: vec![(0, deep)],
-        };
-    }
+    let deep = at_depth(17, with_threshold_list(0, halves(1)));
     edges.refused("inner depth 17 with a threshold", inside(deep), 9, 207);
 
-    let mut counted_anew = with_threshold_list(0, vec![at_least_half(chain(16))]);
-    for _ in 0..16 {
-        counted_anew = Node {
-            names: 0,
-            thresholds: Vec::new(),
-            children: vec![(0, counted_anew)],
-        };
-    }
+    let counted_anew = with_threshold_list(0, vec![at_least_half(chain(16))]);
+    let counted_anew = at_depth(16, counted_anew);
     edges.taken(
         "inner depth 16 at depth 16",
         requirement::encode(&counted_anew),

@@ -7,7 +7,7 @@ use crate::degree::Degrees;
 use crate::reduce::{reduce, MOST_SIZE};
 use crate::register::{Link, Register};
 use crate::requirement::{
-    fraction_allowed, written, Comparison, Node, Threshold, MOST_DEPTH, MOST_NODES, MOST_THRESHOLDS,
+    fraction_fault, written, Comparison, Node, Threshold, MOST_DEPTH, MOST_NODES, MOST_THRESHOLDS,
 };
 
 const COMPARISONS: [Comparison; 4] = [
@@ -192,7 +192,7 @@ pub fn fraction(rng: &mut Rng) -> (u16, u16) {
     }
     let mut p = rng.below(1001);
     let q = 1 + rng.below(1000);
-    while !fraction_allowed(p, q) {
+    while fraction_fault(p, q).is_some() {
         p = rng.below(q + 1);
     }
     (p as u16, q as u16)
