@@ -1,7 +1,7 @@
 -- Document 01, "Refusal numbers": the order of the tests and the places, on inputs that break a rule, most of them two at once.
 -- One table, proved by computation: an order swapped or a place moved in specs/ fails it.
 -- Assumes nothing.
-use mathlib.Core.Bool.{Bool, true, false, _&&_}
+use mathlib.Core.Bool.{Bool, false, _&&_}
 use mathlib.Core.List.{List, [], _∷_, _++_}
 use Prim.Native.Nat.{ℕ, zero, suc, _+_}
 use lib.Count.{ones}
@@ -23,17 +23,7 @@ use Rattle.meaning.specs.Message.{encode as message}
 use Rattle.meaning.specs.Shown.{shown, yesBy}
 use Rattle.meaning.specs.Calls.{readPlain, degreeCall, marginCall, memberCall}
 use Rattle.meaning.specs.Sheet.{R1, Q1, leaf, allTrue}
-
-unfoldable pub sameSide : Side → Side → Bool
-sameSide register register = true
-sameSide register requirement = false
-sameSide register call = false
-sameSide requirement register = false
-sameSide requirement requirement = true
-sameSide requirement call = false
-sameSide call register = false
-sameSide call requirement = false
-sameSide call call = true
+unfoldable pub use Rattle.meaning.specs.Given.{sameSide}
 
 unfoldable pub is : {A : Type 0} → Side → ℕ → ℕ → Answer A → Bool
 is side n p (good a) = false

@@ -1,7 +1,7 @@
 -- Document 02, §1 and §2: the order of the writing call's tests, on lists that break two rules at once, each pair of neighbours in the order; and each bound from
 -- both sides. One table, proved by computation.
 -- Assumes nothing.
-use mathlib.Core.Bool.{Bool, true, false}
+use mathlib.Core.Bool.{Bool, false}
 use mathlib.Core.List.{List, [], _∷_, _++_}
 use Prim.Native.Nat.{ℕ, zero, suc, _+_}
 use lib.Dec.{T, eqb}
