@@ -1,13 +1,14 @@
--- No call gives a refusal that is not in its list (specs/Given.antt).
+-- No call gives a refusal that is not in its list (specs/Given.antt), and what it is to be in one.
 -- Assumes nothing.
-use mathlib.Core.Path.{refl, sym, subst}
+use mathlib.Core.Path.{_≡_, refl, sym, subst}
+use mathlib.Core.Logic.{_⊎_, inl, inr}
 use mathlib.Core.Bool.{Bool, true, false, cond}
-use mathlib.Core.List.{List, [], _∷_}
+use mathlib.Core.List.{List, [], _∷_, List·Memᴰ, List·Memᴰ·head, List·Memᴰ·tail}
 use mathlib.Core.Option.{Option, some}
 use Prim.Native.Nat.{ℕ, zero, suc, _+_}
-use lib.Dec.{T, eqb}
+use lib.Dec.{T, eqb, eqb→eq}
 use Rattle.meaning.specs.declared.Side.{Side}
-use Rattle.meaning.specs.declared.Side.the-variants.{Register as register, Requirement as requirement}
+use Rattle.meaning.specs.declared.Side.the-variants.{Register as register, Requirement as requirement, Call as call}
 use Rattle.meaning.specs.declared.Refusal.{Refusal}
 use Rattle.meaning.specs.Refusal.{Answer, good, refused, at, onCall, refuseIf, _>>=_, _>>_}
 use Rattle.meaning.specs.Bytes.{fields, readHead}
@@ -20,10 +21,39 @@ use Rattle.meaning.specs.Lists.{Listed, Limit}
 use Rattle.meaning.specs.Writing.{nodeFits, nodesFit, limitFits, ownFit, listsFit, writeCall}
 use Rattle.meaning.specs.Calls.{firstPart, readPlain, degreeCall, marginCall, memberCall}
 use Rattle.meaning.specs.Given.{sameSide, oneOf, among, Gives, ofRegister, ofRequirement, ofQuestion, ofDegree, ofMargin, ofMember, ofWriting}
-use Rattle.meaning.proofs.Tests.{or-left, or-right}
+use Rattle.meaning.proofs.Tests.{and-both, or-cases, or-left, or-right}
 use Rattle.meaning.proofs.Reading.{not-good}
 use Rattle.meaning.proofs.Decided.{refused-inj}
 use Rattle.meaning.proofs.FractionRows.{fraction-exactly}
+
+-- ---- a refusal that is among others is of that side, and has one of those numbers
+
+same-side : (s t : Side) → T (sameSide s t) → s ≡ t
+unfolding sameSide
+same-side register register h = refl
+same-side register requirement h = absurd h
+same-side register call h = absurd h
+same-side requirement register h = absurd h
+same-side requirement requirement h = refl
+same-side requirement call h = absurd h
+same-side call register h = absurd h
+same-side call requirement h = absurd h
+same-side call call h = refl
+
+one-of : (n : ℕ) (ns : List ℕ) → T (oneOf n ns) → List·Memᴰ n ns
+unfolding oneOf
+one-of n [] h = absurd h
+one-of n (m ∷ ms) h = go (or-cases (eqb n m) (oneOf n ms) h) (one-of n ms)
+  where
+    go : T (eqb n m) ⊎ T (oneOf n ms) → (T (oneOf n ms) → List·Memᴰ n ms) → List·Memᴰ n (m ∷ ms)
+    go (inl e) k = List·Memᴰ·head (eqb→eq n m e)
+    go (inr t) k = List·Memᴰ·tail (k t)
+
+pub among-is : (side : Side) (ns : List ℕ) (f : Refusal) → T (among side ns f) → (f .side ≡ side) × List·Memᴰ (f .number) ns
+unfolding among
+among-is side ns f h =
+    let c = and-both (sameSide (f .side) side) (oneOf (f .number) ns) h in
+    (same-side (f .side) side (c .0), one-of (f .number) ns (c .1))
 
 -- ---- step after step
 
