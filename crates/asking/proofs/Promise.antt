@@ -29,13 +29,13 @@ use Rattle.meaning.specs.Reduce.{reduce}
 use Rattle.meaning.specs.Requirement.{bare}
 use Rattle.meaning.specs.Shown.{degreeMap, shown, markNumber}
 use Rattle.meaning.specs.Calls.{Found, degreeCall, afterDegree, Against, marginCall}
-use Rattle.meaning.specs.Given.{sameSide, oneOf, among, ofQuestion}
+use Rattle.meaning.specs.MayRefuse.{sameSide, oneOf, among, ofQuestion}
 use Rattle.meaning.proofs.Tests.{holds}
 use Rattle.meaning.proofs.Reading.{pass, stop, halted, went, below, not-below, le-of-not-below}
 use Rattle.meaning.proofs.Image.{read-image}
 use Rattle.meaning.proofs.Degree.{answered-is, answered-lowest}
 use Rattle.meaning.proofs.FractionRows.{fraction-decided}
-use Rattle.meaning.proofs.Given.{margin-gives}
+use Rattle.meaning.proofs.MayRefuse.{margin-gives}
 use Rattle.meaning.proofs.One.{answered-one}
 use Rattle.meaning.proofs.Shown.{Shows, degree-shows, degree-lowest}
 use Rattle.meaning.proofs.Picked.{Greatest}

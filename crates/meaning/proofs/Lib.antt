@@ -67,6 +67,6 @@ pub mod Worked
 pub mod Sheet
 pub mod Orders
 pub mod SessionOrders
-pub mod Given
+pub mod MayRefuse
 pub mod Bounds
 pub mod Slips

@@ -23,7 +23,7 @@ use Rattle.meaning.specs.Message.{encode as message}
 use Rattle.meaning.specs.Shown.{shown, yesBy}
 use Rattle.meaning.specs.Calls.{readPlain, degreeCall, marginCall, memberCall}
 use Rattle.meaning.specs.Sheet.{R1, Q1, leaf, allTrue}
-unfoldable pub use Rattle.meaning.specs.Given.{sameSide}
+unfoldable pub use Rattle.meaning.specs.MayRefuse.{sameSide}
 
 unfoldable pub is : {A : Type 0} → Side → ℕ → ℕ → Answer A → Bool
 is side n p (good a) = false

@@ -22,7 +22,7 @@ pub mod Calls
 pub mod Lists
 pub mod Writing
 pub mod WriteRows
-pub mod Given
+pub mod MayRefuse
 pub mod Demand3
 pub mod Sheet
 pub mod Slips

@@ -1,4 +1,4 @@
--- Which refusals a call can give, by side and number: the lists of include/svelgandur.h. proofs/Given.antt shows that no other is given; that each of
+-- Which refusals a call can give, by side and number: the lists of include/svelgandur.h. proofs/MayRefuse.antt shows that no other is given; that each of
 -- them is given at all, the tests see.
 -- Assumes nothing.
 use mathlib.Core.Path.{_≡_}

@@ -1,4 +1,4 @@
--- No call gives a refusal that is not in its list (specs/Given.antt), and what it is to be in one.
+-- No call gives a refusal that is not in its list (specs/MayRefuse.antt), and what it is to be in one.
 -- Assumes nothing.
 use mathlib.Core.Path.{_≡_, refl, sym, subst}
 use mathlib.Core.Logic.{_⊎_, inl, inr}
@@ -20,7 +20,7 @@ use Rattle.meaning.specs.Message.{Spot, Part, faultAt, readChildren, rea
 use Rattle.meaning.specs.Lists.{Listed, Limit}
 use Rattle.meaning.specs.Writing.{nodeFits, nodesFit, limitFits, ownFit, listsFit, writeCall}
 use Rattle.meaning.specs.Calls.{firstPart, readPlain, degreeCall, marginCall, memberCall}
-use Rattle.meaning.specs.Given.{sameSide, oneOf, among, Gives, ofRegister, ofRequirement, ofQuestion, ofDegree, ofMargin, ofMember, ofWriting}
+use Rattle.meaning.specs.MayRefuse.{sameSide, oneOf, among, Gives, ofRegister, ofRequirement, ofQuestion, ofDegree, ofMargin, ofMember, ofWriting}
 use Rattle.meaning.proofs.Tests.{and-both, or-cases, or-left, or-right}
 use Rattle.meaning.proofs.Reading.{not-good}
 use Rattle.meaning.proofs.Decided.{refused-inj}
