@@ -4,11 +4,11 @@
  * memmove at most.
  *
  * What a caller hands over
- *   A pointer and a length: that many bytes (or 16-bit or 64-bit numbers, each
- *   aligned as C aligns them), all of them readable, and writable where the
- *   pointer is not to const. The pointer must not be NULL, also where the
- *   length is 0: pass the address of anything that the caller owns, and nothing
- *   is read or written there.
+ *   A pointer and a length: that many bytes (or 16-bit, 32-bit or 64-bit
+ *   numbers, each aligned as C aligns them), all of them readable, and writable
+ *   where the pointer is not to const. The pointer must not be NULL, also where
+ *   the length is 0: pass the address of anything that the caller owns, and
+ *   nothing is read or written there.
  *   Numbers may have any value: what is out of range is refused, and no value
  *   is undefined. Items, names, roles, p, q, k and counts are 64 bits wide, so
  *   that no bad number wraps into a good one on its way.
@@ -47,7 +47,8 @@
  *   13  comparison is none of 0 to 3
  *   14  reduced size above 60
  *   15  asked item or name not in range (a link's ends are items)
- *   16  map buffer shorter than the written nodes
+ *   16  map buffer shorter than the written nodes; for the whole list, table
+ *       shorter than the written nodes times the items
  *   17  step count above the log's length or 64; on undo, a last step out of
  *       range
  *   18  log full: the count equals its length or 64
@@ -240,6 +241,36 @@ void svelgandur_member(const uint8_t *image, size_t image_length,
                        uint64_t item, uint16_t *map, size_t map_length,
                        uint64_t answer[4]);
 
+/* ---- the whole list: a register, a requirement, all items ---- */
+
+/*
+ * The degrees of all items in a plain requirement: each node's degree at each
+ * item is worked out once, and not again for each path that reaches it.
+ *   image, message         as for the degree.
+ *   table     one number for each written node at each item, node by node in
+ *             reading order: that of node n at item i stands at
+ *             table[n * items + i], both from 0. table_length is how many
+ *             numbers fit; 32,768 are enough for every register and
+ *             requirement, and written nodes times items for one of them.
+ *   answer    good: 1, how many items, how many nodes are written, the scale of
+ *             the root.
+ *             refused, on the register's side: 1 to 8; on the requirement's
+ *             side: 1 to 3, 7 to 14, 23 to 25; on the call's side: 16.
+ * After a good answer the degree of item i is table[i] over the scale. As
+ * svelgandur_degree answers it, it is that fraction in lowest terms; over one
+ * scale degrees compare as their numbers do.
+ * A kept node's number is its degree at the item, were it a requirement of its
+ * own, over its own scale: the product, over the node and all kept nodes below
+ * it, of names plus kept children, with 1 where there are none. No scale is above
+ * 3,486,784,401. The numbers of a dropped node and of all below it are 0.
+ * The places behind written nodes times items keep their contents, and what the
+ * table held before has no bearing on any answer. Image and message are only
+ * read.
+ */
+void svelgandur_list(const uint8_t *image, size_t image_length,
+                     const uint8_t *message, size_t message_length,
+                     uint32_t *table, size_t table_length, uint64_t answer[4]);
+
 /*
  * ---- a session of trial edits ----
  *
@@ -252,7 +283,7 @@ void svelgandur_member(const uint8_t *image, size_t image_length,
  * count     how many steps are in use. The caller holds it between calls: it is
  *           0 after opening, and afterwards what the last good answer said.
  *
- * A degree, a margin or a yes or no in a session is asked of the first
+ * A degree, a margin, a yes or no or a list in a session is asked of the first
  * 3 + length bytes of the buffer.
  *
  * A step as a number, lowest first:

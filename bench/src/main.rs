@@ -1,11 +1,12 @@
 //! Times of the proved library beside those of a good Rust program, in one
 //! run. `bench [NAME ..]` prints a line for every measurement, or for those
 //! named; `bench once NAME` makes both programs do one of them once, for
-//! counting instructions; `bench names` lists them with the library's calls in
-//! them; `bench input NAME` writes what the listing programs are given.
+//! counting instructions; `bench names` lists them with the calls in them that
+//! are counted; `bench input NAME` writes what the listing programs are given.
 
 mod degree;
 mod listing;
+mod lists;
 mod member;
 mod message;
 mod read;
@@ -17,7 +18,8 @@ use std::time::Instant;
 /// One measurement: the same work by the library and by the good program.
 pub struct Work {
     pub name: &'static str,
-    /// The library's calls in it, whose instructions are counted.
+    /// The library's calls in it, whose instructions are counted; behind a
+    /// slash those of the other program, where they are counted too.
     pub calls: &'static str,
     /// What is done.
     pub what: String,
@@ -47,6 +49,7 @@ fn works() -> Vec<Work> {
     ];
     works.extend(degree::works());
     works.extend(member::works());
+    works.extend(lists::works());
     works.extend(session::works());
     works.extend(listing::works());
     works

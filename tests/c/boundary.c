@@ -155,6 +155,7 @@ enum {
     DEGREE,
     MARGIN,
     MEMBER,
+    LIST,
     OPEN,
     EDIT_NAME,
     EDIT_LINK,
@@ -176,6 +177,7 @@ static struct call calls[CALLS] = {
     {"degree", {REGISTER, REQUIREMENT, N(15) | N(16)}, 0, 0, 0},
     {"margin", {REGISTER, REQUIREMENT, N(15) | FRACTION}, 0, 0, 0},
     {"member", {REGISTER, REQUIREMENT, N(15) | N(16)}, 0, 0, 0},
+    {"list", {REGISTER, REQUIREMENT, N(16)}, 0, 0, 0},
     {"open", {REGISTER, 0, 0}, 0, 0, 0},
     {"edit_name", {REGISTER, 0, N(15) | N(17) | N(18)}, 0, 0, 0},
     {"edit_link", {REGISTER, 0, N(7) | N(15) | N(17) | N(18) | N(20)}, 0, 0, 0},
@@ -532,6 +534,85 @@ static void questions(void) {
     take_back(img);
 }
 
+/* After a good answer each place of a written node at an item holds a number
+ * that is not above a scale, the first row's not above the root's; the places
+ * behind are as they were. */
+static void judge_table(struct lent table, const uint64_t *numbers) {
+    uint64_t items = numbers[1], nodes = numbers[2], scale = numbers[3];
+    size_t place;
+    require(items - 1 < 512 && nodes - 1 < 64, "counts out of range");
+    require(scale - 1 < UINT64_C(3486784401), "no such scale");
+    require(items * nodes * 4 <= table.bytes, "more places than there are");
+    for (place = 0; place < table.bytes / 4; place++) {
+        uint32_t now, then;
+        memcpy(&now, table.at + 4 * place, 4);
+        memcpy(&then, table.before + 4 * place, 4);
+        if (place >= items * nodes)
+            require(now == then, "a place behind the rows was written");
+        else
+            require(now <= (place < items ? scale : UINT64_C(3486784401)),
+                    "a number above its scale");
+    }
+}
+
+/* The degree that the list has for an item is the single call's. */
+static void judge_single(struct lent img, struct lent msg, struct lent table,
+                         const uint64_t *numbers) {
+    uint16_t map[64];
+    uint64_t item = below(numbers[1]);
+    uint32_t listed;
+    struct answer answer = fresh();
+    svelgandur_degree(img.at, img.bytes, msg.at, msg.bytes, item, map, 64,
+                      answer.numbers);
+    require(judged(DEGREE, &answer, img.bytes, msg.bytes),
+            "listed, and refused by itself");
+    memcpy(&listed, table.at + 4 * item, 4);
+    require(answer.numbers[3] == numbers[2], "another count of nodes");
+    require(listed * answer.numbers[2] == answer.numbers[1] * numbers[3],
+            "another degree than the single call's");
+}
+
+/* A table is too short only for a register and a requirement that are read,
+ * and where it has fewer places than nodes times items. */
+static void judge_too_short(struct lent img, struct lent msg, size_t room) {
+    struct answer items = fresh(), nodes = fresh();
+    svelgandur_read_register(img.at, img.bytes, 0, items.numbers);
+    svelgandur_read_requirement(msg.at, msg.bytes, nodes.numbers);
+    require(judged(READ_REGISTER, &items, img.bytes, 0) &&
+                judged(READ_REQUIREMENT, &nodes, 0, msg.bytes) &&
+                room < items.numbers[1] * nodes.numbers[1],
+            "a table that is long enough was refused");
+}
+
+static void whole_list(void) {
+    static uint32_t places[64 * 512 + 100];
+    size_t room = (size_t)(below(4) ? 64 * items_said() : below(200)), place;
+    struct lent img = lend(image, image_length, 1);
+    struct lent msg = lend(message, message_length, 1);
+    struct lent table;
+    struct answer answer = fresh();
+    if (room > 64 * 512)
+        room = 64 * 512;
+    room += (size_t)below(9);
+    for (place = 0; place < room; place++)
+        places[place] = (uint32_t)word();
+    table = lend(places, 4 * room, 0);
+    svelgandur_list(img.at, img.bytes, msg.at, msg.bytes,
+                    (uint32_t *)(void *)table.at, room, answer.numbers);
+    if (judged(LIST, &answer, img.bytes, msg.bytes)) {
+        judge_table(table, answer.numbers);
+        judge_single(img, msg, table, answer.numbers);
+    } else {
+        require(as_it_was(table), "a refused list wrote to the table");
+        if (answer.numbers[2] == 16)
+            judge_too_short(img, msg, room);
+    }
+    require(as_it_was(img) && as_it_was(msg), "an image or message was written");
+    take_back(table);
+    take_back(msg);
+    take_back(img);
+}
+
 /* ---- a session ---- */
 
 /* After an edit or an undo the buffer begins with an image, and all that was
@@ -651,6 +732,7 @@ int main(int words, char **word_list) {
         reading();
         writing();
         questions();
+        whole_list();
         session();
     }
     for (which = 0; which < CALLS; which++) {

@@ -7,7 +7,7 @@
 
 use std::slice::{from_raw_parts as lent, from_raw_parts_mut as lent_mut};
 
-use good::{calls, session, writing};
+use good::{calls, list, session, writing};
 
 #[no_mangle]
 pub unsafe extern "C" fn svelgandur_read_register(
@@ -101,6 +101,20 @@ pub unsafe extern "C" fn svelgandur_member(
 ) {
     let (image, message) = (lent(image, image_length), lent(message, message_length));
     *answer = calls::member(image, message, item, lent_mut(map, map_length));
+}
+
+#[no_mangle]
+pub unsafe extern "C" fn svelgandur_list(
+    image: *const u8,
+    image_length: usize,
+    message: *const u8,
+    message_length: usize,
+    table: *mut u32,
+    table_length: usize,
+    answer: *mut [u64; 4],
+) {
+    let (image, message) = (lent(image, image_length), lent(message, message_length));
+    *answer = list::list(image, message, lent_mut(table, table_length));
 }
 
 #[no_mangle]

@@ -10,9 +10,11 @@
 //! | `tree` | a tree as rows in reading order, and its reduction |
 //! | `graph` | which links leave an item under a role, looked up once an item |
 //! | `items` | a set of items as bits |
+//! | `scales` | what degrees are counted over |
 //! | `numbers` | degrees, at the items that are reached and no others |
 //! | `meeting` | the yes or no, at the items that are reached |
 //! | `calls` | degree, margin, yes or no, and reading, as four numbers |
+//! | `list` | the whole list: each node's number at each item |
 //! | `writing` | writing a message from lists |
 //! | `session` | open, edit, undo and keep |
 //! | `listing` | what the listing program prints |
@@ -20,11 +22,13 @@
 pub mod calls;
 pub mod graph;
 pub mod items;
+pub mod list;
 pub mod listing;
 pub mod meeting;
 pub mod message;
 pub mod numbers;
 pub mod register;
+pub mod scales;
 pub mod session;
 pub mod tree;
 pub mod writing;

@@ -2,13 +2,12 @@
 //! Down the tree, for each node the items that it can reach; up the tree, its
 //! numbers at these items, each once. An empty node's number is 1 everywhere
 //! and is not worked out.
-//!
-//! No scale is above 3^20, so every number has 32 bits.
 
 use std::mem::MaybeUninit;
 
 use crate::graph::{ends, ends_of_fours, Graph, Run};
 use crate::items::Items;
+use crate::scales::Scales;
 use crate::tree::Tree;
 use crate::{Ones, DROPPED, MOST_ITEMS, MOST_NODES, UNMAPPED};
 
@@ -76,12 +75,7 @@ impl Reached {
 
 pub struct Numbers {
     numbers: [[MaybeUninit<u32>; MOST_ITEMS]; MOST_NODES],
-    /// What a name of a node counts, and what a child's number does in it.
-    below: [u32; MOST_NODES],
-    factor: [u32; MOST_NODES],
-    scale: [u32; MOST_NODES],
-    /// The nodes without names and children.
-    empty: u64,
+    scales: Scales,
 }
 
 impl Numbers {
@@ -89,20 +83,17 @@ impl Numbers {
     pub fn none() -> Numbers {
         Numbers {
             numbers: [const { [const { MaybeUninit::uninit() }; MOST_ITEMS] }; MOST_NODES],
-            below: [1; MOST_NODES],
-            factor: [1; MOST_NODES],
-            scale: [1; MOST_NODES],
-            empty: 0,
+            scales: Scales::none(),
         }
     }
 
     /// The numbers of a tree at these items, and at all that its nodes reach
     /// from there. Answers the scale.
     pub fn work_out(&mut self, graph: &mut Graph, tree: &Tree, from: Reached) -> u32 {
-        self.count(tree);
+        self.scales.count(tree);
         let mut reached = [Reached::NONE; MOST_NODES];
         reached[0] = from;
-        let full = tree.kept & !self.empty;
+        let full = tree.kept & !self.scales.empty;
         for node in Ones(full) {
             let here = reached[node];
             for kid in Ones(tree.kids[node] & full) {
@@ -118,41 +109,14 @@ impl Numbers {
                 self.numbers[node][item % MOST_ITEMS].write(number);
             });
         }
-        self.scale[0]
-    }
-
-    /// Scales and what goes with them, without a division.
-    fn count(&mut self, tree: &Tree) {
-        self.empty = 0;
-        let mut left = tree.kept;
-        while left != 0 {
-            let node = 63 - left.leading_zeros() as usize;
-            left &= !(1 << node);
-            let kids = tree.kids[node];
-            let mut below = 1;
-            for kid in Ones(kids) {
-                self.factor[kid] = below;
-                below *= self.scale[kid];
-            }
-            let (mut behind, mut later) = (1, kids);
-            while later != 0 {
-                let kid = 63 - later.leading_zeros() as usize;
-                later &= !(1 << kid);
-                self.factor[kid] *= behind;
-                behind *= self.scale[kid];
-            }
-            let count = tree.count(node);
-            self.empty |= u64::from(count == 0) << node;
-            self.below[node] = below;
-            self.scale[node] = below * count.max(1);
-        }
+        self.scales.scale[0]
     }
 
     #[inline]
     fn worked_out(&self, graph: &mut Graph, tree: &Tree, node: usize, item: usize) -> u32 {
         let mut number = match tree.names[node] {
             0 => 0,
-            names => (names & graph.register.names(item)).count_ones() * self.below[node],
+            names => (names & graph.register.names(item)).count_ones() * self.scales.below[node],
         };
         let kids = tree.kids[node];
         if kids != 0 {
@@ -161,7 +125,7 @@ impl Numbers {
             for kid in Ones(kids) {
                 let run = runs[usize::from(tree.role[kid]) % runs.len()];
                 if !run.is_empty() {
-                    number += self.greatest(links, kid, run) * self.factor[kid];
+                    number += self.greatest(links, kid, run) * self.scales.factor[kid];
                 }
             }
         }
@@ -171,7 +135,7 @@ impl Numbers {
     /// The greatest number of a node at the ends of links.
     #[inline]
     fn greatest(&self, links: &[u8], node: usize, run: Run) -> u32 {
-        if self.empty >> node & 1 == 1 {
+        if self.scales.empty >> node & 1 == 1 {
             return 1;
         }
         let numbers = &self.numbers[node % MOST_NODES];
@@ -201,7 +165,7 @@ impl Numbers {
 
     /// The root's number at one of the items that were worked out.
     pub fn root(&self, item: usize) -> u32 {
-        match self.empty & 1 {
+        match self.scales.empty & 1 {
             1 => 1,
             _ => self.known(0, item),
         }
@@ -233,7 +197,7 @@ impl Numbers {
         let Some(mut best) = successors.next() else {
             return UNMAPPED;
         };
-        if run.len() > 1 && self.empty >> node & 1 == 0 {
+        if run.len() > 1 && self.scales.empty >> node & 1 == 0 {
             let mut greatest = self.known(node, best);
             for to in successors {
                 let number = self.known(node, to);

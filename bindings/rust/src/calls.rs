@@ -60,6 +60,15 @@ extern "C" {
         map_length: usize,
         answer: *mut u64,
     );
+    fn svelgandur_list(
+        image: *const u8,
+        image_length: usize,
+        message: *const u8,
+        message_length: usize,
+        table: *mut u32,
+        table_length: usize,
+        answer: *mut u64,
+    );
     fn svelgandur_open(buffer: *mut u8, buffer_length: usize, answer: *mut u64);
     fn svelgandur_edit_name(
         buffer: *mut u8,
@@ -193,6 +202,21 @@ pub fn member(image: &[u8], message: &[u8], item: u64, map: &mut [u16]) -> Answe
             item,
             map.as_mut_ptr(),
             map.len(),
+            answer,
+        )
+    })
+}
+
+pub fn list(image: &[u8], message: &[u8], table: &mut [u32]) -> Answer {
+    // SAFETY: each pointer goes with its own slice's length.
+    answered(|answer| unsafe {
+        svelgandur_list(
+            image.as_ptr(),
+            image.len(),
+            message.as_ptr(),
+            message.len(),
+            table.as_mut_ptr(),
+            table.len(),
             answer,
         )
     })

@@ -3,12 +3,13 @@
 //!
 //! A register and a requirement are bytes, as document 01 lays them out;
 //! `svelgandur-text` (tools/text) writes them from plain text, and
-//! [`Requirement`] builds a requirement node by node. Nothing here
-//! works anything out: each function lends the proved library what it was
-//! handed, and gives its four numbers a type.
+//! [`Requirement`] builds a requirement node by node. Nothing here works
+//! anything out but the lowest terms and the order of a [`List`]: each function
+//! lends the proved library what it was handed, and gives its four numbers a
+//! type.
 //!
 //! ```
-//! use svelgandur::{degree, Place, Session, Fact};
+//! use svelgandur::{degree, list, Place, Session, Fact};
 //!
 //! // Three items; 0 is linked to 1 under role 0 and to 2 under role 1.
 //! let register = [
@@ -26,6 +27,11 @@
 //! assert_eq!((answer.num, answer.den), (2, 3));
 //! assert_eq!(answer.map, [Place::Item(0), Place::Item(1)]);
 //!
+//! // All items at once, those that meet most of it first.
+//! let all = list(&register, &requirement)?;
+//! let told = all.by_degree().map(|(item, degree)| format!("{item}: {degree}"));
+//! assert_eq!(told.collect::<Vec<_>>(), ["0: 2/3", "1: 1/3", "2: 1/3"]);
+//!
 //! // What if item 0 had name 2 as well?
 //! let mut session = Session::open(&register)?;
 //! session.add(Fact::Name { item: 0, name: 2 })?;
@@ -42,6 +48,7 @@
 //! | `refusal` | a refusal, and a sentence for each number |
 //! | `answer` | what the calls answer, as types |
 //! | `ask` | the questions: reading, degree, margin, yes or no |
+//! | `list` | the whole list: all items at once |
 //! | `requirement` | requirements built node by node, and their messages |
 //! | `session` | trial edits with undo |
 
@@ -50,6 +57,7 @@
 mod answer;
 mod ask;
 mod calls;
+mod list;
 mod refusal;
 mod requirement;
 mod session;
@@ -58,6 +66,7 @@ pub use answer::{Degree, Margin, Place, RegisterCounts, RequirementCounts, Verdi
 pub use ask::{
     degree, degree_into, inner_part, margin, member, member_into, read_register, read_requirement,
 };
+pub use list::{list, list_into, Fraction, List, LONGEST_TABLE};
 pub use refusal::{Refusal, Side};
 pub use requirement::{Comparison, Concept, Requirement, LONGEST_MESSAGE};
 pub use session::{Fact, Session, LARGEST_IMAGE, MOST_STEPS};

@@ -75,7 +75,7 @@ impl Refusal {
             13 => "a threshold's comparison is none of <, <=, > and >=",
             14 => "the reduced size of a concept is above 60",
             15 => "the item or the name that is asked for is out of range",
-            16 => "the map has fewer places than the requirement has nodes",
+            16 => "the map has too few places for the nodes, or the table for nodes times items",
             17 => {
                 "the step count is above the log's length or 64, or the last step is out of range"
             }

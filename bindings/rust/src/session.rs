@@ -3,6 +3,7 @@
 use crate::answer::{Degree, Margin, Verdict};
 use crate::ask;
 use crate::calls;
+use crate::list::{self, List};
 use crate::refusal::Refusal;
 
 /// The bytes of the largest image: with a buffer of so many, no edit lacks
@@ -121,5 +122,10 @@ impl Session {
     /// See [`member`](crate::member()); it is asked of the image alone.
     pub fn member(&self, message: &[u8], item: u64) -> Result<Verdict, Refusal> {
         ask::member(self.image(), message, item)
+    }
+
+    /// See [`list`](crate::list()); it is asked of the image alone.
+    pub fn list(&self, message: &[u8]) -> Result<List<'static>, Refusal> {
+        list::list(self.image(), message)
     }
 }

@@ -4,8 +4,8 @@ mod common;
 
 use common::{image, judged, message, node, threshold, BAD_FRACTIONS, Q1, R1};
 use svelgandur::{
-    degree, degree_into, margin, member, member_into, read_register, read_requirement, Fact,
-    Refusal, Session, Side,
+    degree, degree_into, list, list_into, margin, member, member_into, read_register,
+    read_requirement, Fact, Refusal, Session, Side,
 };
 
 fn refusal(side: Side, number: u64, place: u64) -> Refusal {
@@ -22,6 +22,7 @@ fn register_refused(image: &[u8]) -> Refusal {
     assert_eq!(degree(image, &Q1, 0), Err(refused));
     assert_eq!(margin(image, &Q1, 0, 1, 2), Err(refused));
     assert_eq!(member(image, &Q1, 0), Err(refused));
+    assert_eq!(list(image, &Q1), Err(refused));
     refused
 }
 
@@ -30,6 +31,7 @@ fn requirement_refused(message: &[u8]) -> Refusal {
     assert_eq!(degree(&R1, message, 0), Err(refused));
     assert_eq!(margin(&R1, message, 0, 1, 2), Err(refused));
     assert_eq!(member(&R1, message, 0), Err(refused));
+    assert_eq!(list(&R1, message), Err(refused));
     refused
 }
 
@@ -156,9 +158,12 @@ fn questions() {
     let wanted = refusal(Side::Requirement, 11, 13);
     assert_eq!(degree(&R1, &judging, 0), Err(wanted));
     assert_eq!(margin(&R1, &judging, 0, 1, 2), Err(wanted));
+    assert_eq!(list(&R1, &judging), Err(wanted));
     let names: Vec<u32> = (0..61).collect();
+    let too_large = message(node(&names, &[]));
     let wanted = refusal(Side::Requirement, 14, 3);
-    assert_eq!(degree(&R1, &message(node(&names, &[])), 0), Err(wanted));
+    assert_eq!(degree(&R1, &too_large, 0), Err(wanted));
+    assert_eq!(list(&R1, &too_large), Err(wanted));
     let wanted = refusal(Side::Call, 15, 0);
     for item in [3, 256, 65_536, 1 << 32, u64::MAX] {
         assert_eq!(degree(&R1, &Q1, item), Err(wanted));
@@ -190,6 +195,23 @@ fn maps_too_short() {
         assert_eq!(degree_into(&R1, &Q1, 0, &mut map), Err(wanted));
         assert_eq!(member_into(&R1, &Q1, 0, &mut map), Err(wanted));
         assert_eq!(map, vec![7; room]);
+    }
+}
+
+/// Two nodes at three items; what is wrong with either side comes before.
+#[test]
+fn tables_too_short() {
+    let leaf = node(&[1], &[]);
+    let judging = message(judged(&[], &[threshold(3, 1, 2, &leaf)], &[]));
+    let call = refusal(Side::Call, 16, 0);
+    let requirement = refusal(Side::Requirement, 11, 13);
+    let register = refusal(Side::Register, 3, 1);
+    for room in 0..6 {
+        let mut table = vec![7; room];
+        assert_eq!(list_into(&R1, &Q1, &mut table), Err(call));
+        assert_eq!(list_into(&R1, &judging, &mut table), Err(requirement));
+        assert_eq!(list_into(&R1[..40], &judging, &mut table), Err(register));
+        assert_eq!(table, vec![7; room]);
     }
 }
 

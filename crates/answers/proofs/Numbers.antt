@@ -13,12 +13,13 @@ use Rattle.register.specs.Reading.{Counts}
 use Rattle.meaning.specs.Requirement.{Requirement as RequirementTree}
 use Rattle.meaning.specs.Message.{Part}
 use Rattle.meaning.specs.Tree.{nodes}
-use Rattle.answers.specs.Numbers.{four, sideNumber, refusalNumbers, numbers, counts, written, inUse, verdicts, degreeNumbers, belowZero, marginNumbers}
+use Rattle.answers.specs.Numbers.{four, sideNumber, refusalNumbers, numbers, counts, written, inUse, verdicts, degreeNumbers, listNumbers, belowZero, marginNumbers}
 use Rattle.deciding.specs.Answers.{Said, yes, no}
 use lib.IntN.{ℤ, pos, negsuc, natAbs}
 use Rattle.meaning.specs.Fraction.{_//_}
 use Rattle.meaning.specs.Calls.{Against}
 use Rattle.asking.specs.Answers.{Told}
+use Rattle.tabling.specs.Answers.{Told as ListTold}
 
 -- the k-th of the four
 pub nth : (k : ℕ) {x y : List ℕ} → x ≡ y → getD x k 0 ≡ getD y k 0
@@ -101,6 +102,12 @@ degrees-apart = answers-apart degreeNumbers (λ a b e. same-told (nth 1 e) (nth 
   where
     same-told : {a b m n j k : ℕ} → a ≡ b → m ≡ n → j ≡ k → _≡_ {A = Told} (record { degree = a // m; places = j }) (record { degree = b // n; places = k })
     same-told d e f = cc
+
+pub lists-apart : (x y : Answer ListTold) → numbers listNumbers x ≡ numbers listNumbers y → x ≡ y
+lists-apart = answers-apart listNumbers (λ a b e. same-list (nth 1 e) (nth 2 e) (nth 3 e)) (λ a e. omega arith)
+  where
+    same-list : {a b m n j k : ℕ} → a ≡ b → m ≡ n → j ≡ k → _≡_ {A = ListTold} (record { items = a; nodes = m; scale = j }) (record { items = b; nodes = n; scale = k })
+    same-list d e f = cc
 
 -- magnitude and sign tell margins apart
 signs-apart : (y z : ℤ) → natAbs y ≡ natAbs z → belowZero y ≡ belowZero z → y ≡ z

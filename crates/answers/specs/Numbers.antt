@@ -23,6 +23,7 @@ use Rattle.meaning.specs.Bounds.{mostMargin}
 use Rattle.asking.specs.declared.Margin.{Margin}
 use Rattle.asking.specs.declared.Margin.the-variants.{Good as GoodMargin, Refused as RefusedMargin}
 use Rattle.asking.specs.Answers.{Told}
+use Rattle.tabling.specs.Answers.{Told as ListTold}
 
 abbrev pub four : ℕ → ℕ → ℕ → ℕ → List ℕ
 four kind a b c = kind ∷ a ∷ b ∷ c ∷ []
@@ -80,6 +81,10 @@ verdicts no = four 2 0 0 0
 -- a degree: 1, numerator, denominator, places written
 abbrev pub degreeNumbers : Told → List ℕ
 degreeNumbers t = four 1 (t .degree .num) (t .degree .den) (t .places)
+
+-- a list: 1, items, written nodes, the scale of the first row
+abbrev pub listNumbers : ListTold → List ℕ
+listNumbers t = four 1 (t .items) (t .nodes) (t .scale)
 
 -- a margin: 1, its magnitude, what it is over, 1 where it is below zero and else 0
 abbrev pub belowZero : ℤ → ℕ

@@ -8,6 +8,7 @@ use parts::Place;
 use register::Reading;
 use requirement::Message;
 use session::Counted;
+use tabling::Listed;
 use writer::Written;
 ghost use mathlib.Core.Path.{_≡_};
 ghost use Prim.Native.Nat.{_≤_};
@@ -17,8 +18,9 @@ ghost use Rattle.register.specs.Reading.{paperReading};
 ghost use Rattle.asking.specs.Answers.{paperDegree, paperMargin};
 ghost use Rattle.deciding.specs.Answers.{paperVerdict};
 ghost use Rattle.session.specs.Calls.{paperCount};
+ghost use Rattle.tabling.specs.Answers.{paperList};
 ghost use Rattle.writer.specs.Promise.{paperWritten};
-ghost use Rattle.answers.specs.Numbers.{four, sideNumber, refusalNumbers, numbers, counts, messageNumbers, placeNumbers, inUse, verdicts, degreeNumbers, marginNumbers, belowZero, Small};
+ghost use Rattle.answers.specs.Numbers.{four, sideNumber, refusalNumbers, numbers, counts, messageNumbers, placeNumbers, inUse, verdicts, degreeNumbers, listNumbers, marginNumbers, belowZero, Small};
 
 // Writes the four numbers.
 fn put(answer: &mut [u64; 4], kind: u64, a: u64, b: u64, c: u64)
@@ -103,6 +105,20 @@ pub fn of_margin(answer: &mut [u64; 4], r: Margin)
             put(answer, 1, magnitude(margin), over, below_zero(margin));
         }
         Margin::Refused { refusal } => refuse(answer, refusal),
+    }
+}
+
+// A list: 1, items, written nodes, the scale of the first row.
+pub fn of_list(answer: &mut [u64; 4], r: Listed)
+    ensures { λ _. ⌜ now (answer .exit) ≡ numbers listNumbers (paperList r) ⌝ }
+{
+    match r {
+        Listed::Good {
+            items,
+            nodes,
+            scale,
+        } => put(answer, 1, items as u64, nodes as u64, scale as u64),
+        Listed::Refused { refusal } => refuse(answer, refusal),
     }
 }
 

@@ -14,7 +14,6 @@ use mir.Facts.{toZ-ofZ}
 use lib.ListN.{length, getD, length-map}
 use Rattle.meaning.specs.declared.Refusal.{Refusal}
 use Rattle.meaning.specs.Refusal.{Answer, good, refused, onCall, refuseIf, _>>=_, _>>_}
-use Rattle.meaning.specs.Bytes.{Bytes}
 use Rattle.meaning.specs.Tree.{Concept, nodes}
 use Rattle.meaning.specs.Register.{Register, judged, readRegister}
 use Rattle.meaning.specs.Fraction.{Frac, _//_, lowest, wrongWith, lawful, fraction, margin, marginOver}
@@ -25,7 +24,6 @@ use Rattle.meaning.proofs.Tests.{of-not}
 use Rattle.meaning.proofs.FractionRows.{lawful-takes, found-none, found-some}
 use Rattle.meaning.proofs.Reading.{took, stopped, pass, stop, below, not-below, at-most, not-le}
 use Rattle.meaning.proofs.Image.{whole-buffer}
-use Rattle.meaning.proofs.Rows.{holds-nodes}
 use Rattle.meaning.proofs.Lowest.{lowest-le}
 use Rattle.meaning.proofs.Degree.{answered-at-most-one}
 use Rattle.meaning.proofs.InPlace.{scale-in}
@@ -43,24 +41,11 @@ use Rattle.register.specs.Image.{OfSize}
 use Rattle.degrees.specs.Gradable.{Gradable}
 use Rattle.meaning.specs.Bounds.{mostScale, mostQ}
 use Rattle.shown.specs.Given.{drawn, Graded}
-use Rattle.plain.specs.Reading.{Rows, readBoth, BothGood, BothOutcome, BothDone}
+use Rattle.plain.specs.Reading.{Rows, readBoth, BothDone}
+use Rattle.plain.proofs.Known.{both-first, both-no, Known, ended}
 use Rattle.asking.specs.Answers.{Told, paperDegree, told, degreeRefused, paperMargin, marginRefused}
 use Rattle.asking.specs.Refusing.{DegreePromise, MarginPromise}
 use Rattle.shown.proofs.Entry.{gradable-of, scale-small, graded-answer}
-
-abbrev bothOf : Register → Concept → Answer (Register × Concept)
-bothOf g t = good (g, t)
-
--- in a call, the register and the requirement are read before all else
-both-first : {C : Type 0} (next : Register → Concept → Answer C) (image message : List ℕ)
-    → (readRegister image >>= λ g. (readPlain message >>= λ t. next g t)) ≡ (readBoth image message >>= λ x. next (x .0) (x .1))
-unfolding readBoth _>>=_
-both-first next image message = go (readRegister image) (readPlain message)
-  where
-    go : (a : Answer Register) (b : Answer Concept) → (a >>= λ g. (b >>= λ t. next g t)) ≡ ((a >>= λ g. (b >>= λ t. bothOf g t)) >>= λ x. next (x .0) (x .1))
-    go (good g) (good t) = refl
-    go (good g) (refused f) = refl
-    go (refused f) b = refl
 
 -- what is tested and answered after 15, and with it
 abbrev pub degreeThen : ℕ → ℕ → Register → Concept → Answer Found
@@ -77,6 +62,16 @@ degreeNext item room g t = inRange g item >> degreeThen item room g t
 
 abbrev marginNext : ℕ → ℕ → ℕ → Register → Concept → Answer Against
 marginNext item p q g t = inRange g item >> marginThen item p q g t
+
+module _ {image message : List ℕ} {A : Rows} {b : Both} {done : BothDone image message A b} {n m k : ℕ} {e : b ≡ GoodBoth n m k} (w : Known image message A b done n m k e) where
+  abbrev pub gradable : Gradable (OfSize image n m) (A .names) (A .roles) (A .ends) (A .marks) 0 17
+  gradable =
+      let h = w .held .held in
+      gradable-of (w .register) (w .tree) (whole-buffer image (w .register) (w .bytes) (h .posed .graph)) (w .items) (w .links)
+      (h .posed .held) (h .marked) (h .posed .few) (h .small)
+
+  pub room : {long : ℕ} → k ≤ long → getD (A .ends) 0 0 ≤ long
+  room l = omega (arith, ended w, w .written)
 
 module _ (image message : List ℕ) (item : ℕ) where
   -- the answer and the lent map afterwards
@@ -101,60 +96,13 @@ module _ (image message : List ℕ) (item : ℕ) where
   module _ (A : Rows) (b : Both) (done : BothDone image message A b) where
     -- ---- refused by a reader
 
-    both-no : (f : Refusal) → b ≡ RefusedBoth f → readBoth image message ≡ refused f
-    both-no f e = go (readBoth image message) done
-      where
-        go : (a : Answer (Register × Concept)) → BothOutcome image A a b → a ≡ refused f
-        go (good x) o =
-            let z : GoodBoth (length (x .0 .names)) (length (x .0 .links)) (nodes (x .1)) ≡ RefusedBoth f = sym (o .answer) ∙ e in
-            let y : _≡_ {A = ℕ} 0 1 = cc in absurd (omega arith)
-        go (refused q) o = let z : RefusedBoth q ≡ RefusedBoth f = sym o ∙ e in let y : q ≡ f = cc in ap refused y
-
     pub degree-stopped : (old : List ℕ) (f : Refusal) → b ≡ RefusedBoth f → DegreeDone (RefusedDegree f) old old
-    degree-stopped old f e = degree-no old f _ (degree-both (length old) ∙ stopped (readBoth image message) _ f (both-no f e)) refl
+    degree-stopped old f e = degree-no old f _ (degree-both (length old) ∙ stopped (readBoth image message) _ f (both-no image message A b done f e)) refl
 
     pub margin-stopped : (p q : ℕ) (f : Refusal) → b ≡ RefusedBoth f → MarginDone p q (RefusedMargin f)
-    margin-stopped p q f e = sym (margin-both p q ∙ stopped (readBoth image message) _ f (both-no f e))
+    margin-stopped p q f e = sym (margin-both p q ∙ stopped (readBoth image message) _ f (both-no image message A b done f e))
 
-    -- ---- both were read
-
-    module _ (n m k : ℕ) (e : b ≡ GoodBoth n m k) where
-      pub record Known : Type 0 where
-        pub register : Register
-        pub tree : Concept
-        pub both : readBoth image message ≡ good (register, tree)
-        pub held : BothGood image A register tree b
-        pub items : n ≡ length (register .names)
-        pub links : m ≡ length (register .links)
-        pub written : k ≡ nodes tree
-        pub bytes : Bytes image
-
-      pub known : Bytes image → Known
-      known by = go (readBoth image message) refl done
-        where
-          go : (a : Answer (Register × Concept)) → readBoth image message ≡ a → BothOutcome image A a b → Known
-          go (good x) d o =
-              let z : GoodBoth (length (x .0 .names)) (length (x .0 .links)) (nodes (x .1)) ≡ GoodBoth n m k = sym (o .answer) ∙ e in
-              let i : n ≡ length (x .0 .names) = cc in
-              let l : m ≡ length (x .0 .links) = cc in
-              let w : k ≡ nodes (x .1) = cc in
-              record { register = x .0; tree = x .1; both = d; held = o; items = i; links = l; written = w; bytes = by }
-          go (refused q) d o = let z : RefusedBoth q ≡ GoodBoth n m k = sym o ∙ e in let y : _≡_ {A = ℕ} 0 1 = cc in absurd (omega arith)
-
-  module _ {A : Rows} {b : Both} {done : BothDone image message A b} {n m k : ℕ} {e : b ≡ GoodBoth n m k} (w : Known A b done n m k e) where
-    -- the rows end where the written nodes do
-    pub ended : getD (A .ends) 0 0 ≡ nodes (w .tree)
-    ended = omega (arith, holds-nodes (A .names) (A .roles) (A .ends) (w .tree) 17 0 _ (w .held .held .posed .held))
-
-    abbrev pub gradable : Gradable (OfSize image n m) (A .names) (A .roles) (A .ends) (A .marks) 0 17
-    gradable =
-        let h = w .held .held in
-        gradable-of (w .register) (w .tree) (whole-buffer image (w .register) (w .bytes) (h .posed .graph)) (w .items) (w .links)
-        (h .posed .held) (h .marked) (h .posed .few) (h .small)
-
-    pub room : {long : ℕ} → k ≤ long → getD (A .ends) 0 0 ≤ long
-    room l = omega (arith, ended, w .written)
-
+  module _ {A : Rows} {b : Both} {done : BothDone image message A b} {n m k : ℕ} {e : b ≡ GoodBoth n m k} (w : Known image message A b done n m k e) where
     -- ---- the degree
 
     degree-then : (room : ℕ) → degreeCall image message item room ≡ degreeNext item room (w .register) (w .tree)

@@ -26,7 +26,6 @@ use Rattle.meaning.specs.FractionRows.{FractionTakes, FractionRow}
 use Rattle.meaning.specs.Partial.{IsDegree}
 use Rattle.meaning.specs.Degree.{degree, degreeOf, answered}
 use Rattle.meaning.specs.Reduce.{reduce}
-use Rattle.meaning.specs.Requirement.{bare}
 use Rattle.meaning.specs.Shown.{degreeMap, shown, markNumber}
 use Rattle.meaning.specs.Calls.{Found, degreeCall, afterDegree, Against, marginCall}
 use Rattle.meaning.specs.MayRefuse.{sameSide, oneOf, among, ofQuestion}
@@ -48,7 +47,7 @@ use Rattle.asking.specs.declared.Margin.{Margin}
 use Rattle.asking.specs.declared.Margin.the-variants.{Good as GoodMargin, Refused as RefusedMargin}
 use Rattle.asking.specs.Answers.{Told, paperDegree, told, paperMargin}
 use Rattle.meaning.specs.Bounds.{mostMargin}
-use Rattle.asking.specs.Refusing.{Askable, Early, DegreeTakes, DegreeRow, earlier, noRoom, DegreePromise, MarginTakes, MarginRow, before, noThreshold, MarginPromise}
+use Rattle.asking.specs.Refusing.{Askable, Early, conceptOf, DegreeTakes, DegreeRow, earlier, noRoom, DegreePromise, MarginTakes, MarginRow, before, noThreshold, MarginPromise}
 use Rattle.asking.proofs.Refusing.{asked, early-stops, askable-goes, early-or-askable}
 use Rattle.asking.proofs.Calls.{degreeThen, marginThen}
 
@@ -94,32 +93,32 @@ module _ (image message : List ℕ) (item : ℕ) where
     degree-row f (earlier x) = degree-asked ∙ early-stops image message item (degreeThen item room) f x
     degree-row f (noRoom x l is) =
         degree-asked ∙ askable-goes image message item (degreeThen item room) x
-        ∙ stop (ltb room (nodes (bare (x .tree)))) _ _ (below room (nodes (bare (x .tree))) l) ∙ ap refused (sym is)
+        ∙ stop (ltb room (nodes (conceptOf x))) _ _ (below room (nodes (conceptOf x)) l) ∙ ap refused (sym is)
 
     abbrev found : Askable image message item → Found
     found x = record {
-      degree = answered (judged (x .register)) (bare (x .tree)) item;
-      map = degreeMap (judged (x .register)) (bare (x .tree)) item;
+      degree = answered (judged (x .readable .register)) (conceptOf x) item;
+      map = degreeMap (judged (x .readable .register)) (conceptOf x) item;
     }
 
     degree-taken : (x : DegreeTakes image message item room) → degreeCall image message item room ≡ good (found (x .asked))
     degree-taken x =
-        let t = bare (x .asked .tree) in
+        let t = conceptOf (x .asked) in
         degree-asked ∙ askable-goes image message item (degreeThen item room) (x .asked) ∙ pass (ltb room (nodes t)) _ _ (not-below room (nodes t) (x .fits))
 
     -- nothing is left out
     degree-either : ((f : Refusal) × DegreeRow image message item room f) ⊎ DegreeTakes image message item room
     degree-either = go (early-or-askable image message item)
       where
-        fit : (x : Askable image message item) (b : Bool) → ltb room (nodes (bare (x .tree))) ≡ b
+        fit : (x : Askable image message item) (b : Bool) → ltb room (nodes (conceptOf x)) ≡ b
             → ((f : Refusal) × DegreeRow image message item room f) ⊎ DegreeTakes image message item room
-        fit x true d = inl (onCall 16, noRoom x (ltb→lt room (nodes (bare (x .tree))) (holds d)) refl)
-        fit x false d = inr (record { asked = x; fits = le-of-not-below room (nodes (bare (x .tree))) d })
+        fit x true d = inl (onCall 16, noRoom x (ltb→lt room (nodes (conceptOf x)) (holds d)) refl)
+        fit x false d = inr (record { asked = x; fits = le-of-not-below room (nodes (conceptOf x)) d })
 
         go : ((f : Refusal) × Early image message item f) ⊎ Askable image message item
             → ((f : Refusal) × DegreeRow image message item room f) ⊎ DegreeTakes image message item room
         go (inl x) = inl (x .0, earlier (x .1))
-        go (inr x) = fit x (ltb room (nodes (bare (x .tree)))) refl
+        go (inr x) = fit x (ltb room (nodes (conceptOf x))) refl
 
   -- ---- the degree, of a result
 
@@ -136,11 +135,11 @@ module _ (image message : List ℕ) (item : ℕ) where
     row-result f x = degree-told r (RefusedDegree f) (h .0 ∙ ap told (degree-row (length old) f x))
 
     taken-result : (x : DegreeTakes image message item (length old))
-        → r ≡ GoodDegree (found (length old) (x .asked) .degree .num) (found (length old) (x .asked) .degree .den) (nodes (bare (x .asked .tree)))
+        → r ≡ GoodDegree (found (length old) (x .asked) .degree .num) (found (length old) (x .asked) .degree .den) (nodes (conceptOf (x .asked)))
     unfolding told _>>=_
     taken-result x =
-        let G = judged (x .asked .register) in
-        let t = bare (x .asked .tree) in
+        let G = judged (x .asked .readable .register) in
+        let t = conceptOf (x .asked) in
         let places : length (degreeMap G t item) ≡ nodes t = length-map (shown G t (some item)) markNumber ∙ degree-shows G t item .long in
         degree-told r _ (h .0 ∙ ap told (degree-taken (length old) x) ∙ ap (λ (k : ℕ). good (record { degree = answered G t item; places = k })) places)
 
@@ -170,10 +169,10 @@ module _ (image message : List ℕ) (item : ℕ) where
 
     module _ (x : DegreeTakes image message item (length old)) where
       abbrev G : Graph ℕ
-      G = judged (x .asked .register)
+      G = judged (x .asked .readable .register)
 
       abbrev t : Concept
-      t = bare (x .asked .tree)
+      t = conceptOf (x .asked)
 
       -- "The degree is the greatest root value over all partial maps", "answered in lowest terms", and 1/1 exactly when a whole map exists
       pub degree-says : (n d k : ℕ) → r ≡ GoodDegree n d k → DegreeSays G t n d k
@@ -201,7 +200,7 @@ module _ (image message : List ℕ) (item : ℕ) where
       pub map-lowest : Bytes image → (p : List ℕ) (k role : ℕ) (s : Concept) (z y : ℕ) → roleAt (reduce t) p k ≡ some role
           → subtree (reduce t) (p ++ k ∷ []) ≡ some s → map-says .1 .partial .map p ≡ some z → map-says .1 .partial .map (p ++ k ∷ []) ≡ some y
           → LowestOf (Greatest (λ w. degree G s w) (G .next z role)) (G .next z role) y
-      map-lowest b = degree-lowest (x .asked .register) (read-image image (x .asked .register) b (x .asked .read) .0) t item (map-says .1)
+      map-lowest b = degree-lowest (x .asked .readable .register) (read-image image (x .asked .readable .register) b (x .asked .readable .read) .0) t item (map-says .1)
 
   -- any two results that the promise allows are equal
   pub one-degree-result : (old new new′ : List ℕ) (r s : Answered) → DegreePromise image message item old new r → DegreePromise image message item old new′ s
@@ -222,7 +221,7 @@ module _ (image message : List ℕ) (item : ℕ) where
 
     abbrev against : Askable image message item → Against
     against x =
-        let d = answered (judged (x .register)) (bare (x .tree)) item in
+        let d = answered (judged (x .readable .register)) (conceptOf x) item in
         record { margin = margin d (p // q); over = marginOver d (p // q) }
 
     margin-taken : (x : MarginTakes image message item p q) → marginCall image message item p q ≡ good (against (x .asked))
@@ -277,15 +276,15 @@ module _ (image message : List ℕ) (item : ℕ) where
 
       -- "negative below the threshold, zero at it, positive above, never beyond 3,486,784,401,000 either way"
       pub margin-says : (x : MarginTakes image message item p q) (m : ℤ) (o : ℕ) → r ≡ GoodMargin m o
-          → MarginSays (answered (judged (x .asked .register)) (bare (x .asked .tree)) item) m o
+          → MarginSays (answered (judged (x .asked .readable .register)) (conceptOf (x .asked)) item) m o
       margin-says x m o e =
-          let G = judged (x .asked .register) in
-          let t = bare (x .asked .tree) in
+          let G = judged (x .asked .readable .register) in
+          let t = conceptOf (x .asked) in
           let d = answered G t item in
           let z : GoodMargin (margin d (p // q)) (marginOver d (p // q)) ≡ GoodMargin m o = sym (margin-result x) ∙ e in
           let a : margin d (p // q) ≡ m = cc in
           let b : marginOver d (p // q) ≡ o = cc in
-          let small = margin-fits G t item p q (x .asked .small) (x .rule .most) (x .rule .small) in
+          let small = margin-fits G t item p q (x .asked .readable .small) (x .rule .most) (x .rule .small) in
           record {
             margin-is = sym a;
             over-is = sym b;

@@ -5,7 +5,7 @@ use mathlib.Core.Bool.{Bool, true, false, cond}
 use mathlib.Core.List.{List}
 use Prim.Native.Nat.{ℕ, _≤_, _<_}
 use native.Mathlib.Omega.{arith}
-use lib.ListN.{length}
+use lib.ListN.{length, getD}
 use lib.Seq.{sets}
 use Rattle.fields.specs.Head.{wrongIn}
 use Rattle.meaning.specs.declared.Refusal.{Refusal}
@@ -84,6 +84,29 @@ message-refused s B {r} {x} h e = go (readRequirement s) refl h
         let z : GoodMessage (nodes (y .0)) (length (y .1)) ≡ RefusedMessage x = sym (m .answer) ∙ e in let w : _≡_ {A = ℕ} 0 1 = cc in absurd (omega arith)
     go (refused f) d m = let z : RefusedMessage f ≡ RefusedMessage x = sym m ∙ e in let w : f ≡ x = cc in d ∙ ap refused w
 
+-- and both of them
+module _ {image message : List ℕ} {items links : ℕ} (i : Imaged image items links) {B : List ℕ} {m : Message} {n parts : ℕ} {e : m ≡ GoodMessage n parts}
+    (u : Understood message B e) where
+  -- the rows are as many as the nodes
+  pub rows-end : getD (endsIn B) 0 0 ≡ n
+  rows-end = opened (namesIn B) (rolesIn B) (endsIn B) (bare (u .requirement)) 17 0 (nodes (u .requirement)) (u .rows .tree) .ended ∙ sym (u .nodes-are)
+
+  abbrev pub both-read : Bytes image → BothRead image items links message B parts
+  both-read b = record {
+    requirement = u .requirement;
+    posed = record {
+      graph = record { register = i .register; read = whole-buffer image (i .register) b (i .read); holds = (i .items-are, i .links-are) };
+      held = holds-ended (namesIn B) (rolesIn B) (endsIn B) (bare (u .requirement)) 17 0 (nodes (u .requirement)) (u .rows .tree);
+      few = omega (arith, rows-end, u .nodes-are, u .rows .few);
+    };
+    whole = i .read;
+    places = u .places;
+    wanted = u .wanted;
+    parts-are = u .parts-are;
+    most = omega (arith, u .parts-are, u .rows .room);
+    parted = u .rows .parted;
+  }
+
 -- ---- the ends
 
 module _ (image message : List ℕ) (item : ℕ) (map : List ℕ) where
@@ -118,40 +141,21 @@ module _ (image message : List ℕ) (item : ℕ) (map : List ℕ) where
           (noRoom (i .register) q (u .places) (i .read) (u .wanted) (omega (arith, i .items-are)) (omega (arith, u .nodes-are)) refl)
 
       module _ (inside : item < items) (fits : n ≤ length map) where
-        abbrev pub both-read : Bytes image → BothRead image items links message B parts item (length map)
-        both-read b =
-            let ended = opened (namesIn B) (rolesIn B) (endsIn B) (bare q) 17 0 (nodes q) (u .rows .tree) .ended in
-            record {
-              requirement = q;
-              posed = record {
-                graph = record { register = i .register; read = whole-buffer image (i .register) b (i .read); holds = (i .items-are, i .links-are) };
-                held = holds-ended (namesIn B) (rolesIn B) (endsIn B) (bare q) 17 0 (nodes q) (u .rows .tree);
-                few = omega (arith, ended, u .rows .few);
-              };
-              places = u .places;
-              wanted = u .wanted;
-              parts-are = u .parts-are;
-              most = omega (arith, u .parts-are, u .rows .room);
-              parted = u .rows .parted;
-              inside = inside;
-              room-enough = omega (arith, ended, u .nodes-are);
-            }
-
         module _ (b : Bytes image) (t : List ℕ) (r : Bool)
-            (s : (k : BothRead image items links message B parts item (length map)) → Settled (k .posed .graph .register) (k .requirement) item map t r) where
+            (s : (k : BothRead image items links message B parts) → Settled (k .posed .graph .register) (k .requirement) item map t r) where
           abbrev G : Graph ℕ
           G = judged (i .register)
 
           says : (c : Bool) → r ≡ c → answer ≡ good (decision c (yesMap G q item))
           says c e =
               member-answer image message item (length map) (i .register) q (u .places) (i .read) (u .wanted)
-              (omega (arith, i .items-are)) (omega (arith, u .nodes-are)) ∙ ap (λ (z : Bool). good (decision z (yesMap G q item))) (sym (s (both-read b) .answer) ∙ e)
+              (omega (arith, i .items-are)) (omega (arith, u .nodes-are)) ∙ ap (λ (z : Bool). good (decision z (yesMap G q item))) (sym (s (both-read i u b) .answer) ∙ e)
 
           after : (c : Bool) → r ≡ c → t ≡ cond c (sets map 0 (yesMap G q item)) map
-          after c e = s (both-read b) .map ∙ ap (λ (z : Bool). cond z (sets map 0 (yesMap G q item)) map) e
+          after c e = s (both-read i u b) .map ∙ ap (λ (z : Bool). cond z (sets map 0 (yesMap G q item)) map) e
 
           pub answers : (c : Bool) → r ≡ c → Ends t (cond c (Yes n) No)
           answers true e =
-              let long = yes-shows (fulfils G) G q item (holds (sym (s (both-read b) .answer) ∙ e)) .long in
+              let long = yes-shows (fulfils G) G q item (holds (sym (s (both-read i u b) .answer) ∙ e)) .long in
               (ap (λ (z : ℕ). good (yes z)) (u .nodes-are ∙ sym long) ∙ sym (ap said (says true e)), after true e ∙ sym (ap (afterMember map) (says true e)))
           answers false e = (sym (ap said (says false e)), after false e ∙ sym (ap (afterMember map) (says false e)))

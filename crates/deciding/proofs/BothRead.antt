@@ -50,7 +50,7 @@ pair-at a b Forall₂·nil k l = absurd (omega arith)
 pair-at a b (Forall₂·cons r f) zero l = r
 pair-at a b (Forall₂·cons r f) (suc k) l = pair-at a b f k (omega arith)
 
-module _ {image : List ℕ} {items links : ℕ} {message B : List ℕ} {parts item room : ℕ} (k : BothRead image items links message B parts item room) where
+module _ {image : List ℕ} {items links : ℕ} {message B : List ℕ} {parts : ℕ} (k : BothRead image items links message B parts) where
   read-accepted : Bytes message → Accepted message (k .requirement, k .places)
   read-accepted b = read-back message (k .requirement, k .places) b (k .wanted)
 
@@ -82,11 +82,8 @@ module _ {image : List ℕ} {items links : ℕ} {message B : List ℕ} {parts it
     ruled = rw (eo, ee) (read-ruled b (judged (j .register)));
   }
 
-  pub fits : {ends : List ℕ} → ends ≡ endsIn B → getD ends 0 0 ≤ room
-  fits ee = rw ee (k .room-enough)
-
   -- the index is of the register that was read
-  pub settled-by : {index : List ℕ} (j : Judged image items index) (t : Requirement) (old new : List ℕ) (r : Bool) → Settled (j .register) t item old new r
+  pub settled-by : {index : List ℕ} (j : Judged image items index) (t : Requirement) (item : ℕ) (old new : List ℕ) (r : Bool) → Settled (j .register) t item old new r
       → Settled (k .posed .graph .register) t item old new r
-  settled-by j t old new r s =
+  settled-by j t item old new r s =
       subst (λ (g : Register). Settled g t item old new r) (one-register j (k .posed .graph .register) (k .posed .graph .read)) s

@@ -4,8 +4,9 @@ use meaning::Side;
 use register::Reading;
 use requirement::Message;
 ghost use mathlib.Core.Path.{_≡_};
-ghost use Prim.Native.Nat.{_≤_};
-ghost use lib.ListN.{length};
+ghost use Prim.Native.Nat.{_≤_, _<_};
+ghost use lib.ListN.{length, getD};
+ghost use Rattle.rows.specs.Packed.{endsIn};
 ghost use Rattle.meeting.specs.Required.{Settled};
 ghost use Rattle.deciding.specs.Answers.{refusedCall};
 ghost use Rattle.deciding.specs.BothRead.{Imaged, BothRead};
@@ -84,9 +85,9 @@ fn decide_read(
     item: usize,
     map: &mut [u16],
 ) -> bool
-    requires { ⌜ BothRead (now image) items links (now message) (now packed) parts item (length (now map)) ⌝ }
-    requires { ⌜ 144 ≤ length (now packed) ⌝ }
-    ensures { λ r. ⌜ ((k : BothRead (now (image .entry)) items links (now (message .entry)) (now (packed .entry)) parts item (length (now (map .entry))))
+    requires { ⌜ BothRead (now image) items links (now message) (now packed) parts ⌝ }
+    requires { ⌜ (144 ≤ length (now packed)) × (item < items) × (getD (endsIn (now packed)) 0 0 ≤ length (now map)) ⌝ }
+    ensures { λ r. ⌜ ((k : BothRead (now (image .entry)) items links (now (message .entry)) (now (packed .entry)) parts)
         → Settled (k .posed .graph .register) (k .requirement) item (now (map .entry)) (now (map .exit)) r) ⌝ }
 {
     let names = rows::names(packed);

@@ -1,6 +1,7 @@
 pub mod Digits
 pub mod Members
 pub mod Empty
+pub mod All
 pub mod Spans
 pub mod Rising
 pub mod Runs

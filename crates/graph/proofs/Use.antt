@@ -27,6 +27,20 @@ pub asked-link : {s : List ℕ} {items links : ℕ} → OfSize s items links →
     → Asked s (λ g. (items ≡ length (g .names)) × (k < length (g .links)))
 asked-link a k l = record { register = a .register; read = a .read; holds = (a .holds .0, omega (arith, a .holds .1)) }
 
+link-inside : (n : ℕ) (before : Option Link) (ls : List Link) (l : Link) → T (linksOf n before ls) → List·Memᴰ l ls → l .to < n
+link-inside n before [] l w m = elim m [ ]
+link-inside n before (x ∷ ls) l w m = go (List·Memᴰ·cases-cons m) (λ k. link-inside n (some x) ls l (right n before x ls w .1) k)
+  where
+    go : (l ≡ x) ⊎ List·Memᴰ l ls → (List·Memᴰ l ls → l .to < n) → l .to < n
+    go (inl e) h = subst (λ (z : Link). z .to < n) (sym e) (right n before x ls w .0 .to)
+    go (inr k) h = h k
+
+-- the successors of an item are items
+pub successor-inside : (s : List ℕ) (items : ℕ) (g : Register) → readBuffer s ≡ good g → items ≡ length (g .names) → Bytes s → (x r y : ℕ) → List·Memᴰ y (judged g .next x r)
+    → y < items
+successor-inside s items g h e b x r y m =
+    rw e (link-inside (length (g .names)) nowhere (g .links) (link x r y) (image-fits s g b h .0 .rising) (targets-links (g .links) x r y .0 m))
+
 module _ {s : List ℕ} {items : ℕ} {index : List ℕ} (j : Judged s items index) where
   pub one-register : (g : Register) → readBuffer s ≡ good g → j .register ≡ g
   one-register g h = let z : good (j .register) ≡ good g = sym (j .read) ∙ h in cc
@@ -40,15 +54,5 @@ module _ {s : List ℕ} {items : ℕ} {index : List ℕ} (j : Judged s items ind
   pub asked-links : {end : ℕ} → end ≤ length (j .register .links) → Asked s (λ g. (items ≡ length (g .names)) × (end ≤ length (g .links)))
   asked-links l = record { register = j .register; read = j .read; holds = (j .items-are, l) }
 
-  link-inside : (n : ℕ) (before : Option Link) (ls : List Link) (l : Link) → T (linksOf n before ls) → List·Memᴰ l ls → l .to < n
-  link-inside n before [] l w m = elim m [ ]
-  link-inside n before (x ∷ ls) l w m = go (List·Memᴰ·cases-cons m) (λ k. link-inside n (some x) ls l (right n before x ls w .1) k)
-    where
-      go : (l ≡ x) ⊎ List·Memᴰ l ls → (List·Memᴰ l ls → l .to < n) → l .to < n
-      go (inl e) h = subst (λ (z : Link). z .to < n) (sym e) (right n before x ls w .0 .to)
-      go (inr k) h = h k
-
   pub next-inside : Bytes s → (x r y : ℕ) → List·Memᴰ y (judged (j .register) .next x r) → y < items
-  next-inside b x r y m =
-      let g = j .register in
-      rw (j .items-are) (link-inside (length (g .names)) nowhere (g .links) (link x r y) (image-fits s g b (j .read) .0 .rising) (targets-links (g .links) x r y .0 m))
+  next-inside = successor-inside s items (j .register) (j .read) (j .items-are)

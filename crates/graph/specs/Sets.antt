@@ -4,7 +4,7 @@ use mathlib.Core.Path.{_≡_}
 use mathlib.Core.Bool.{Bool, true, false, _||_}
 use mathlib.Core.List.{List, List·Memᴰ}
 use Prim.Native.Nat.{ℕ, _/_, _%_, _≤_, _<_}
-use lib.Dec.{eqb}
+use lib.Dec.{eqb, ltb}
 use lib.ListN.{getD}
 use Rattle.meaning.specs.Bounds.{mostItems}
 use Rattle.meaning.specs.Names.{has}
@@ -16,6 +16,10 @@ inSet set x = has (getD set (x / 64) 0) (x % 64)
 -- all members are among the first so many items
 abbrev pub Among : ℕ → List ℕ → Type 0
 Among items set = (x : ℕ) → inSet set x ≡ true → x < items
+
+-- the first so many items, and no other
+pub record All (items : ℕ) (set : List ℕ) : Type 0 where
+  pub has : (x : ℕ) → inSet set x ≡ ltb x items
 
 -- r is the least member from `from` on, or the count of all items there may be
 pub record Next (set : List ℕ) (from r : ℕ) : Type 0 where

@@ -5,7 +5,7 @@ ghost use mathlib.Core.Bool.{true};
 ghost use Prim.Native.Nat.{ℕ, _*_, _≤_, _<_};
 ghost use lib.ListN.{length};
 ghost use Rattle.meaning.specs.Bounds.{mostItems};
-ghost use Rattle.graph.specs.Sets.{inSet, Next, With, Without};
+ghost use Rattle.graph.specs.Sets.{inSet, All, Next, With, Without};
 
 // Whether an item is in a set.
 pub fn contains(set: &[u64], x: usize) -> bool
@@ -22,6 +22,18 @@ pub fn include(set: &mut [u64], x: usize)
 {
     let w = x / 64;
     set[w] = set[w] | (1u64 << (x % 64));
+}
+
+// Puts the first so many items into an empty set.
+pub fn include_all(items: usize, set: &mut [u64])
+    requires { ⌜ (items ≤ mostItems) × (length (now set) ≡ 8) × All 0 (now set) ⌝ }
+    ensures { λ _. ⌜ All items (now (set .exit)) ⌝ }
+{
+    let mut i = 0;
+    while i < items {
+        include(set, i);
+        i += 1;
+    }
 }
 
 // Takes an item out of a set that has it.

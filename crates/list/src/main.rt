@@ -1,35 +1,15 @@
 // The listing program: reads one register and then one requirement from standard input, and prints a line for each item.
-// All that is printed is worked out by `listing::plan` and `entries::row`, whose promises name every byte; what stands here is reading and writing.
+// All that is printed is worked out by `listing::plan`, `ratings::row` and `verdicts::row`, whose promises name every byte; what stands here is
+// reading and writing.
 // Where either fails, one line on standard error says so: the kit has no exit status.
+mod graded;
+mod members;
 mod standard;
 
 ghost use mathlib.Core.Path.{_≡_};
 ghost use Prim.Native.Nat.{_+_, _≤_};
 ghost use lib.ListN.{length};
 ghost use Rattle.listing.specs.Listing.{mostInput};
-
-// Prints the row of one item, and says whether it could.
-fn print_row(input: &[u8], end: usize, degrees: bool, item: usize) -> bool
-    requires { ⌜ end ≤ length (now input) ⌝ }
-{
-    let mut line = [0u8; lines::ROOM];
-    let k = entries::row(&mut line, input, end, degrees, item);
-    io::write_all(libc::STDOUT_FILENO, &line[..k])
-}
-
-// Prints the rows, up to the first that cannot be written.
-fn print_rows(input: &[u8], end: usize, degrees: bool, rows: usize) -> bool
-    requires { ⌜ end ≤ length (now input) ⌝ }
-{
-    let mut i = 0;
-    while i < rows {
-        if !print_row(input, end, degrees, i) {
-            return false;
-        }
-        i += 1;
-    }
-    true
-}
 
 // Prints the listing of the input, of which so many bytes stand at the front of the buffer.
 fn print(buffer: &[u8], count: usize) -> bool
@@ -41,7 +21,13 @@ fn print(buffer: &[u8], count: usize) -> bool
     if !io::write_all(libc::STDOUT_FILENO, &line[..first]) {
         return false;
     }
-    print_rows(&buffer[..count], p.end, p.degrees, p.rows)
+    if p.rows == 0 {
+        return true;
+    }
+    if p.degrees {
+        return graded::print(&buffer[..count], p.end, p.rows);
+    }
+    members::print(&buffer[..count], p.end, p.rows)
 }
 
 fn main() {

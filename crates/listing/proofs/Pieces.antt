@@ -13,7 +13,7 @@ use Rattle.meaning.specs.Bounds.{mostItems}
 use Rattle.meaning.proofs.Tests.{holds}
 use Rattle.meaning.proofs.Reading.{le-of-not-below}
 use Rattle.fields.proofs.Once.{itself, once}
-use Rattle.entries.proofs.Begins.{begins-as}
+use Rattle.lines.proofs.Begins.{begins-as}
 use Rattle.listing.specs.declared.Outline.{Outline}
 use Rattle.listing.specs.Listing.{rowOf, lines, listingOf, printed, registerEnd, tooLong, mostInput, listing}
 use Rattle.listing.specs.Pieces.{Begins, Opens, Planned}

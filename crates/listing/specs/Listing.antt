@@ -12,7 +12,7 @@ use Rattle.meaning.specs.Message.{Part, readRequirement}
 use Rattle.meaning.specs.Calls.{degreeCall}
 use Rattle.meaning.specs.Bounds.{mostNodes}
 use Rattle.lines.specs.Lines.{refusalLine}
-pub use Rattle.entries.specs.Entries.{degreeRow, memberRow, rowOf}
+pub use Rattle.lines.specs.Entries.{degreeRow, memberRow, rowOf}
 
 -- ---- the words, in bytes
 

@@ -5,7 +5,7 @@ use mathlib.Core.List.{List, _++_}
 use Prim.Native.Nat.{ℕ, _≤_}
 use lib.ListN.{length, take, drop}
 use Rattle.meaning.specs.Bounds.{mostItems}
-pub use Rattle.entries.specs.Entries.{Begins}
+pub use Rattle.lines.specs.Entries.{Begins}
 use Rattle.listing.specs.declared.Outline.{Outline}
 use Rattle.listing.specs.Listing.{rowOf, lines, listing}
 

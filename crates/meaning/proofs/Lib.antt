@@ -6,6 +6,7 @@ pub mod Stores
 -- Reading and writing: laws, register images, requirement messages
 pub mod Reading
 pub mod Decided
+pub mod ListRows
 pub mod Head
 pub mod Image
 pub mod FractionRows
@@ -49,6 +50,7 @@ pub mod Member
 pub mod Places
 pub mod Picked
 pub mod Kept
+pub mod Table
 pub mod Shown
 pub mod YesShown
 pub mod Answers

@@ -20,7 +20,8 @@ use Rattle.meaning.specs.Message.{Spot, Part, faultAt, readChildren, rea
 use Rattle.meaning.specs.Lists.{Listed, Limit}
 use Rattle.meaning.specs.Writing.{nodeFits, nodesFit, limitFits, ownFit, listsFit, writeCall}
 use Rattle.meaning.specs.Calls.{firstPart, readPlain, degreeCall, marginCall, memberCall}
-use Rattle.meaning.specs.MayRefuse.{sameSide, oneOf, among, Gives, ofRegister, ofRequirement, ofQuestion, ofDegree, ofMargin, ofMember, ofWriting}
+use Rattle.meaning.specs.Table.{listCall}
+use Rattle.meaning.specs.MayRefuse.{sameSide, oneOf, among, Gives, ofRegister, ofRequirement, ofQuestion, ofDegree, ofMargin, ofMember, ofList, ofWriting}
 use Rattle.meaning.proofs.Tests.{and-both, or-cases, or-left, or-right}
 use Rattle.meaning.proofs.Reading.{not-good}
 use Rattle.meaning.proofs.Decided.{refused-inj}
@@ -197,6 +198,11 @@ pub degree-gives : (image message : List ℕ) (item room : ℕ) → Gives ofDegr
 unfolding degreeCall ofQuestion among oneOf sameSide
 degree-gives image message item room =
     asks (15 ∷ 16 ∷ []) image (readPlain message) (plain-gives message) (λ g t. gives-then _ _ (gives-test _ _ _ tt) (gives-then _ _ (gives-test _ _ _ tt) (gives-good _ _)))
+
+pub list-gives : (image message : List ℕ) (room : ℕ) → Gives ofList (listCall image message room)
+unfolding listCall ofQuestion among oneOf sameSide
+list-gives image message room =
+    asks (16 ∷ []) image (readPlain message) (plain-gives message) (λ g t. gives-then _ _ (gives-test _ _ _ tt) (gives-good _ _))
 
 -- 13 is none of the margin's own numbers
 pub margin-gives : (image message : List ℕ) (item p q : ℕ) → Gives ofMargin (marginCall image message item p q)

@@ -15,14 +15,15 @@ use Rattle.meaning.specs.Fraction.{gcd, lowest, wrongWith}
 use Rattle.meaning.specs.Register.{targets, itemsBytes, linksBytes, readItems, readLink, readLinks, readBody, readRegisterBy, readRegister, readBuffer}
 use Rattle.meaning.specs.Register.{encode as image}
 use Rattle.meaning.specs.Whole.{any, meetsBy}
-use Rattle.meaning.specs.Reduce.{dropped, keptOf, reduce, size, scale}
+use Rattle.meaning.specs.Reduce.{dropped, keptOf, kept, reduce, size, scale}
 use Rattle.meaning.specs.Degree.{best, degree}
 use Rattle.meaning.specs.Requirement.{every, plain}
 use Rattle.meaning.specs.Message.{conceptBytes, nodeBytes, thresholdsBytes, readChildren, readNode, noThresholds, readThreshold, readThresholds, withThresholds, readRequirement}
 use Rattle.meaning.specs.Message.{encode as message}
 use Rattle.meaning.specs.Shown.{shown, yesBy}
 use Rattle.meaning.specs.Calls.{readPlain, degreeCall, marginCall, memberCall}
-use Rattle.meaning.specs.Sheet.{R1, Q1, leaf, allTrue}
+use Rattle.meaning.specs.Table.{trees, upTo, rowsOf, Tabled, listCall}
+use Rattle.meaning.specs.Sheet.{R1, Q1, leaf, two, sameList, allTrue}
 unfoldable pub use Rattle.meaning.specs.MayRefuse.{sameSide}
 
 unfoldable pub is : {A : Type 0} → Side → ℕ → ℕ → Answer A → Bool
@@ -164,8 +165,13 @@ wideAsked : List ℕ
 unfolding wide asked fan
 wideAsked = headed (bytes 8 0 ++ (1 ∷ 31 ∷ []) ++ asked (bytes 10 0) ++ Rattle.meaning.specs.Message.childrenBytes (λ a. a) (λ a. 0) (λ a. []) (fan 31))
 
+-- the list's answer: items, written nodes, scale, table
+unfoldable pub isTabled : ℕ → ℕ → ℕ → List ℕ → Answer Tabled → Bool
+isTabled n k d l (good a) = eqb (a .items) n && eqb (a .nodes) k && eqb (a .scale) d && sameList (a .table) l
+isTabled n k d l (refused r) = false
+
 pub calls : List Bool
-unfolding is root wide wideAsked
+unfolding is isTabled root wide wideAsked
 calls =
     -- the register, the requirement, 11, 14, 15, 16
     is register 1 0 (degreeCall [] [] 9 0)
@@ -187,12 +193,23 @@ calls =
     ∷ is requirement 1 0 (memberCall R1 [] 9 0)
     ∷ is call 15 0 (memberCall R1 wideAsked 3 0)
     ∷ is call 16 0 (memberCall R1 wideAsked 2 31)
+    -- the list: the register, the requirement, 11, 14, 16; two nodes at three items are six places
+    ∷ is register 1 0 (listCall [] [] 0)
+    ∷ is requirement 1 0 (listCall R1 [] 0)
+    ∷ is requirement 11 13 (listCall R1 wideAsked 0)
+    ∷ is requirement 14 3 (listCall R1 (message (plain wide)) 0)
+    ∷ is call 16 0 (listCall R1 Q1 5)
+    ∷ isTabled 3 2 3 (2 ∷ 1 ∷ 1 ∷ 1 ∷ 1 ∷ 0 ∷ []) (listCall R1 Q1 6)
+    -- a dropped node's row is 0, and so is that of each below it; each kept node's is over its own scale
+    ∷ isTabled 3 3 2 (1 ∷ 0 ∷ 0 ∷ 0 ∷ 0 ∷ 0 ∷ 1 ∷ 1 ∷ 1 ∷ []) (listCall R1 (message (plain (two 0 (leaf 2) 0 (leaf 6)))) 9)
+    ∷ isTabled 3 5 2 (1 ∷ 0 ∷ 0 ∷ 0 ∷ 0 ∷ 0 ∷ 0 ∷ 0 ∷ 0 ∷ 2 ∷ 1 ∷ 0 ∷ 1 ∷ 1 ∷ 1 ∷ [])
+    (listCall R1 (message (plain (two 0 (node 0 (more 1 (leaf 0) none)) 0 (node 2 (more 1 (leaf 0) none))))) 16)
     ∷ []
 
 pub orders : T (allTrue (registers ++ messages ++ calls))
 unfolding
-    registers messages calls is sameSide root asked limited repeat empty chain fan wide wideAsked oneItem linkBytes R1 Q1
-    allTrue degreeCall marginCall memberCall readPlain readRequirement readRegisterBy readBody readItems readLink readLinks readHead number bytes fields headed
+    registers messages calls is isTabled sameSide root asked limited repeat empty chain fan wide wideAsked oneItem linkBytes R1 Q1
+    allTrue sameList degreeCall marginCall memberCall listCall rowsOf upTo trees kept readPlain readRequirement readRegisterBy readBody readItems readLink readLinks readHead number bytes fields headed
     image message nodeBytes thresholdsBytes itemsBytes linksBytes readNode readChildren noThresholds readThreshold readThresholds withThresholds shown yesBy degree best lowest gcd wrongWith
     reduce keptOf dropped size scale meetsBy any every targets count under nodes relabel ones refuseIf _>>=_ _>>_
 orders = tt

@@ -2,12 +2,15 @@
 -- that it is the degree of Degree.antt is a theorem (proofs/InPlace.antt).
 -- Assumes nothing.
 use mathlib.Core.Bool.{cond}
+use mathlib.Core.List.{List, [], _++_}
 use Prim.Native.Nat.{ℕ, _+_, _*_, max}
+use lib.ListN.{replicate}
 use Rattle.meaning.specs.Names.{names, common}
-use Rattle.meaning.specs.Tree.{node, Forest, none, more, Concept, under}
+use Rattle.meaning.specs.Tree.{node, Forest, none, more, Concept, under, nodes}
 use Rattle.meaning.specs.Graph.{Graph}
 use Rattle.meaning.specs.Reduce.{dropped}
 use Rattle.meaning.specs.Degree.{orOne, best}
+use Rattle.meaning.specs.Table.{upTo}
 
 -- of the children f, before which the children b are written: how many are kept
 unfoldable pub countIn : Forest ℕ → Forest ℕ → ℕ
@@ -47,3 +50,15 @@ module _ {N : Type 0} (G : Graph N) where
     degreeInF (more r t f) b x =
         cond (dropped (under r b) t (under r f)) (degreeInF f (more r t b) x)
         (best (λ y. degreeIn t y) (G .next x r) * scaleInF f (more r t b) + scaleIn t * degreeInF f (more r t b) x)
+
+-- the table of a list (document 02, §3), over the tree as it is written
+module _ (G : Graph ℕ) (items : ℕ) where
+  unfoldable mutual
+    unfolding dropped under nodes upTo
+
+    pub tableIn : Concept → List ℕ
+    tableIn (node a f) = upTo items (λ x. degreeIn G (node a f) x) ++ tableInF f none
+
+    pub tableInF : Forest ℕ → Forest ℕ → List ℕ
+    tableInF none b = []
+    tableInF (more r t f) b = cond (dropped (under r b) t (under r f)) (replicate (nodes t * items) 0) (tableIn t) ++ tableInF f (more r t b)

@@ -19,6 +19,8 @@ pub mod Rows
 pub mod Session
 pub mod Refusing
 pub mod Calls
+pub mod Table
+pub mod ListRows
 pub mod Lists
 pub mod Writing
 pub mod WriteRows

@@ -57,6 +57,10 @@ ofMargin = ofQuestion (15 ∷ 23 ∷ 24 ∷ 25 ∷ [])
 abbrev pub ofMember : Refusal → Bool
 ofMember = ofQuestion (15 ∷ 16 ∷ [])
 
+-- document 02, §3: "The call takes no item"
+abbrev pub ofList : Refusal → Bool
+ofList = ofQuestion (16 ∷ [])
+
 -- writing: "7, 9, 10 and 12 to 14 as in reading, after 22 and before 21, all on the call's side", and §2's
 abbrev pub ofWriting : Refusal → Bool
 ofWriting = among call (7 ∷ 9 ∷ 10 ∷ 12 ∷ 13 ∷ 14 ∷ 21 ∷ 22 ∷ 23 ∷ 24 ∷ 25 ∷ [])

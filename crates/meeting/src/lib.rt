@@ -20,7 +20,7 @@ fn next_row(set: &[u64], next: usize, end: usize) -> usize
 }
 
 // Of a set stay the items that meet the tree at a node, and the table notes what stays at the node and at each below it.
-fn meet(
+pub fn meet(
     s: &[u8],
     items: usize,
     index: &[u16],

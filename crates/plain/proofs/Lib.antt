@@ -1,2 +1,3 @@
 pub mod ReadPlain
 pub mod ReadBoth
+pub mod Known

@@ -63,7 +63,7 @@ fn fill_dropped(map: &mut [u16], from: usize, to: usize)
 }
 
 // Writes the map of the tree at a node that goes to `item`, or nowhere where that is 65535: its own place, then each child's.
-fn show(
+pub fn show(
     s: &[u8],
     items: usize,
     index: &[u16],

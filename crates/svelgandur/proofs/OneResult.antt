@@ -6,7 +6,7 @@ use mathlib.Core.List.{List}
 use Prim.Native.Nat.{ℕ}
 use Rattle.meaning.specs.declared.Fact.{Fact}
 use Rattle.fields.proofs.Once.{itself, once, once-left}
-use Rattle.svelgandur.specs.Promises.{RegisterPromise, RequirementPromise, InnerPromise, WritePromise, DegreePromise, MarginPromise, MemberPromise}
+use Rattle.svelgandur.specs.Promises.{RegisterPromise, RequirementPromise, InnerPromise, WritePromise, DegreePromise, ListPromise, MarginPromise, MemberPromise}
 use Rattle.svelgandur.specs.Promises.{OpenPromise, EditPromise, UndoPromise, KeepPromise}
 
 -- numbers stand for themselves, and so does what is lent
@@ -36,6 +36,9 @@ module _ {l k : List ℕ} where
     pub one-degree : (image message : List ℕ) (item : ℕ) (old : List ℕ) → DegreePromise image message item old new l
         → DegreePromise image message item old new′ k → (l ≡ k) × (new ≡ new′)
     one-degree image message item old = numbers-left _ _ _ _ _ _
+
+    pub one-list : (image message old : List ℕ) → ListPromise image message old new l → ListPromise image message old new′ k → (l ≡ k) × (new ≡ new′)
+    one-list image message old = numbers-left _ _ _ _ _ _
 
     pub one-member : (image message : List ℕ) (item : ℕ) (old : List ℕ) → MemberPromise image message item old new l
         → MemberPromise image message item old new′ k → (l ≡ k) × (new ≡ new′)

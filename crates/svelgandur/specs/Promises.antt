@@ -10,16 +10,18 @@ use Rattle.meaning.specs.Register.{readRegisterBy}
 use Rattle.meaning.specs.Message.{readRequirement}
 use Rattle.meaning.specs.Calls.{degreeCall, afterDegree, marginCall, memberCall, afterMember}
 use Rattle.meaning.specs.Session.{openCall, editCall, undoCall, keepCall, noSteps, counted, bufferOpened, bufferAfter}
+use Rattle.meaning.specs.Table.{listCall, afterList}
 use Rattle.meaning.specs.Writing.{writeCall, afterWrite}
 use Rattle.fields.specs.Head.{wrongIn}
 use Rattle.register.specs.Reading.{counted as countedItems}
 use Rattle.parts.specs.Inner.{innerPlace}
 use Rattle.asking.specs.Answers.{told}
+use Rattle.tabling.specs.Answers.{told as listTold}
 use Rattle.deciding.specs.Answers.{said}
 use Rattle.session.specs.Calls.{anEdit}
 use Rattle.writer.specs.Promise.{long}
 use Rattle.numbered.specs.Coded.{decoded, numbersAfter}
-use Rattle.answers.specs.Numbers.{numbers, counts, isSession, written, placeNumbers, degreeNumbers, marginNumbers, verdicts, inUse}
+use Rattle.answers.specs.Numbers.{numbers, counts, isSession, written, placeNumbers, degreeNumbers, listNumbers, marginNumbers, verdicts, inUse}
 
 -- ---- reading
 
@@ -38,11 +40,15 @@ abbrev pub WritePromise : List ℕ → List ℕ → List ℕ → List ℕ → Li
 WritePromise nodes hs inner old new l =
     (l ≡ numbers inUse (long (writeCall nodes hs inner (length old)))) × (new ≡ afterWrite old (writeCall nodes hs inner (length old)))
 
--- ---- asking, with the map before and after
+-- ---- asking, with the map or the table before and after
 
 abbrev pub DegreePromise : List ℕ → List ℕ → ℕ → List ℕ → List ℕ → List ℕ → Type 0
 DegreePromise image message item old new l =
     (l ≡ numbers degreeNumbers (told (degreeCall image message item (length old)))) × (new ≡ afterDegree old (degreeCall image message item (length old)))
+
+abbrev pub ListPromise : List ℕ → List ℕ → List ℕ → List ℕ → List ℕ → Type 0
+ListPromise image message old new l =
+    (l ≡ numbers listNumbers (listTold (listCall image message (length old)))) × (new ≡ afterList old (listCall image message (length old)))
 
 abbrev pub MarginPromise : List ℕ → List ℕ → ℕ → ℕ → ℕ → List ℕ → Type 0
 MarginPromise image message item p q l = l ≡ numbers marginNumbers (marginCall image message item p q)

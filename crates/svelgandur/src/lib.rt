@@ -5,6 +5,7 @@ use answers;
 
 mod asks;
 mod trial;
+mod whole_list;
 mod writes;
 pub mod yes_no;
 

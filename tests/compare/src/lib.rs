@@ -15,6 +15,7 @@
 //! | `worst` | the costliest registers and requirements |
 //! | `degrees` | the degree of an item, its map and its margin |
 //! | `members` | the yes or no for an item, and its map |
+//! | `lists` | the whole list, and its table |
 //! | `steps` | a step of a session as a number of the log |
 //! | `sessions` | open, edit, undo and keep |
 
@@ -22,6 +23,7 @@ pub mod degrees;
 pub mod fence;
 pub mod header;
 pub mod library;
+pub mod lists;
 pub mod members;
 pub mod painted;
 pub mod part;
@@ -37,11 +39,12 @@ pub mod writings;
 use part::Part;
 
 /// A further part is a module of its own and a line here.
-pub const PARTS: [Part; 6] = [
+pub const PARTS: [Part; 7] = [
     registers::PART,
     requirements::PART,
     writings::PART,
     degrees::PART,
     members::PART,
+    lists::PART,
     sessions::PART,
 ];

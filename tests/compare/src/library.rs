@@ -5,7 +5,7 @@
 pub type Answer = [u64; 4];
 
 /// The declarations of the header, to hold it to what is called here.
-pub const DECLARATIONS: [&str; 12] = [
+pub const DECLARATIONS: [&str; 13] = [
     "void svelgandur_read_register(\
     const uint8_t *image, size_t image_length, uint64_t session, uint64_t answer[4])",
     "void svelgandur_read_requirement(\
@@ -26,6 +26,9 @@ pub const DECLARATIONS: [&str; 12] = [
     "void svelgandur_member(\
     const uint8_t *image, size_t image_length, const uint8_t *message, size_t message_length, \
     uint64_t item, uint16_t *map, size_t map_length, uint64_t answer[4])",
+    "void svelgandur_list(\
+    const uint8_t *image, size_t image_length, const uint8_t *message, size_t message_length, \
+    uint32_t *table, size_t table_length, uint64_t answer[4])",
     "void svelgandur_open(\
     uint8_t *buffer, size_t buffer_length, uint64_t answer[4])",
     "void svelgandur_edit_name(\
@@ -85,6 +88,15 @@ extern "C" {
         item: u64,
         map: *mut u16,
         map_length: usize,
+        answer: *mut u64,
+    );
+    fn svelgandur_list(
+        image: *const u8,
+        image_length: usize,
+        message: *const u8,
+        message_length: usize,
+        table: *mut u32,
+        table_length: usize,
         answer: *mut u64,
     );
     fn svelgandur_open(buffer: *mut u8, length: usize, answer: *mut u64);
@@ -217,6 +229,20 @@ pub fn member(image: &[u8], message: &[u8], item: u64, map: &mut [u16]) -> Answe
             item,
             map.as_mut_ptr(),
             map.len(),
+            answer,
+        )
+    })
+}
+
+pub fn list(image: &[u8], message: &[u8], table: &mut [u32]) -> Answer {
+    answered(|answer| unsafe {
+        svelgandur_list(
+            image.as_ptr(),
+            image.len(),
+            message.as_ptr(),
+            message.len(),
+            table.as_mut_ptr(),
+            table.len(),
             answer,
         )
     })

@@ -18,6 +18,7 @@
 //! | `session` | "Session" |
 //! | `model` | what a session means, kept as sets and a history |
 //! | `writing` | §1 of document 02 |
+//! | `list` | §3 of document 02 |
 //! | `listing` | the listing program of "Sheet of examples" |
 //! | `gen` | seeded inputs, good and damaged |
 
@@ -28,6 +29,7 @@ pub mod degree;
 pub mod field;
 pub mod fraction;
 pub mod gen;
+pub mod list;
 pub mod listing;
 pub mod member;
 pub mod model;

@@ -6,15 +6,16 @@ use Rattle.asking.proofs.degree_of.Tie as tie
 use native.Mathlib.Omega.{arith}
 use Rattle.fields.proofs.Known.{bytes-known}
 use Rattle.shown.proofs.Entry.{graded-fits}
-use Rattle.asking.proofs.Calls.{degree-stopped, Known, known, gradable, room, degree-no-item, degree-no-room, degree-answer}
+use Rattle.asking.proofs.Calls.{degree-stopped, gradable, room, degree-no-item, degree-no-room, degree-answer}
+use Rattle.plain.proofs.Known.{Known, known}
 
 abbrev began : tie.After-b → tie.Start
 began c = c .before .before .before .before .before .before .before .before .before .before
 
 -- a register and a requirement that were read
 read : (c : tie.After-b)
-    → Known (began c .args .image .now) (began c .args .message .now) (began c .args .item) _ _ (c .before .before .read-both .ensures) _ _ _ (c .b .given .1)
-read c = known _ _ _ _ _ _ _ _ _ _ (bytes-known (began c .args .image .now) (c .before .before .before .before .before .before .before .before .before .shared-slice-known .given))
+    → Known (began c .args .image .now) (began c .args .message .now) _ _ (c .before .before .read-both .ensures) _ _ _ (c .b .given .1)
+read c = known _ _ _ _ _ _ _ _ _ (bytes-known (began c .args .image .now) (c .before .before .before .before .before .before .before .before .before .shared-slice-known .given))
 
 returns : tie.Need-returns
 returns c =
@@ -29,11 +30,11 @@ shown-at-requires c κs =
     let at-if2 = c .before .before .before .before .before in
     let at-if1 = at-if2 .before in
     let w = read (at-if1 .before .before) in
-    (gradable _ _ _ w, (room _ _ _ w (omega (arith, at-if2 .if2 .left)), omega (arith, at-if1 .if1 .left)))
+    (gradable w, (room w (omega (arith, at-if2 .if2 .left)), omega (arith, at-if1 .if1 .left)))
 
 lowest-requires : tie.Need-lowest-requires
 lowest-requires c κs =
-    let k = gradable _ _ _ (read (c .before .before .before .before .before .before .before .before .before .before .before)) in
+    let k = gradable (read (c .before .before .before .before .before .before .before .before .before .before .before)) in
     graded-fits (k .posed .graph .register) (k .tree) _ _ (c .before .before .shown-at .ensures k .0) .0
 
 returns-3 : tie.Need-returns-3
@@ -42,7 +43,7 @@ returns-3 c =
     let at-if2 = at-shown-at .before .before .before .before .before .before in
     let at-if1 = at-if2 .before in
     let w = read (at-if1 .before .before) in
-    let d = at-shown-at .shown-at .ensures (gradable _ _ _ w) in
+    let d = at-shown-at .shown-at .ensures (gradable w) in
     degree-answer _ _ _ w (omega (arith, at-if1 .if1 .left)) _ _ (omega (arith, at-if2 .if2 .left)) _ _ (d .0) (c .lowest .ensures) (d .1)
 
 returns-4 : tie.Need-returns-4

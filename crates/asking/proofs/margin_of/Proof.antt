@@ -6,15 +6,16 @@ use Rattle.asking.proofs.margin_of.Tie as tie
 use native.Mathlib.Omega.{arith}
 use Rattle.fields.proofs.Known.{bytes-known}
 use Rattle.shown.proofs.Entry.{graded-fits}
-use Rattle.asking.proofs.Calls.{margin-stopped, Known, known, gradable, margin-no-item, margin-no-threshold, margin-small, margin-answer}
+use Rattle.asking.proofs.Calls.{margin-stopped, gradable, margin-no-item, margin-no-threshold, margin-small, margin-answer}
+use Rattle.plain.proofs.Known.{Known, known}
 
 abbrev began : tie.After-b → tie.Start
 began c = c .before .before .before .before .before .before .before .before .before
 
 -- a register and a requirement that were read
 read : (c : tie.After-b)
-    → Known (began c .args .image .now) (began c .args .message .now) (began c .args .item) _ _ (c .before .before .read-both .ensures) _ _ _ (c .b .given .1)
-read c = known _ _ _ _ _ _ _ _ _ _ (bytes-known (began c .args .image .now) (c .before .before .before .before .before .before .before .before .shared-slice-known .given))
+    → Known (began c .args .image .now) (began c .args .message .now) _ _ (c .before .before .read-both .ensures) _ _ _ (c .b .given .1)
+read c = known _ _ _ _ _ _ _ _ _ (bytes-known (began c .args .image .now) (c .before .before .before .before .before .before .before .before .shared-slice-known .given))
 
 returns : tie.Need-returns
 returns c =
@@ -29,11 +30,11 @@ returns-2 c =
 degree-at-requires : tie.Need-degree-at-requires
 degree-at-requires c κs =
     let at-if1 = c .before .before .before .before .before .before in
-    (gradable _ _ _ (read (at-if1 .before .before)), omega (arith, at-if1 .if1 .left))
+    (gradable (read (at-if1 .before .before)), omega (arith, at-if1 .if1 .left))
 
 lowest-requires : tie.Need-lowest-requires
 lowest-requires c κs =
-    let k = gradable _ _ _ (read (c .before .before .before .before .before .before .before .before .before)) in
+    let k = gradable (read (c .before .before .before .before .before .before .before .before .before)) in
     graded-fits (k .posed .graph .register) (k .tree) _ _ (c .degree-at .ensures k) .0
 
 against-requires : tie.Need-against-requires
@@ -41,7 +42,7 @@ against-requires c κs =
     let at-if2 = c .before .before .before .before .before .before in
     let at-wrong = at-if2 .before in
     let w = read (at-wrong .before .before .before) in
-    margin-small _ _ _ w _ _ _ (at-wrong .wrong .ensures) (at-if2 .if2 .left) _ _ (c .before .degree-at .ensures (gradable _ _ _ w)) (c .lowest .ensures)
+    margin-small _ _ _ w _ _ _ (at-wrong .wrong .ensures) (at-if2 .if2 .left) _ _ (c .before .degree-at .ensures (gradable w)) (c .lowest .ensures)
 
 returns-3 : tie.Need-returns-3
 returns-3 c =
@@ -50,7 +51,7 @@ returns-3 c =
     let at-wrong = at-if2 .before in
     let at-if1 = at-wrong .before in
     let w = read (at-if1 .before .before) in
-    let graded = at-degree-at .degree-at .ensures (gradable _ _ _ w) in
+    let graded = at-degree-at .degree-at .ensures (gradable w) in
     margin-answer _ _ _ w _ _ _ (at-wrong .wrong .ensures) (at-if2 .if2 .left) _ _ graded (c .before .before .lowest .ensures) (omega (arith, at-if1 .if1 .left))
     _ (c .before .against .ensures .0) (c .before .against .ensures .1)
 

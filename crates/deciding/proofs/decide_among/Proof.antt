@@ -7,7 +7,7 @@ use mathlib.Core.Bool.{true, false}
 use native.Mathlib.Omega.{arith}
 use Rattle.meaning.specs.Bytes.{Bytes}
 use Rattle.fields.proofs.Known.{bytes-known}
-use Rattle.deciding.proofs.Answered.{Understood, understood, message-refused, message-unread, no-item, no-room, both-read, answers}
+use Rattle.deciding.proofs.Answered.{Understood, understood, message-refused, message-unread, no-item, no-room, rows-end, both-read, answers}
 
 -- where the requirement was read: the start, the image's bytes, and what was read
 abbrev start : tie.After-m → tie.Start
@@ -23,9 +23,12 @@ decide-read-requires : tie.Need-decide-read-requires
 decide-read-requires c κs =
     let at-if2 = c .before .before in
     let at-m = at-if2 .before .before .before in (
-      both-read _ _ (start at-m .args .item) (start at-m .args .map .now) (start at-m .pre) (read at-m) (omega (arith, at-if2 .before .if1 .left))
-          (omega (arith, at-if2 .if2 .left)) (bytes at-m),
-      omega (arith, at-m .before .before .before .read-message .kept .1 .0),
+      both-read (start at-m .pre) (read at-m) (bytes at-m),
+      (
+        omega (arith, at-m .before .before .before .read-message .kept .1 .0),
+        omega (arith, at-if2 .before .if1 .left),
+        omega (arith, at-if2 .if2 .left, rows-end (start at-m .pre) (read at-m)),
+      ),
     )
 
 returns-3 : tie.Need-returns-3

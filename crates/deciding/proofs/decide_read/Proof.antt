@@ -9,7 +9,7 @@ use Rattle.fields.proofs.Known.{bytes-known}
 use Rattle.meaning.proofs.Image.{image-fits}
 use Rattle.graph.proofs.Empty.{zero-at}
 use Rattle.meeting.proofs.Settled.{zeros-length}
-use Rattle.deciding.proofs.BothRead.{required, fits, settled-by}
+use Rattle.deciding.proofs.BothRead.{required, settled-by}
 
 fill-index-requires : tie.Need-fill-index-requires
 fill-index-requires c κs =
@@ -28,7 +28,7 @@ settle-requires c κs =
     let ends = f .before .before .ends .ensures in (
       required k (bytes-known (start .args .message .now) (known .shared-slice-known2 .given)) (f .before .before .before .before .names .ensures)
           (f .before .before .before .roles .ensures) ends (f .before .owners .ensures) (f .firsts .ensures) (at-index .fill-index .ensures),
-      (k .inside, fits k ends),
+      (start .pre .1 .1, rw ends (start .pre .1 .2)),
     )
 
 returns : tie.Need-returns
@@ -40,7 +40,7 @@ returns c =
     let b = bytes-known (known .before .before .args .message .now) (known .shared-slice-known2 .given) in
     let j = at-index .fill-index .ensures in
     λ k.
-    settled-by k j _ _ _ _ (at-settle .settle .ensures (required k b (f .before .before .before .before .names .ensures)
+    settled-by k j _ _ _ _ _ (at-settle .settle .ensures (required k b (f .before .before .before .before .names .ensures)
     (f .before .before .before .roles .ensures) (f .before .before .ends .ensures) (f .before .owners .ensures) (f .firsts .ensures) j))
 
 pub decide-read-spec : {M : Type 1} → statement M

@@ -4,7 +4,7 @@ use borrow.Author.Needs.{needs}
 use Rattle.listing.proofs.only.Statement.{statement}
 use Rattle.listing.proofs.only.Tie as tie
 use mathlib.Core.Path.{refl}
-use Rattle.entries.proofs.Begins.{begins}
+use Rattle.lines.proofs.Begins.{begins}
 use native.Mathlib.Omega.{arith}
 
 returns : tie.Need-returns

@@ -5,7 +5,7 @@ use Rattle.listing.proofs.plan.Statement.{statement}
 use Rattle.listing.proofs.plan.Tie as tie
 use mathlib.Core.Path.{refl, sym}
 use lib.Seq.{length-take-le}
-use Rattle.entries.proofs.Begins.{begins}
+use Rattle.lines.proofs.Begins.{begins}
 use Rattle.listing.proofs.Pieces.{planned-long}
 use native.Mathlib.Omega.{arith}
 

@@ -82,51 +82,61 @@ fn inputs() -> Vec<Input> {
 /// An item that every register has or should have.
 const ITEM: u64 = 0;
 
-/// Each call with what it does to one input.
-type Work = fn(&Input, &mut [u8], &mut [u64], &mut [u16]);
+/// What the calls are lent beside an input and its buffer: long enough for all.
+struct Lent {
+    log: [u64; 64],
+    map: [u16; 64],
+    table: Vec<u32>,
+}
 
-const CALLS: [(&str, usize, Work); 12] = [
-    ("read_register", MOST, |input, _, _, _| {
+/// Each call with what it does to one input.
+type Work = fn(&Input, &mut [u8], &mut Lent);
+
+const CALLS: [(&str, usize, Work); 13] = [
+    ("read_register", MOST, |input, _, _| {
         library::read_register(&input.image, 0);
     }),
-    ("read_requirement", MOST, |input, _, _, _| {
+    ("read_requirement", MOST, |input, _, _| {
         library::read_requirement(&input.message);
     }),
-    ("inner_part", MOST, |input, _, _, _| {
+    ("inner_part", MOST, |input, _, _| {
         library::inner_part(&input.message, 15);
     }),
-    ("write_requirement", MOST, |input, buffer, _, _| {
+    ("write_requirement", MOST, |input, buffer, _| {
         let [nodes, thresholds, inner] = &input.lists;
         library::write_requirement([nodes, thresholds, inner], buffer);
     }),
-    ("degree", MOST, |input, _, _, map| {
-        library::degree(&input.image, &input.message, ITEM, map);
+    ("degree", MOST, |input, _, lent| {
+        library::degree(&input.image, &input.message, ITEM, &mut lent.map);
     }),
-    ("margin", MOST, |input, _, _, _| {
+    ("margin", MOST, |input, _, _| {
         library::margin(&input.image, &input.message, ITEM, 2, 3);
     }),
-    ("member", MOST, |input, _, _, map| {
-        library::member(&input.image, &input.message, ITEM, map);
+    ("member", MOST, |input, _, lent| {
+        library::member(&input.image, &input.message, ITEM, &mut lent.map);
     }),
-    ("open", MOST, |_, buffer, _, _| {
+    ("list", MOST, |input, _, lent| {
+        library::list(&input.image, &input.message, &mut lent.table);
+    }),
+    ("open", MOST, |_, buffer, _| {
         library::open(buffer);
     }),
-    ("edit_name", MOST, |_, buffer, log, _| {
-        library::edit_name(buffer, log, 0, 1, ITEM, 63);
+    ("edit_name", MOST, |_, buffer, lent| {
+        library::edit_name(buffer, &mut lent.log, 0, 1, ITEM, 63);
     }),
-    ("edit_link", MOST, |_, buffer, log, _| {
-        library::edit_link(buffer, log, 0, 0, [ITEM, 0, 0]);
-        library::edit_link(buffer, log, 1, 1, [ITEM, 0, 0]);
+    ("edit_link", MOST, |_, buffer, lent| {
+        library::edit_link(buffer, &mut lent.log, 0, 0, [ITEM, 0, 0]);
+        library::edit_link(buffer, &mut lent.log, 1, 1, [ITEM, 0, 0]);
     }),
-    ("undo", MOST, |_, buffer, log, _| {
+    ("undo", MOST, |_, buffer, lent| {
         // The link of item 0 under role 0 to itself: taken away, and put back.
-        log[0] = 2;
-        library::undo(buffer, log, 1);
-        log[0] = 3;
-        library::undo(buffer, log, 1);
+        for step in [2, 3] {
+            lent.log[0] = step;
+            library::undo(buffer, &lent.log, 1);
+        }
     }),
-    ("keep", MOST, |_, buffer, log, _| {
-        library::keep(buffer, log, 64);
+    ("keep", MOST, |_, buffer, lent| {
+        library::keep(buffer, &lent.log, 64);
     }),
 ];
 
@@ -166,11 +176,14 @@ fn used(stack: &Stack, work: Work, inputs: &[Input]) -> usize {
                 (input, buffer)
             })
             .collect();
-        let mut log = [0; 64];
-        let mut map = [0; 64];
+        let mut lent = Lent {
+            log: [0; 64],
+            map: [0; 64],
+            table: vec![0; 64 * 512],
+        };
         stack.used(|| {
             for (input, buffer) in &mut prepared {
-                work(input, buffer, &mut log, &mut map);
+                work(input, buffer, &mut lent);
             }
         })
     });

@@ -1,0 +1,58 @@
+use borrow.Author.Needs.{needs}
+use Rattle.ratings.proofs.row.Statement.{statement}
+use Rattle.ratings.proofs.row.Tie as tie
+use mathlib.Core.Path.{refl, _∙_}
+use native.Mathlib.Omega.{arith}
+use Rattle.lines.proofs.Begins.{begins, begins-as}
+use Rattle.ratings.proofs.Rows.{few, positive, drawing, map-fits, row-is}
+
+pub row-spec : {M : Type 1} → statement M
+row-spec =
+    tie.close
+    (tie.spec
+    (λ c. search needs)
+    (λ c κs.
+    let start = c .before .before .before .before .before .before in
+    (drawing (start .pre .0 .1) _ (start .pre .1 .0), omega (arith, few (start .pre .0 .1))))
+    (λ c. search needs)
+    (λ c κs. search needs)
+    (λ c.
+    let start = c .before .before .before .before .before .before .before .before .before .before in
+    omega (arith, start .pre .1 .0, start .pre .0 .1 .posed .graph .most))
+    (λ c. search needs)
+    (λ c. search needs)
+    (λ c κs. search needs)
+    (λ c κs. positive (c .before .before .before .before .before .before .before .before .before .before .before .before .pre .0 .1))
+    (λ c.
+    let at-octet = c .before .before .before .before in
+    let at-show = at-octet .before .before .before in
+    let start = at-show .before .before .before .before .before .before .before in
+    map-fits (start .pre .0 .1) _ (start .pre .1 .0) _ (at-show .show .last .1 .1 .1 .1 .1 .1 .1 .1 .1 .0) (omega arith) (at-show .show .ensures) _ (at-octet .octet
+    .ensures .0) .0)
+    (λ c.
+    let at-octet = c .before .before .before .before .before in
+    let at-show = at-octet .before .before .before in
+    let start = at-show .before .before .before .before .before .before .before in
+    map-fits (start .pre .0 .1) _ (start .pre .1 .0) _ (at-show .show .last .1 .1 .1 .1 .1 .1 .1 .1 .1 .0) (omega arith) (at-show .show .ensures) _ (at-octet .octet
+    .ensures .0) .2)
+    (λ c κs.
+    let at-octet = c .before .before .before .before .before in
+    let at-show = at-octet .before .before .before in
+    let start = at-show .before .before .before .before .before .before .before in
+    let q = map-fits (start .pre .0 .1) _ (start .pre .1 .0) _ (at-show .show .last .1 .1 .1 .1 .1 .1 .1 .1 .1 .0) (omega arith) (at-show .show .ensures) _ (at-octet
+    .octet .ensures .0) in (omega (arith, start .pre .1 .2), omega (arith, q .1, q .2)))
+    (λ c. search needs)
+    (λ c.
+    let at-put-degree-line = c .before .before in
+    let at-lowest = at-put-degree-line .before .before .before in
+    let at-quad = at-lowest .before in
+    let at-octet = at-quad .before .before in
+    let at-show = at-octet .before .before .before in
+    let start = at-show .before .before .before .before .before .before .before in
+    λ m w. begins-as (row-is w _ (start .pre .1 .0) _ (at-show .show .last .1 .1 .1 .1 .1 .1 .1 .1 .1 .0) (omega arith) (at-show .show .ensures) _ (at-octet .octet
+    .ensures .0) _ _ _ (at-quad .quad .ensures .0) (at-lowest .lowest .ensures)) (begins (at-put-degree-line .put-degree-line .ensures .0) (omega (
+      arith,
+      start .pre .1
+          .2,
+      at-put-degree-line .put-degree-line .ensures .1,
+    )))))

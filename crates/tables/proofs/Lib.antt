@@ -1,0 +1,4 @@
+pub mod Stored
+pub mod Sofar
+pub mod Filling
+pub mod Sorting
