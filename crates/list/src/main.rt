@@ -1,9 +1,7 @@
 // The listing program: reads one register and then one requirement from standard input, and prints a line for each item.
-// All that is printed is worked out by `listing::plan`, `ratings::row` and `verdicts::row`, whose promises name every byte; what stands here is
-// reading and writing.
+// All that is printed is worked out by `listing::plan`, `ratings::row` and `verdicts::row`, whose promises name every byte; what stands here, and in
+// `degree_rows` and `member_rows`, is reading and writing.
 // Where either fails, one line on standard error says so: the kit has no exit status.
-mod graded;
-mod members;
 mod standard;
 
 ghost use mathlib.Core.Path.{_≡_};
@@ -25,9 +23,9 @@ fn print(buffer: &[u8], count: usize) -> bool
         return true;
     }
     if p.degrees {
-        return graded::print(&buffer[..count], p.end, p.rows);
+        return degree_rows::print(&buffer[..count], p.end, p.rows);
     }
-    members::print(&buffer[..count], p.end, p.rows)
+    member_rows::print(&buffer[..count], p.end, p.rows)
 }
 
 fn main() {

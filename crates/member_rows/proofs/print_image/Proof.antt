@@ -1,8 +1,8 @@
--- `list::members::print_image` meets its contract: the image was read.
+-- `member_rows::print_image` meets its contract: the image was read.
 -- Assumes nothing.
 use borrow.Author.Needs.{needs}
-use Rattle.list.proofs.members.print_image.Statement.{statement}
-use Rattle.list.proofs.members.print_image.Tie as tie
+use Rattle.member_rows.proofs.print_image.Statement.{statement}
+use Rattle.member_rows.proofs.print_image.Tie as tie
 use Rattle.deciding.proofs.Answered.{imaged}
 
 pub print-image-spec : {M : Type 1} → statement M

@@ -1,10 +1,10 @@
 use borrow.Author.Needs.{needs}
-use Rattle.list.proofs.graded.print_read.Statement.{statement}
-use Rattle.list.proofs.graded.print_read.Tie as tie
+use Rattle.degree_rows.proofs.print_read.Statement.{statement}
+use Rattle.degree_rows.proofs.print_read.Tie as tie
 use native.Mathlib.Omega.{arith}
 use Rattle.fields.proofs.Known.{bytes-known}
 use Rattle.plain.proofs.Known.{known}
-use Rattle.list.proofs.Sought.{sought}
+use Rattle.degree_rows.proofs.Sought.{sought}
 
 pub print-read-spec : {M : Type 1} → statement M
 print-read-spec =

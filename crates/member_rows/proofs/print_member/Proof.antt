@@ -1,8 +1,8 @@
--- `list::members::print_member` meets its contract.
+-- `member_rows::print_member` meets its contract.
 -- Assumes nothing.
 use borrow.Author.Needs.{needs}
-use Rattle.list.proofs.members.print_member.Statement.{statement}
-use Rattle.list.proofs.members.print_member.Tie as tie
+use Rattle.member_rows.proofs.print_member.Statement.{statement}
+use Rattle.member_rows.proofs.print_member.Tie as tie
 use mathlib.Core.Path.{sym}
 use Prim.Native.Nat.{_≤_}
 use lib.ListN.{length}

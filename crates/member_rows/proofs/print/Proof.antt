@@ -1,8 +1,8 @@
--- `list::members::print` meets its contract: the register's bytes, and all the rest.
+-- `member_rows::print` meets its contract: the register's bytes, and all the rest.
 -- Assumes nothing.
 use borrow.Author.Needs.{needs}
-use Rattle.list.proofs.members.print.Statement.{statement}
-use Rattle.list.proofs.members.print.Tie as tie
+use Rattle.member_rows.proofs.print.Statement.{statement}
+use Rattle.member_rows.proofs.print.Tie as tie
 use mathlib.Core.Path.{sym}
 use lib.Seq.{length-take-le}
 

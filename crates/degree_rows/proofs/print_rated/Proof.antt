@@ -1,6 +1,6 @@
 use borrow.Author.Needs.{needs}
-use Rattle.list.proofs.graded.print_rated.Statement.{statement}
-use Rattle.list.proofs.graded.print_rated.Tie as tie
+use Rattle.degree_rows.proofs.print_rated.Statement.{statement}
+use Rattle.degree_rows.proofs.print_rated.Tie as tie
 use mathlib.Core.Path.{refl, _∙_}
 use Prim.Native.Nat.{ℕ}
 use native.Mathlib.Omega.{arith}

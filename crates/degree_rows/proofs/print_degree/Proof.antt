@@ -1,8 +1,8 @@
--- `list::graded::print_degree` meets its contract.
+-- `degree_rows::print_degree` meets its contract.
 -- Assumes nothing.
 use borrow.Author.Needs.{needs}
-use Rattle.list.proofs.graded.print_degree.Statement.{statement}
-use Rattle.list.proofs.graded.print_degree.Tie as tie
+use Rattle.degree_rows.proofs.print_degree.Statement.{statement}
+use Rattle.degree_rows.proofs.print_degree.Tie as tie
 use mathlib.Core.Path.{sym}
 use Prim.Native.Nat.{_≤_}
 use lib.ListN.{length}

@@ -1,8 +1,8 @@
--- `list::members::print_judged` meets its contract: the rows taken apart, and the image's index, are what is judged.
+-- `member_rows::print_judged` meets its contract: the rows taken apart, and the image's index, are what is judged.
 -- Assumes nothing.
 use borrow.Author.Needs.{needs}
-use Rattle.list.proofs.members.print_judged.Statement.{statement}
-use Rattle.list.proofs.members.print_judged.Tie as tie
+use Rattle.member_rows.proofs.print_judged.Statement.{statement}
+use Rattle.member_rows.proofs.print_judged.Tie as tie
 use mathlib.Core.Path.{refl, _∙_}
 use native.Mathlib.Omega.{arith}
 use Rattle.meaning.specs.Bytes.{Bytes}

@@ -1,7 +1,7 @@
--- `list::members::print_members` meets its contract.
+-- `member_rows::print_members` meets its contract.
 -- Assumes nothing.
-use Rattle.list.proofs.members.print_members.Statement.{statement}
-use Rattle.list.proofs.members.print_members.Tie as tie
+use Rattle.member_rows.proofs.print_members.Statement.{statement}
+use Rattle.member_rows.proofs.print_members.Tie as tie
 use Prim.Native.Nat.{_-_, _≤_}
 use native.Mathlib.Omega.{arith}
 use borrow.Author.Needs.{needs}

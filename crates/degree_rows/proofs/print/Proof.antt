@@ -1,8 +1,8 @@
--- `list::graded::print` meets its contract: the register's bytes, and all the rest.
+-- `degree_rows::print` meets its contract: the register's bytes, and all the rest.
 -- Assumes nothing.
 use borrow.Author.Needs.{needs}
-use Rattle.list.proofs.graded.print.Statement.{statement}
-use Rattle.list.proofs.graded.print.Tie as tie
+use Rattle.degree_rows.proofs.print.Statement.{statement}
+use Rattle.degree_rows.proofs.print.Tie as tie
 use mathlib.Core.Path.{sym}
 use lib.Seq.{length-take-le}
 

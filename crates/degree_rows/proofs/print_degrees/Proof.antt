@@ -1,7 +1,7 @@
--- `list::graded::print_degrees` meets its contract.
+-- `degree_rows::print_degrees` meets its contract.
 -- Assumes nothing.
-use Rattle.list.proofs.graded.print_degrees.Statement.{statement}
-use Rattle.list.proofs.graded.print_degrees.Tie as tie
+use Rattle.degree_rows.proofs.print_degrees.Statement.{statement}
+use Rattle.degree_rows.proofs.print_degrees.Tie as tie
 use Prim.Native.Nat.{_-_, _≤_}
 use native.Mathlib.Omega.{arith}
 use borrow.Author.Needs.{needs}

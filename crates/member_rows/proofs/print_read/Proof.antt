@@ -1,8 +1,8 @@
--- `list::members::print_read` meets its contract: image and message were read.
+-- `member_rows::print_read` meets its contract: image and message were read.
 -- Assumes nothing.
 use borrow.Author.Needs.{needs}
-use Rattle.list.proofs.members.print_read.Statement.{statement}
-use Rattle.list.proofs.members.print_read.Tie as tie
+use Rattle.member_rows.proofs.print_read.Statement.{statement}
+use Rattle.member_rows.proofs.print_read.Tie as tie
 use native.Mathlib.Omega.{arith}
 use Rattle.fields.proofs.Known.{bytes-known}
 use Rattle.deciding.proofs.Answered.{understood, both-read}
