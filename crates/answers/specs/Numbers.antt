@@ -82,7 +82,7 @@ verdicts no = four 2 0 0 0
 abbrev pub degreeNumbers : Told → List ℕ
 degreeNumbers t = four 1 (t .degree .num) (t .degree .den) (t .places)
 
--- a list: 1, items, written nodes, the scale of the first row
+-- a list: 1, items, written nodes, the scale of the root
 abbrev pub listNumbers : ListTold → List ℕ
 listNumbers t = four 1 (t .items) (t .nodes) (t .scale)
 

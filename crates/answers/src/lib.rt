@@ -108,7 +108,7 @@ pub fn of_margin(answer: &mut [u64; 4], r: Margin)
     }
 }
 
-// A list: 1, items, written nodes, the scale of the first row.
+// A list: 1, items, written nodes, the scale of the root.
 pub fn of_list(answer: &mut [u64; 4], r: Listed)
     ensures { λ _. ⌜ now (answer .exit) ≡ numbers listNumbers (paperList r) ⌝ }
 {

@@ -3,7 +3,7 @@ use answers;
 ghost use Rattle.svelgandur.specs.Promises.{ListPromise};
 
 // The number of each written node of a plain requirement at each item.
-// Good: 1, items, written nodes, the scale of the first row. Refused: 0, side, number, place; the table is then untouched.
+// Good: 1, items, written nodes, the scale of the root. Refused: 0, side, number, place; the table is then untouched.
 #[no_mangle]
 pub extern "C" fn svelgandur_list(
     image: &[u8],
