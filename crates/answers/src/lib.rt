@@ -20,7 +20,8 @@ ghost use Rattle.deciding.specs.Answers.{paperVerdict};
 ghost use Rattle.session.specs.Calls.{paperCount};
 ghost use Rattle.tabling.specs.Answers.{paperList};
 ghost use Rattle.writer.specs.Promise.{paperWritten};
-ghost use Rattle.answers.specs.Numbers.{four, sideNumber, refusalNumbers, numbers, counts, messageNumbers, placeNumbers, inUse, verdicts, degreeNumbers, listNumbers, marginNumbers, belowZero, Small};
+ghost use Rattle.answers.specs.Numbers.{four, sideNumber, refusalNumbers, numbers, counts, messageNumbers, placeNumbers, inUse, verdicts};
+ghost use Rattle.answers.specs.Numbers.{degreeNumbers, listNumbers, marginNumbers, belowZero, Small};
 
 // Writes the four numbers.
 fn put(answer: &mut [u64; 4], kind: u64, a: u64, b: u64, c: u64)

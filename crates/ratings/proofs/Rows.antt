@@ -7,15 +7,15 @@ use Prim.Native.Nat.{ℕ, _≤_, _<_}
 use native.Mathlib.Omega.{arith}
 use lib.Dec.{ltb, leb}
 use lib.ListN.{length, getD, take, length-map}
-use lib.Seq.{sets, length-sets}
+use lib.Seq.{length-sets}
 use Rattle.meaning.specs.Bounds.{mostNodes}
-use Rattle.meaning.specs.Refusal.{Answer, good, onCall, refuseIf, _>>=_, _>>_}
-use Rattle.meaning.specs.Tree.{Concept, nodes}
+use Rattle.meaning.specs.Refusal.{good}
+use Rattle.meaning.specs.Tree.{nodes}
 use Rattle.meaning.specs.Register.{Register, judged, readRegister}
 use Rattle.meaning.specs.Fraction.{Frac, _//_, lowest}
 use Rattle.meaning.specs.Degree.{answered}
 use Rattle.meaning.specs.Shown.{degreeMap, shown, markNumber}
-use Rattle.meaning.specs.Calls.{readPlain, inRange, Found, degreeCall}
+use Rattle.meaning.specs.Calls.{readPlain, Found, degreeCall}
 use Rattle.meaning.proofs.Reading.{took, pass, not-below, not-le}
 use Rattle.meaning.proofs.Rows.{holds-nodes}
 use Rattle.meaning.proofs.Kept.{shown-length}

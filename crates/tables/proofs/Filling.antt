@@ -7,7 +7,6 @@ use native.Mathlib.Nat.{le-refl, le-trans, mul-le-mul-right}
 use native.Mathlib.Omega.{arith}
 use lib.ListN.{length, getD}
 use lib.Seq.{sets}
-use Rattle.meaning.specs.Bounds.{mostScale}
 use Rattle.meaning.specs.Bytes.{Bytes}
 use Rattle.meaning.specs.Names.{common}
 use Rattle.meaning.specs.Names.{names as many}
@@ -219,7 +218,8 @@ module _ {s : List ℕ} {items : ℕ} {begins order names roles ends marks : Lis
         let q = sofar-whole (graph k) items names roles ends marks (k .tree) left node old (so k) over (k .marked) z in
         record { scaled = sym (q .0); filled = q .1 }
 
-    pub going-empty : n ≡ 0 → (last : List ℕ) → last ≡ sets table (node * items) (upTo (node * items + items - node * items) (λ x. 1)) → (k : TreeOf s items begins order names roles ends marks node left) → Worked k p old last
+    pub going-empty : n ≡ 0 → (last : List ℕ) → last ≡ sets table (node * items) (upTo (node * items + items - node * items) (λ x. 1))
+        → (k : TreeOf s items begins order names roles ends marks node left) → Worked k p old last
     going-empty z last is k =
         let many : node * items + items - node * items ≡ items = omega arith in
         let q = sofar-empty (graph k) items names roles ends marks (k .tree) left node old (so k) over (k .marked) z last

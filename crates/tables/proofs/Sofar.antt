@@ -1,9 +1,8 @@
 -- The rows of a tree while they are filled: the root's row with the children so far folded in, and behind it the rows of these children.
 -- Assumes nothing.
-use mathlib.Core.Path.{_≡_, refl, sym, ap, ap₂, subst, _∙_}
+use mathlib.Core.Path.{_≡_, refl, sym, ap, _∙_}
 use mathlib.Core.Bool.{Bool, true, false, cond}
-use mathlib.Core.Logic.{inl}
-use mathlib.Core.List.{List, [], _∷_, _++_, append-assoc, append-nil, List·Memᴰ}
+use mathlib.Core.List.{List, [], _++_, append-assoc, append-nil, List·Memᴰ}
 use Prim.Native.Nat.{ℕ, zero, suc, _+_, _-_, _*_, _≤_, _<_, max}
 use native.Mathlib.Nat.{mul-le-mul-right}
 use native.Mathlib.Omega.{arith}
@@ -13,14 +12,14 @@ use lib.Seq.{sets, length-sets}
 use borrow.Author.Tests.{eq-eqb, ne-eqb}
 use Rattle.meaning.specs.Names.{common}
 use Rattle.meaning.specs.Names.{names as many}
-use Rattle.meaning.specs.Tree.{node, Forest, none, more, Concept, labelOf, children, under, nodes}
+use Rattle.meaning.specs.Tree.{node, Forest, none, more, Concept, children, under, nodes}
 use Rattle.meaning.specs.Graph.{Graph}
 use Rattle.meaning.specs.Reduce.{dropped}
 use Rattle.meaning.specs.Degree.{orOne, best}
 use Rattle.meaning.specs.Table.{upTo}
 use Rattle.meaning.specs.InPlace.{countIn, scaleIn, scaleInF, degreeIn, degreeInF, tableIn, tableInF}
-use Rattle.meaning.specs.Rows.{Holds, HoldsF, mark, Marked, MarkedF}
-use Rattle.meaning.proofs.Stores.{sets-append, sets-beyond, sets-at, sets-over}
+use Rattle.meaning.specs.Rows.{Holds, mark, Marked, MarkedF}
+use Rattle.meaning.proofs.Stores.{sets-append, sets-at, sets-over}
 use Rattle.meaning.proofs.Rows.{first, ran-out, holds-nodes, holds-one, holdsF-one}
 use Rattle.meaning.proofs.Table.{upTo-long, upTo-at, upTo-same, upTo-none, table-long, table-in}
 use Rattle.graph.proofs.Same.{best-same}

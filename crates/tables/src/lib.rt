@@ -113,7 +113,8 @@ pub fn fill(
 ) -> u32
     requires { ⌜ Gradable (Sorted (now s) items (now begins) (now order)) (now names) (now roles) (now ends) (now marks) node left ⌝ }
     requires { ⌜ Names (now s) items (now held) × (getD (now ends) node 0 * items ≤ length (now table)) ⌝ }
-    ensures { λ r. ⌜ ((k : Gradable (Sorted (now (s .entry)) items (now (begins .entry)) (now (order .entry))) (now (names .entry)) (now (roles .entry)) (now (ends .entry)) (now (marks .entry)) node left)
+    ensures { λ r. ⌜ ((k : Gradable (Sorted (now (s .entry)) items (now (begins .entry)) (now (order .entry)))
+        (now (names .entry)) (now (roles .entry)) (now (ends .entry)) (now (marks .entry)) node left)
         → Worked k r (now (table .entry)) (now (table .exit))) ⌝ }
 {
     let at = node * items;

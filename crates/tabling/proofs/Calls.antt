@@ -9,7 +9,7 @@ use lib.Dec.{ltb}
 use lib.ListN.{length, getD}
 use lib.Seq.{sets}
 use Rattle.meaning.specs.declared.Refusal.{Refusal}
-use Rattle.meaning.specs.Refusal.{Answer, good, refused, onCall, _>>=_}
+use Rattle.meaning.specs.Refusal.{good, refused, _>>=_}
 use Rattle.meaning.specs.Tree.{nodes}
 use Rattle.meaning.specs.Register.{judged}
 use Rattle.meaning.specs.Reduce.{reduce, scale}

@@ -1,7 +1,7 @@
 use borrow.Author.Needs.{needs}
 use Rattle.degree_rows.proofs.print_rated.Statement.{statement}
 use Rattle.degree_rows.proofs.print_rated.Tie as tie
-use mathlib.Core.Path.{refl, _∙_}
+use mathlib.Core.Path.{refl}
 use Prim.Native.Nat.{ℕ}
 use native.Mathlib.Omega.{arith}
 use lib.ListN.{length-replicate}

@@ -2,7 +2,6 @@ use borrow.Author.Needs.{needs}
 use Rattle.ratings.proofs.rate.Statement.{statement}
 use Rattle.ratings.proofs.rate.Tie as tie
 use mathlib.Core.Path.{refl, _∙_}
-use Prim.Native.Nat.{ℕ}
 use native.Mathlib.Omega.{arith}
 use Rattle.graph.proofs.All.{all-none, all-among}
 use Rattle.degrees.proofs.Room.{room-start, ones-low}

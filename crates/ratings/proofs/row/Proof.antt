@@ -1,7 +1,6 @@
 use borrow.Author.Needs.{needs}
 use Rattle.ratings.proofs.row.Statement.{statement}
 use Rattle.ratings.proofs.row.Tie as tie
-use mathlib.Core.Path.{refl, _∙_}
 use native.Mathlib.Omega.{arith}
 use Rattle.lines.proofs.Begins.{begins, begins-as}
 use Rattle.ratings.proofs.Rows.{few, positive, drawing, map-fits, row-is}

@@ -10,8 +10,8 @@ use Rattle.tables.proofs.put.Reads as put-reads
 use Rattle.tables.proofs.take.Reads as take-reads
 use Rattle.tables.proofs.+fill.{statement}
 use Rattle.tables.proofs.+fill.Tie.{close}
-use mathlib.Core.Path.{_≡_, refl, sym, _∙_}
-use Prim.Native.Nat.{_+_, _-_, _*_, _≤_}
+use mathlib.Core.Path.{refl, _∙_}
+use Prim.Native.Nat.{_+_, _-_}
 use native.Mathlib.Omega.{arith}
 use Rattle.fields.proofs.Known.{bytes-known}
 use Rattle.tables.proofs.Filling.{here, room-one, Going, going-start, worked-before, going-low, going-less, going-rows, going-skip}

@@ -1,7 +1,7 @@
 use Rattle.tables.proofs.fold.Statement.{statement}
 use Rattle.tables.proofs.fold.Tie as tie
-use mathlib.Core.Path.{_≡_, refl, ap, sym, _∙_}
-use Prim.Native.Nat.{ℕ, _≤_, _-_, _+_, _*_}
+use mathlib.Core.Path.{_≡_, refl}
+use Prim.Native.Nat.{_≤_, _-_}
 use native.Mathlib.Omega.{arith}
 use lib.ListN.{length, getD, length-set}
 use Rattle.tables.specs.Rows.{folded}

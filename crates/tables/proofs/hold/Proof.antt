@@ -1,6 +1,6 @@
 use Rattle.tables.proofs.hold.Statement.{statement}
 use Rattle.tables.proofs.hold.Tie as tie
-use mathlib.Core.Path.{_≡_, refl, _∙_}
+use mathlib.Core.Path.{_≡_, refl}
 use Prim.Native.Nat.{ℕ, _≤_, _<_, _-_}
 use native.Mathlib.Omega.{arith}
 use lib.ListN.{length, getD, length-set}
