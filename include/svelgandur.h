@@ -67,8 +67,9 @@
  *   the order in which the call lists them below.
  *
  * No call keeps anything after it returns, takes memory of its own other than
- * the stack (64 KiB of it at most), or writes to memory that it was not lent, so
- * calls on different memory may run at the same time.
+ * the stack (64 KiB of it at most; the calls of a session 2 KiB), or writes to
+ * memory that it was not lent, so calls on different memory may run at the same
+ * time.
  */
 #ifndef SVELGANDUR_H
 #define SVELGANDUR_H

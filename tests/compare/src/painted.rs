@@ -4,6 +4,7 @@
 //! that needs more ends the program.
 
 use std::ffi::c_void;
+use std::hint::black_box;
 use std::ptr;
 
 use crate::fence::Pages;
@@ -33,8 +34,8 @@ pub struct Stack {
 }
 
 impl Stack {
-    /// So many bytes and no more: what a thread needs for itself, before any
-    /// work is done, stands among them.
+    /// So many bytes: what a thread needs for itself, before any work is done,
+    /// stands among them.
     pub fn new(bytes: usize) -> Stack {
         Stack {
             pages: Pages::new(bytes),
@@ -56,6 +57,24 @@ impl Stack {
             bytes - unused
         }
     }
+
+    /// Does the work with so many bytes of the stack left and no more.
+    pub fn within(&self, bytes: usize, mut work: impl FnMut()) {
+        let place = self.pages.first as usize + bytes;
+        self.used(|| sink(place, &mut work));
+    }
+}
+
+/// Goes down the stack to a place or just below it, and does the work there.
+#[inline(never)]
+fn sink(place: usize, work: &mut dyn FnMut()) {
+    let frame = [0u8; 16];
+    match black_box(&frame).as_ptr() as usize > place {
+        true => sink(place, work),
+        false => work(),
+    }
+    // So that the frame stays, and this is no loop.
+    black_box(&frame);
 }
 
 /// `work` is a pointer to a `&mut dyn FnMut()`.

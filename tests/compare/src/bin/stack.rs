@@ -1,5 +1,6 @@
 //! How much of the stack each call uses, at most, over the costliest inputs
-//! and many others. Fails above 64 KiB.
+//! and many others. Fails above 64 KiB, and for a session's calls above 2 KiB:
+//! a kiosk's stack is small, and no call of a session has a second list of links.
 
 use std::process::ExitCode;
 
@@ -15,6 +16,9 @@ use second::requirement::{self, Node};
 use second::writing::lists;
 
 const MOST: usize = 64 * 1024;
+/// What a session's call may use, with the reading of the image that it begins
+/// with. The links of the largest image take ten times as much.
+const SESSION: usize = 2 * 1024;
 
 /// What a call is asked of: an image, a message, and the lists of a message that
 /// is good.
@@ -118,47 +122,61 @@ const CALLS: [(&str, usize, Work); 13] = [
     ("list", MOST, |input, _, lent| {
         library::list(&input.image, &input.message, &mut lent.table);
     }),
-    ("open", MOST, |_, buffer, _| {
+    ("open", SESSION, |_, buffer, _| {
         library::open(buffer);
     }),
-    ("edit_name", MOST, |_, buffer, lent| {
+    ("edit_name", SESSION, |_, buffer, lent| {
         library::edit_name(buffer, &mut lent.log, 0, 1, ITEM, 63);
     }),
-    ("edit_link", MOST, |_, buffer, lent| {
+    ("edit_link", SESSION, |_, buffer, lent| {
         library::edit_link(buffer, &mut lent.log, 0, 0, [ITEM, 0, 0]);
         library::edit_link(buffer, &mut lent.log, 1, 1, [ITEM, 0, 0]);
     }),
-    ("undo", MOST, |_, buffer, lent| {
+    ("undo", SESSION, |_, buffer, lent| {
         // The link of item 0 under role 0 to itself: taken away, and put back.
         for step in [2, 3] {
             lent.log[0] = step;
             library::undo(buffer, &lent.log, 1);
         }
     }),
-    ("keep", MOST, |_, buffer, lent| {
+    ("keep", SESSION, |_, buffer, lent| {
         library::keep(buffer, &lent.log, 64);
     }),
 ];
 
+/// Runs some work on a stack, and says how many bytes of it were used.
+type Run<'a> = &'a dyn Fn(&mut dyn FnMut()) -> usize;
+
 fn main() -> ExitCode {
     let inputs = inputs();
-    let roomy = Stack::new(16 * MOST);
+    let stack = Stack::new(16 * MOST);
     // A thread's own, and that of what makes the calls here.
-    let nothing = roomy.used(|| {
+    let nothing = stack.used(|| {
         std::hint::black_box(library::read_register(&[], 0));
     });
     let mut too_much = false;
-    for (name, bound, work) in CALLS {
-        let most = used(&roomy, work, &inputs).saturating_sub(nothing);
+    let mut held = |name: &str, bound: usize, used: &dyn Fn(Run) -> usize| {
+        let most = used(&|work| stack.used(work)).saturating_sub(nothing);
         println!("stack: svelgandur_{name}: {most} bytes");
         if most > bound {
             eprintln!("stack: svelgandur_{name}: more than {bound} bytes");
             too_much = true;
         } else {
             // No more is there, also not of what a call leaves unwritten.
-            used(&Stack::new(nothing + bound), work, &inputs);
+            used(&|work| {
+                stack.within(bound, work);
+                0
+            });
         }
+    };
+    for (name, bound, work) in CALLS {
+        held(name, bound, &|run| used(run, work, &inputs));
     }
+    let turns = turns();
+    held("edit_link at 4,096 links", SESSION, &|run| {
+        edits(run, &turns)
+    });
+    held("undo at 4,096 links", SESSION, &|run| undos(run, &turns));
     match too_much {
         true => ExitCode::FAILURE,
         false => ExitCode::SUCCESS,
@@ -166,7 +184,7 @@ fn main() -> ExitCode {
 }
 
 /// The most that a call uses over all inputs, a thread's own among it.
-fn used(stack: &Stack, work: Work, inputs: &[Input]) -> usize {
+fn used(run: Run, work: Work, inputs: &[Input]) -> usize {
     let some = inputs.chunks(40).map(|some| {
         let mut prepared: Vec<_> = some
             .iter()
@@ -181,11 +199,70 @@ fn used(stack: &Stack, work: Work, inputs: &[Input]) -> usize {
             map: [0; 64],
             table: vec![0; 64 * 512],
         };
-        stack.used(|| {
+        run(&mut || {
             for (input, buffer) in &mut prepared {
                 work(input, buffer, &mut lent);
             }
         })
     });
     some.max().unwrap_or(0)
+}
+
+/// A link taken out of 4,096, or put in as the last of so many: the buffer
+/// before and after.
+struct Turn {
+    link: [u64; 3],
+    adds: u64,
+    before: Vec<u8>,
+    after: Vec<u8>,
+}
+
+/// Both for the link before all others, the one in the middle and the one behind
+/// all others: all, half and none of the links move.
+fn turns() -> Vec<Turn> {
+    let full = fans();
+    let all = register::encode(&full);
+    let ends = [0, full.links.len() / 2, full.links.len() - 1];
+    let of = |at: usize| {
+        let mut fewer = full.clone();
+        let (from, role, to) = fewer.links.remove(at);
+        let mut without = register::encode(&fewer);
+        without.extend([0; 5]);
+        [(0, &all, &without), (1, &without, &all)].map(|(adds, before, after)| Turn {
+            link: [from.into(), role.into(), to.into()],
+            adds,
+            before: before.clone(),
+            after: after.clone(),
+        })
+    };
+    ends.into_iter().flat_map(of).collect()
+}
+
+/// The most that an edit uses over these turns, each of which it must make.
+fn edits(run: Run, turns: &[Turn]) -> usize {
+    let each = turns.iter().map(|turn| {
+        let (mut buffer, mut log) = (turn.before.clone(), [0; 64]);
+        let mut answer = [0; 4];
+        let used = run(&mut || {
+            answer = library::edit_link(&mut buffer, &mut log, 0, turn.adds, turn.link);
+        });
+        assert_eq!(answer, [1, 1, 0, 0]);
+        assert!(buffer == turn.after, "the link did not come or go");
+        used
+    });
+    each.max().unwrap_or(0)
+}
+
+/// The most that the undo of such an edit uses, which must turn it back.
+fn undos(run: Run, turns: &[Turn]) -> usize {
+    let each = turns.iter().map(|turn| {
+        let (mut buffer, mut log) = (turn.before.clone(), [0; 64]);
+        library::edit_link(&mut buffer, &mut log, 0, turn.adds, turn.link);
+        let mut answer = [0; 4];
+        let used = run(&mut || answer = library::undo(&mut buffer, &log, 1));
+        assert_eq!(answer, [1, 0, 0, 0]);
+        assert!(buffer == turn.before, "the edit was not turned back");
+        used
+    });
+    each.max().unwrap_or(0)
 }
