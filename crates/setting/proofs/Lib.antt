@@ -1,5 +1,6 @@
 pub mod Halves
 pub mod Stores
+pub mod Slips
 pub mod Place
 pub mod Parts
 pub mod Changes
