@@ -30,6 +30,16 @@
  *
  *   After a refusal all other lent memory is as it was.
  *
+ * Withdrawn items
+ *   Name 63 (SVELGANDUR_WITHDRAWN) on an item means that it is withdrawn. The
+ *   graph that is judged is the register without its withdrawn items and without
+ *   the links from them and to them; all other items keep their numbers. Degree,
+ *   margin, yes or no, their maps and the whole list are taken over that graph,
+ *   a threshold's degrees too. Reading and the calls of a session know nothing of
+ *   it: there name 63 is a name like any other, and a withdrawn item has its
+ *   names and its links as before. A requirement may name 63; it counts as a
+ *   name, and no item that is judged holds it.
+ *
  * The refusal numbers
  *    1  under 3 bytes, or a field or inner concept runs past its end
  *    2  version is not 1
@@ -61,6 +71,7 @@
  *   23  q is 0 or above 1,000 (place of q)
  *   24  p is above q (place of p)
  *   25  p and q share a factor above 1 (place of p)
+ *   26  asked item is withdrawn
  *   Where several hold, the one that the call comes to first is given: it reads
  *   the register, then the requirement, each from left to right (but within a
  *   threshold q before p: 13, 23, 24, 25), and then tests its own numbers in
@@ -90,6 +101,9 @@ extern "C" {
 #define SVELGANDUR_REGISTER 0
 #define SVELGANDUR_REQUIREMENT 1
 #define SVELGANDUR_CALL 2
+
+/* The name of a withdrawn item. */
+#define SVELGANDUR_WITHDRAWN 63
 
 /* In the map of a degree, in place of an item. */
 #define SVELGANDUR_DROPPED 65534
@@ -192,11 +206,11 @@ void svelgandur_write_requirement(const uint64_t *nodes, size_t nodes_length,
  *   answer    good: 1, numerator, denominator (in lowest terms), how many places
  *             of the map were written: as many as nodes are written.
  *             refused, on the register's side: 1 to 8; on the requirement's
- *             side: 1 to 3, 7 to 14, 23 to 25; on the call's side: 15, 16.
+ *             side: 1 to 3, 7 to 14, 23 to 25; on the call's side: 15, 26, 16.
  * After a good answer each written place of the map holds the item that the node
  * goes to, or SVELGANDUR_DROPPED for a dropped node and all below it, or else
- * SVELGANDUR_UNMAPPED where the node goes nowhere. The places behind keep their
- * contents. Image and message are only read.
+ * SVELGANDUR_UNMAPPED where the node goes nowhere. No node goes to a withdrawn
+ * item. The places behind keep their contents. Image and message are only read.
  */
 void svelgandur_degree(const uint8_t *image, size_t image_length,
                        const uint8_t *message, size_t message_length,
@@ -212,8 +226,8 @@ void svelgandur_degree(const uint8_t *image, size_t image_length,
  *             brought to lowest terms. The margin is at most 3,486,784,401,000
  *             either way.
  *             refused, on the register's side: 1 to 8; on the requirement's
- *             side: 1 to 3, 7 to 14, 23 to 25; on the call's side: 15, 23, 24,
- *             25.
+ *             side: 1 to 3, 7 to 14, 23 to 25; on the call's side: 15, 26, 23,
+ *             24, 25.
  * Image and message are only read.
  */
 void svelgandur_margin(const uint8_t *image, size_t image_length,
@@ -230,8 +244,8 @@ void svelgandur_margin(const uint8_t *image, size_t image_length,
  *             (as many as nodes are written), 0, 0.
  *             no: SVELGANDUR_NO (2), 0, 0, 0.
  *             refused, on the register's side: 1 to 8; on the requirement's
- *             side: 1 to 3, 7 to 14, 23 to 25; on the call's side: 15, 16. (16
- *             comes before the yes or no is known. 11 and 14 are for inner
+ *             side: 1 to 3, 7 to 14, 23 to 25; on the call's side: 15, 26, 16.
+ *             (16 comes before the yes or no is known. 11 and 14 are for inner
  *             concepts only: the outer tree may have any size.)
  * After a yes each written place of the map holds the item that the node goes
  * to, and the places behind keep their contents. A no writes nothing to the map.
@@ -260,10 +274,13 @@ void svelgandur_member(const uint8_t *image, size_t image_length,
  * After a good answer the degree of item i is table[i] over the scale. As
  * svelgandur_degree answers it, it is that fraction in lowest terms; over one
  * scale degrees compare as their numbers do.
+ * A withdrawn item has no degree: its number is 0 at every node, also at one
+ * without names and children. Whether an item is withdrawn stands in the image
+ * and not in the table.
  * A kept node's number is its degree at the item, were it a requirement of its
  * own, over its own scale: the product, over the node and all kept nodes below
  * it, of names plus kept children, with 1 where there are none. No scale is above
- * 3,486,784,401. The numbers of a dropped node and of all below it are 0.
+ * 3,486,784,401. The numbers of a dropped node and of all below it are 0, too.
  * The places behind written nodes times items keep their contents, and what the
  * table held before has no bearing on any answer. Image and message are only
  * read.
@@ -285,7 +302,9 @@ void svelgandur_list(const uint8_t *image, size_t image_length,
  *           0 after opening, and afterwards what the last good answer said.
  *
  * A degree, a margin, a yes or no or a list in a session is asked of the first
- * 3 + length bytes of the buffer.
+ * 3 + length bytes of the buffer. An edit that adds name 63 to an item withdraws
+ * it, one that takes the name away brings it back, and so does an undo of either;
+ * no call of a session is refused because an item is withdrawn.
  *
  * A step as a number, lowest first:
  *   bit 0         1 where the fact was there before the edit, else 0

@@ -1,21 +1,23 @@
 //! Degrees and margins: a board at a time over a whole house, the costliest
-//! pairs, and how the work grows with items, links and nodes.
+//! pairs, and how the work grows with items, links and nodes. No item is withdrawn
+//! but in the rows that say so.
 
 use std::hint::black_box;
 use std::rc::Rc;
 
 use compare::library;
-use compare::worst::{all_linked, broom, bushy, chain, comb, fans};
+use compare::worst::{all_linked, broom, bushy, chain, comb, fans, with_withdrawn};
 use good::calls;
 use second::gen::registers::register_of;
 use second::gen::{Palette, Rng};
+use second::judged::Judged;
 use second::register::{self, Register};
 use second::requirement::{self, Node};
 
 use crate::Work;
 
 pub fn works() -> Vec<Work> {
-    let mut works = vec![boards()];
+    let mut works = vec![boards(), boards_withdrawn()];
     works.extend(costliest());
     works.extend(growth());
     works
@@ -59,6 +61,12 @@ fn costliest() -> Vec<Work> {
             &random,
             &comb(),
         ),
+        one(
+            "random-withdrawn",
+            "the same with each tenth item withdrawn",
+            &with_withdrawn(random.clone(), 10),
+            &comb(),
+        ),
         margin("margin", "as bushy", &largest, &bushy()),
         margin("margin-broom", "as broom", &largest, &broom()),
         margin("margin-random", "as random", &random, &scattered(61, 3, 0)),
@@ -84,11 +92,12 @@ fn growth() -> Vec<Work> {
     STEPS.into_iter().map(step).collect()
 }
 
-/// Items with links under a few roles.
+/// Items with links under a few roles, none of them withdrawn.
 pub fn spread(items: usize, links: usize) -> Register {
     let palette = Palette {
         names: (0..64).collect(),
         roles: (0..4).collect(),
+        withdrawn: 0,
     };
     register_of(&mut Rng::new(1), &palette, items, links)
 }
@@ -144,7 +153,18 @@ fn branches(count: u8) -> Node {
 fn boards() -> Work {
     let (register, root) = house();
     let what = "500 boards, 2,000 links, a requirement of 10 nodes: each of 500 calls";
-    degree("boards", what, &register, &root, 500)
+    let items = 0..register.items() as u64;
+    degree("boards", what, &register, &root, items.collect())
+}
+
+/// The same with each tenth board withdrawn, and one call for each of the others.
+fn boards_withdrawn() -> Work {
+    let (register, root) = house();
+    let register = with_withdrawn(register, 10);
+    let what = "the same with each tenth board withdrawn: each of 450 calls";
+    let items: Vec<u64> = Judged::of(&register).each().map(u64::from).collect();
+    assert_eq!(items.len(), 450);
+    degree("boards-withdrawn", what, &register, &root, items)
 }
 
 /// 500 boards and a requirement of 10 nodes.
@@ -164,27 +184,28 @@ pub fn house() -> (Register, Node) {
 
 /// One call for the first item.
 fn one(name: &'static str, what: &str, register: &Register, root: &Node) -> Work {
-    degree(name, what, register, root, 1)
+    degree(name, what, register, root, vec![0])
 }
 
 type Asked = fn(&[u8], &[u8], u64) -> ([u64; 4], [u16; 64]);
 
-/// One call for each of the first so many items.
+/// One call for each of these items.
 fn asking(
     (name, calls): (&'static str, &'static str),
     what: &str,
     (register, root): (&Register, &Node),
-    questions: u32,
+    items: Vec<u64>,
     [library, good]: [Asked; 2],
 ) -> Work {
     let image: Rc<[u8]> = register::encode(register).into();
     let message: Rc<[u8]> = requirement::encode(root).into();
-    let both = (image.clone(), message.clone());
+    let items: Rc<[u64]> = items.into();
+    let both = (image.clone(), message.clone(), items.clone());
     let each = |asked: Asked| -> Box<dyn Fn()> {
-        let (image, message) = (image.clone(), message.clone());
+        let (image, message, items) = (image.clone(), message.clone(), items.clone());
         Box::new(move || {
-            for item in 0..questions {
-                black_box(asked(black_box(&image), black_box(&message), item.into()));
+            for item in &*items {
+                black_box(asked(black_box(&image), black_box(&message), *item));
             }
         })
     };
@@ -192,15 +213,15 @@ fn asking(
         name,
         calls,
         what: what.to_string(),
-        questions,
+        questions: items.len() as u32,
         library: each(library),
         good: each(good),
         same: Box::new(move || {
-            let (image, message) = &both;
-            for item in 0..questions {
-                let answer = library(image, message, item.into());
+            let (image, message, items) = &both;
+            for item in &**items {
+                let answer = library(image, message, *item);
                 assert_eq!(answer.0[0], 1);
-                assert_eq!(answer, good(image, message, item.into()));
+                assert_eq!(answer, good(image, message, *item));
             }
         }),
     }
@@ -211,7 +232,7 @@ fn degree(
     what: &str,
     register: &Register,
     root: &Node,
-    questions: u32,
+    items: Vec<u64>,
 ) -> Work {
     let library: Asked = |image, message, item| {
         let mut map = [0; 64];
@@ -224,7 +245,7 @@ fn degree(
         (answer, map)
     };
     let who = (name, "svelgandur_degree");
-    asking(who, what, (register, root), questions, [library, good])
+    asking(who, what, (register, root), items, [library, good])
 }
 
 fn margin(name: &'static str, what: &str, register: &Register, root: &Node) -> Work {
@@ -232,5 +253,5 @@ fn margin(name: &'static str, what: &str, register: &Register, root: &Node) -> W
         |image, message, item| (library::margin(image, message, item, 2, 3), [0; 64]);
     let good: Asked = |image, message, item| (calls::margin(image, message, item, 2, 3), [0; 64]);
     let who = (name, "svelgandur_margin");
-    asking(who, what, (register, root), 1, [library, good])
+    asking(who, what, (register, root), vec![0], [library, good])
 }

@@ -9,7 +9,7 @@ use std::hint::black_box;
 use std::rc::Rc;
 
 use compare::library;
-use compare::worst::{bushy, comb, fans};
+use compare::worst::{bushy, comb, fans, with_withdrawn};
 use good::{calls, list};
 use second::gen::requirements::tree;
 use second::gen::{Palette, Rng};
@@ -30,6 +30,11 @@ pub fn works() -> Vec<Work> {
             "lists-house",
             "500 boards, 2,000 links, 40 requirements of 10 nodes: each of 40 lists",
             &Asked::of(&boards, &planned),
+        ),
+        beside_good(
+            "lists-withdrawn",
+            "the same with each tenth board withdrawn",
+            &Asked::of(&with_withdrawn(boards.clone(), 10), &planned),
         ),
         beside_singles(
             "lists-single",
@@ -54,6 +59,7 @@ fn requirements() -> Vec<Node> {
     let palette = Palette {
         names: (0..64).collect(),
         roles: (0..4).collect(),
+        withdrawn: 0,
     };
     let mut rng = Rng::new(1);
     let roots: Vec<Node> = (0..40).map(|_| tree(&mut rng, &palette, 10, 16)).collect();

@@ -24,12 +24,13 @@ pub fn half() -> Work {
     reading("read-half", what, 256, 2048)
 }
 
-/// Reading an image of so many items and links, all names and all roles among
-/// them.
+/// Reading an image of so many items and links, all roles among them and all
+/// names but that of a withdrawn item.
 fn reading(name: &'static str, what: &str, items: usize, links: usize) -> Work {
     let palette = Palette {
         names: (0..64).collect(),
         roles: (0..32).collect(),
+        withdrawn: 0,
     };
     let image: Rc<[u8]> = encode(&register_of(&mut Rng::new(1), &palette, items, links)).into();
     let (one, other) = (image.clone(), image.clone());

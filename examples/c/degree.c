@@ -18,6 +18,7 @@
 #define MOST_BYTES 65539 /* a head of 3 bytes, the longest that it can say, and 1 */
 #define MOST_NODES 64    /* the places of a map that is never too short */
 #define MOST_STEPS 64    /* the steps of a log that can be in use */
+#define WITHDRAWN 26     /* the refusal of an item that is withdrawn */
 
 /* A message or an image, and room behind it. */
 struct bytes {
@@ -67,7 +68,8 @@ static void print_map(const uint16_t *map, uint64_t places)
     }
 }
 
-/* Prints the degree of one item and its map, or the refusal. */
+/* Prints the degree of one item and its map, or that it is withdrawn, or the
+ * refusal. */
 static int print_degree(const uint8_t *image, size_t length, const struct bytes *requirement,
                         uint64_t item)
 {
@@ -76,6 +78,10 @@ static int print_degree(const uint8_t *image, size_t length, const struct bytes 
 
     svelgandur_degree(image, length, requirement->at, requirement->length, item, map, MOST_NODES,
                       answer);
+    if (answer[0] == SVELGANDUR_REFUSED && answer[2] == WITHDRAWN) {
+        printf("item %" PRIu64 ": withdrawn\n", item);
+        return 1;
+    }
     if (answer[0] == SVELGANDUR_REFUSED) {
         print_refusal(answer);
         return 0;

@@ -174,9 +174,9 @@ static struct call calls[CALLS] = {
      0,
      0,
      0},
-    {"degree", {REGISTER, REQUIREMENT, N(15) | N(16)}, 0, 0, 0},
-    {"margin", {REGISTER, REQUIREMENT, N(15) | FRACTION}, 0, 0, 0},
-    {"member", {REGISTER, REQUIREMENT, N(15) | N(16)}, 0, 0, 0},
+    {"degree", {REGISTER, REQUIREMENT, N(15) | N(26) | N(16)}, 0, 0, 0},
+    {"margin", {REGISTER, REQUIREMENT, N(15) | N(26) | FRACTION}, 0, 0, 0},
+    {"member", {REGISTER, REQUIREMENT, N(15) | N(26) | N(16)}, 0, 0, 0},
     {"list", {REGISTER, REQUIREMENT, N(16)}, 0, 0, 0},
     {"open", {REGISTER, 0, 0}, 0, 0, 0},
     {"edit_name", {REGISTER, 0, N(15) | N(17) | N(18)}, 0, 0, 0},
@@ -254,20 +254,30 @@ static void mend_head(unsigned char *bytes, size_t length) {
     bytes[2] = (unsigned char)(length - 3);
 }
 
+/* Now and then name 63, which no item that is judged holds. */
 static uint64_t few_names(void) {
-    return word() & word() & 0xF;
+    return (word() & word() & 0xF) |
+           (uint64_t)!below(30) << SVELGANDUR_WITHDRAWN;
 }
 
-/* A register: links in rising order, each there by chance. */
+/* The names of an item, of which one in so many is withdrawn. */
+static uint64_t item_names(uint64_t one_in) {
+    return (word() & word() & 0xF) |
+           (uint64_t)!below(one_in) << SVELGANDUR_WITHDRAWN;
+}
+
+/* A register: links in rising order, each there by chance. All, some or nearly
+ * none of its items are withdrawn. */
 static void make_image(void) {
     uint64_t items = below(40) ? 1 + below(6) : 1 + below(512);
+    uint64_t one_in = below(30) ? below(3) ? 100 : 4 : 1;
     uint64_t chance = 1 + below(40), links = 0, from, role, to;
     size_t count_at;
     image_length = 0;
     put(image, &image_length, 3, 0);
     put(image, &image_length, 2, items);
     for (from = 0; from < items; from++)
-        put(image, &image_length, 8, few_names());
+        put(image, &image_length, 8, item_names(one_in));
     count_at = image_length;
     put(image, &image_length, 2, 0);
     for (from = 0; from < items; from++)
@@ -474,9 +484,39 @@ static void writing(void) {
     take_back(first);
 }
 
-/* After a good answer so many places hold an item, or a number that stands for
- * none where there may be one; the others are as they were. */
-static void judge_map(struct lent map, uint64_t written, int may_be_none) {
+/* Whether an item of an image that was read is withdrawn: name 63 is the first
+ * bit of its names. */
+static int withdrawn(struct lent img, uint64_t item) {
+    return img.at[5 + 8 * item] >> 7;
+}
+
+/* The two numbers for the asked item, where both sides were read: 15 exactly
+ * where there is no such item, 26 exactly where it is withdrawn, and either
+ * before any other of the call's own. */
+static void judge_asked(struct lent img, uint64_t item,
+                        const uint64_t *numbers) {
+    uint64_t wanted = 0;
+    if (numbers[0] == SVELGANDUR_REFUSED && numbers[1] != SVELGANDUR_CALL)
+        return;
+    if (item >= img.at[3] * 256u + img.at[4])
+        wanted = 15;
+    else if (withdrawn(img, item))
+        wanted = 26;
+    if (wanted)
+        require(numbers[0] == SVELGANDUR_REFUSED && numbers[2] == wanted,
+                "an item that cannot be asked for");
+    else
+        require(numbers[0] != SVELGANDUR_REFUSED ||
+                    (numbers[2] != 15 && numbers[2] != 26),
+                "an item that can be asked for");
+}
+
+/* After a good answer so many places hold an item that is not withdrawn, or a
+ * number that stands for none where there may be one; the others are as they
+ * were. */
+static void judge_map(struct lent img, struct lent map, uint64_t written,
+                      int may_be_none) {
+    uint64_t items = img.at[3] * 256u + img.at[4];
     size_t place;
     require(written * 2 <= map.bytes, "more places than there are");
     for (place = 0; place < map.bytes / 2; place++) {
@@ -486,7 +526,8 @@ static void judge_map(struct lent map, uint64_t written, int may_be_none) {
         if (place >= written)
             require(now == then, "a place behind the nodes was written");
         else
-            require(now < 512 || (may_be_none && now >= SVELGANDUR_DROPPED),
+            require((now < items && !withdrawn(img, now)) ||
+                        (may_be_none && now >= SVELGANDUR_DROPPED),
                     "no item in the map");
     }
 }
@@ -505,9 +546,10 @@ static void questions(void) {
     if (judged(DEGREE, &answer, img.bytes, msg.bytes)) {
         require(answer.numbers[1] <= answer.numbers[2] && answer.numbers[2],
                 "a degree above 1");
-        judge_map(map, answer.numbers[3], 1);
+        judge_map(img, map, answer.numbers[3], 1);
     } else
         require(as_it_was(map), "a refused degree wrote to the map");
+    judge_asked(img, item, answer.numbers);
     memcpy(map.at, map.before, map.bytes);
 
     answer = fresh();
@@ -515,9 +557,10 @@ static void questions(void) {
                       map.bytes / 2, answer.numbers);
     if (judged(MEMBER, &answer, img.bytes, msg.bytes) &&
         answer.numbers[0] == SVELGANDUR_GOOD)
-        judge_map(map, answer.numbers[1], 0);
+        judge_map(img, map, answer.numbers[1], 0);
     else
         require(as_it_was(map), "a no or a refusal wrote to the map");
+    judge_asked(img, item, answer.numbers);
 
     answer = fresh();
     svelgandur_margin(img.at, img.bytes, msg.at, msg.bytes, item,
@@ -528,6 +571,7 @@ static void questions(void) {
                     answer.numbers[2] <= UINT64_C(3486784401000) &&
                     answer.numbers[3] <= 1,
                 "a margin out of range");
+    judge_asked(img, item, answer.numbers);
     require(as_it_was(img) && as_it_was(msg), "an image or message was written");
     take_back(map);
     take_back(msg);
@@ -535,9 +579,10 @@ static void questions(void) {
 }
 
 /* After a good answer each place of a written node at an item holds a number
- * that is not above a scale, the first row's not above the root's; the places
- * behind are as they were. */
-static void judge_table(struct lent table, const uint64_t *numbers) {
+ * that is not above a scale, the first row's not above the root's, and 0 where
+ * the item is withdrawn; the places behind are as they were. */
+static void judge_table(struct lent img, struct lent table,
+                        const uint64_t *numbers) {
     uint64_t items = numbers[1], nodes = numbers[2], scale = numbers[3];
     size_t place;
     require(items - 1 < 512 && nodes - 1 < 64, "counts out of range");
@@ -549,13 +594,17 @@ static void judge_table(struct lent table, const uint64_t *numbers) {
         memcpy(&then, table.before + 4 * place, 4);
         if (place >= items * nodes)
             require(now == then, "a place behind the rows was written");
-        else
+        else {
             require(now <= (place < items ? scale : UINT64_C(3486784401)),
                     "a number above its scale");
+            require(!now || !withdrawn(img, place % items),
+                    "a number for an item that is withdrawn");
+        }
     }
 }
 
-/* The degree that the list has for an item is the single call's. */
+/* The degree that the list has for an item is the single call's, which has none
+ * for a withdrawn item. */
 static void judge_single(struct lent img, struct lent msg, struct lent table,
                          const uint64_t *numbers) {
     uint16_t map[64];
@@ -564,8 +613,12 @@ static void judge_single(struct lent img, struct lent msg, struct lent table,
     struct answer answer = fresh();
     svelgandur_degree(img.at, img.bytes, msg.at, msg.bytes, item, map, 64,
                       answer.numbers);
-    require(judged(DEGREE, &answer, img.bytes, msg.bytes),
-            "listed, and refused by itself");
+    if (!judged(DEGREE, &answer, img.bytes, msg.bytes)) {
+        require(answer.numbers[2] == 26 && withdrawn(img, item),
+                "listed, and refused by itself");
+        return;
+    }
+    require(!withdrawn(img, item), "a degree of an item that is withdrawn");
     memcpy(&listed, table.at + 4 * item, 4);
     require(answer.numbers[3] == numbers[2], "another count of nodes");
     require(listed * answer.numbers[2] == answer.numbers[1] * numbers[3],
@@ -600,7 +653,7 @@ static void whole_list(void) {
     svelgandur_list(img.at, img.bytes, msg.at, msg.bytes,
                     (uint32_t *)(void *)table.at, room, answer.numbers);
     if (judged(LIST, &answer, img.bytes, msg.bytes)) {
-        judge_table(table, answer.numbers);
+        judge_table(img, table, answer.numbers);
         judge_single(img, msg, table, answer.numbers);
     } else {
         require(as_it_was(table), "a refused list wrote to the table");
@@ -704,14 +757,14 @@ static void session(void) {
     take_back(buffer);
 }
 
-/* Every call that can refuse a threshold for its comparison, p or q did so, on
- * each side that it can. */
-static void require_thresholds_met(int which) {
+/* Every call that can refuse a threshold for its comparison, p or q, or an item
+ * because it is withdrawn, did so, on each side that it can. */
+static void require_met(int which) {
     int side;
     for (side = 0; side < 3; side++)
-        require(!(calls[which].sides[side] & (N(13) | FRACTION) &
+        require(!(calls[which].sides[side] & (N(13) | FRACTION | N(26)) &
                   ~met[which][side]),
-                "a threshold's fault that was not met");
+                "a refusal that was not met");
 }
 
 int main(int words, char **word_list) {
@@ -743,7 +796,7 @@ int main(int words, char **word_list) {
                " refused\n",
                call->name, call->good, call->no, call->refused);
         require(call->good && call->refused, "a call with one answer only");
-        require_thresholds_met(which);
+        require_met(which);
     }
     printf("boundary: %" PRIu64 " calls\n", total);
     return 0;

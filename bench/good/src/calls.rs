@@ -47,10 +47,13 @@ pub fn inner_part(message: &[u8], k: u64) -> Answer {
     }
 }
 
-/// An item that the register has.
+/// An item that the register has and that is not withdrawn.
 fn asked(register: &Register, item: u64) -> Result<usize, Refusal> {
     if item >= register.items as u64 {
         return refuse(Side::Call, 15, 0);
+    }
+    if !register.judged(item as usize) {
+        return refuse(Side::Call, 26, 0);
     }
     Ok(item as usize)
 }

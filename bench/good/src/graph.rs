@@ -2,7 +2,8 @@
 //! in order of role, so those under one role are a run of them. All runs of an
 //! item are looked up when the first is asked for; where its links begin is
 //! searched for by halves, and once that was done often it is noted for all
-//! items in one pass.
+//! items in one pass. A withdrawn item has no runs, and no run begins or ends with
+//! a link to one; between its ends there may be some.
 
 use std::mem::MaybeUninit;
 
@@ -111,11 +112,19 @@ impl<'a> Graph<'a> {
             false => usize::from(self.starts[item]),
         };
         let runs = self.runs[item].write([Run::NONE; ROLES]);
+        let links = match register.judged(item) {
+            true => first..register.links,
+            false => 0..0,
+        };
         let (mut start, mut before) = (first, u64::MAX);
-        for link in first..register.links {
-            let from_and_role = register.key(link) >> 16;
+        for link in links {
+            let key = register.key(link);
+            let from_and_role = key >> 16;
             if from_and_role >> 8 != item as u64 {
                 break;
+            }
+            if !register.judged(key as usize & 0xFFFF) {
+                continue;
             }
             // No branch: whether a run goes on cannot be foreseen.
             start = if from_and_role == before { start } else { link };

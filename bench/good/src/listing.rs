@@ -55,7 +55,11 @@ fn lines(
     let register = Register::whole(register)?;
     let mut inner = Each::NONE;
     let mut message = Message::read(message, &mut inner)?;
-    let all = Reached::of(Items::below(register.items));
+    let mut judged = Items::NONE;
+    (0..register.items)
+        .filter(|item| register.judged(*item))
+        .for_each(|item| judged.insert(item));
+    let all = Reached::of(judged);
     let mut graph = Graph::of(register);
     if message.count > 0 {
         let meeting = Meeting::of(&mut graph, &message, &inner, all);
@@ -79,9 +83,13 @@ fn degrees(
     let mut map = [0; MOST_NODES];
     text.word(b"item degree map\n");
     for item in 0..graph.register.items {
+        text.number(item as u64);
+        if !graph.register.judged(item) {
+            text.withdrawn()?;
+            continue;
+        }
         numbers.show(graph, tree, item, &mut map);
         let (num, den) = lowest(numbers.root(item), scale);
-        text.number(item as u64);
         text.word(b" ");
         text.number(num);
         text.word(b"/");
@@ -102,6 +110,7 @@ fn members(
     for item in 0..graph.register.items {
         text.number(item as u64);
         match &meeting {
+            _ if !graph.register.judged(item) => text.withdrawn()?,
             Some(meeting) if meeting.meets(item) => {
                 meeting.show(graph, tree, item, &mut map);
                 text.word(b" yes");
@@ -140,6 +149,12 @@ impl<W: Write> Text<'_, W> {
             }
         }
         self.word(&digits[at..]);
+    }
+
+    /// What stands behind the number of a withdrawn item.
+    fn withdrawn(&mut self) -> io::Result<()> {
+        self.word(b" withdrawn");
+        self.map(&[UNMAPPED])
     }
 
     /// A blank, the map and the end of the line.

@@ -2,8 +2,8 @@
 //! each node the items that it reaches and that hold its names; up the tree,
 //! those of them whose links lead to items that meet the children, and of
 //! these the ones that satisfy the thresholds. A node that nothing meets makes
-//! the answer no for all. A leaf without names and thresholds is met by all and
-//! is not worked out.
+//! the answer no for all. A leaf without names and thresholds is met by all that
+//! are not withdrawn and is not worked out; a withdrawn item meets nothing.
 
 use crate::graph::{ends, Graph, Run};
 use crate::items::Items;
@@ -14,7 +14,7 @@ use crate::{Ones, MOST_NODES};
 
 pub struct Meeting {
     met: [Items; MOST_NODES],
-    /// The nodes that every item meets.
+    /// The nodes that every item meets that is not withdrawn.
     free: u64,
     /// The nodes that have thresholds.
     asking: u64,
@@ -24,7 +24,8 @@ pub struct Meeting {
 struct Unmet;
 
 impl Meeting {
-    /// Which of these items meet the root; all of the others do not count.
+    /// Which of these items, none of them withdrawn, meet the root; all of the
+    /// others do not count.
     pub fn of(
         graph: &mut Graph,
         message: &Message,
@@ -94,9 +95,16 @@ impl Meeting {
                 continue;
             }
             let kids = tree.kids[node];
+            // A withdrawn item has no runs and holds no names, so it is tested
+            // only where neither is asked for.
+            let bare = tree.names[node] == 0;
             let mut met = Items::NONE;
             reached[node].each(graph.links, |item| {
-                if kids == 0 || self.meets_kids(graph, tree, kids, item) {
+                let meets = match kids {
+                    0 => !bare || graph.register.judged(item),
+                    _ => self.meets_kids(graph, tree, kids, item),
+                };
+                if meets {
                     met.insert(item);
                 }
             });
@@ -128,6 +136,7 @@ impl Meeting {
         ends(links, run).find(|to| free || self.met[node].has(*to))
     }
 
+    /// Whether an item that is not withdrawn meets the root.
     pub fn meets(&self, item: usize) -> bool {
         self.free & 1 == 1 || self.met[0].has(item)
     }
@@ -145,10 +154,11 @@ impl Meeting {
     }
 }
 
-/// Those of the items that hold some names, where there are any.
+/// Those of the items that hold some names, where there are any. Where no names
+/// are asked for they stay as they are, withdrawn ones among them.
 #[inline]
 fn holding(graph: &Graph, items: Reached, names: u64) -> Result<Reached, Unmet> {
-    let holds = |item| names & !graph.register.names(item) == 0;
+    let holds = |item| names & !graph.register.judged_names(item) == 0;
     let some = match items {
         Reached::One(item) => holds(usize::from(item)),
         Reached::Ends(run) if names == 0 => !run.is_empty(),

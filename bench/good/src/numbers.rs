@@ -1,7 +1,8 @@
 //! Degrees as whole numbers over a scale, at the kept nodes of a reduced tree.
 //! Down the tree, for each node the items that it can reach; up the tree, its
-//! numbers at these items, each once. An empty node's number is 1 everywhere
-//! and is not worked out.
+//! numbers at these items, each once. A withdrawn item may be among them and has
+//! the number 0. An empty node's number is 1 at every other item and is not worked
+//! out.
 
 use std::mem::MaybeUninit;
 
@@ -114,9 +115,12 @@ impl Numbers {
 
     #[inline]
     fn worked_out(&self, graph: &mut Graph, tree: &Tree, node: usize, item: usize) -> u32 {
+        // Without names a withdrawn item's number is 0 because it has no links.
         let mut number = match tree.names[node] {
             0 => 0,
-            names => (names & graph.register.names(item)).count_ones() * self.scales.below[node],
+            names => {
+                (names & graph.register.judged_names(item)).count_ones() * self.scales.below[node]
+            }
         };
         let kids = tree.kids[node];
         if kids != 0 {

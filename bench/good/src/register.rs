@@ -15,6 +15,8 @@ pub struct Register<'a> {
 /// Where the names begin, and how long they and a link are.
 const NAMES: usize = 5;
 pub const LINK: usize = 5;
+/// Name 63 in the first byte of an item's names.
+const WITHDRAWN: u8 = 0x80;
 /// The bits of a link's number.
 const KEY: u64 = (1 << 40) - 1;
 /// Of these, the role's that no role of at most 31 has.
@@ -48,6 +50,19 @@ impl<'a> Register<'a> {
     #[inline]
     pub fn names(&self, item: usize) -> u64 {
         eight(self.image, self.names_place(item))
+    }
+
+    /// Whether an item is not withdrawn. The first byte of its names says it.
+    #[inline]
+    pub fn judged(&self, item: usize) -> bool {
+        self.image[self.names_place(item)] & WITHDRAWN == 0
+    }
+
+    /// The names of an item, and none of a withdrawn one.
+    #[inline]
+    pub fn judged_names(&self, item: usize) -> u64 {
+        let names = self.names(item);
+        names & !((names as i64 >> 63) as u64)
     }
 
     #[inline]

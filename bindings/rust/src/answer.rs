@@ -21,7 +21,7 @@ pub struct RequirementCounts {
 #[derive(Clone, Copy, PartialEq, Eq, Hash, Debug)]
 pub enum Place {
     Item(u16),
-    /// Its parent goes nowhere, or to an item with no such successor.
+    /// Its parent goes nowhere, or to an item with no such successor that counts.
     Unmapped,
     /// A sibling says all that it says, so it does not count.
     Dropped,

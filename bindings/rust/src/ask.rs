@@ -1,8 +1,16 @@
 //! The questions. An image and a message are the whole of the bytes handed in.
+//!
+//! No question counts a withdrawn item ([`WITHDRAWN`]) or a link at one: no node
+//! goes there, and one that asks for it by its number is refused with 26.
 
 use crate::answer::{Degree, Margin, Place, RegisterCounts, RequirementCounts, Verdict};
 use crate::calls::{self, Answer, GOOD};
 use crate::refusal::Refusal;
+
+/// The name of an item that is withdrawn: questions are asked of the register
+/// without such items and the links at them. A session keeps all their facts; an
+/// edit that takes the name away brings the item back.
+pub const WITHDRAWN: u64 = 63;
 
 /// No requirement has more written nodes than this, so a map of so many
 /// places is never too short.

@@ -6,10 +6,10 @@
 //! [`Requirement`] builds a requirement node by node. Nothing here works
 //! anything out but the lowest terms and the order of a [`List`]: each function
 //! lends the proved library what it was handed, and gives its four numbers a
-//! type.
+//! type. Which items a list leaves out is read off the register's names.
 //!
 //! ```
-//! use svelgandur::{degree, list, Place, Session, Fact};
+//! use svelgandur::{degree, list, Place, Session, Fact, WITHDRAWN};
 //!
 //! // Three items; 0 is linked to 1 under role 0 and to 2 under role 1.
 //! let register = [
@@ -39,6 +39,13 @@
 //! assert_eq!((answer.num, answer.den), (1, 1));
 //! session.undo()?;
 //! assert_eq!(session.image(), register);
+//!
+//! // And if item 1 were out for repair? Nothing goes there, and it has no degree.
+//! session.add(Fact::Name { item: 1, name: WITHDRAWN })?;
+//! let answer = session.degree(&requirement, 0)?;
+//! assert_eq!((answer.num, answer.den), (1, 3));
+//! assert_eq!(answer.map, [Place::Item(0), Place::Unmapped]);
+//! assert_eq!(session.degree(&requirement, 1).unwrap_err().number, 26);
 //! # Ok::<(), svelgandur::Refusal>(())
 //! ```
 //!
@@ -65,6 +72,7 @@ mod session;
 pub use answer::{Degree, Margin, Place, RegisterCounts, RequirementCounts, Verdict};
 pub use ask::{
     degree, degree_into, inner_part, margin, member, member_into, read_register, read_requirement,
+    WITHDRAWN,
 };
 pub use list::{list, list_into, Fraction, List, LONGEST_TABLE};
 pub use refusal::{Refusal, Side};

@@ -4,6 +4,7 @@ use std::borrow::Cow;
 use std::cmp::{Ordering, Reverse};
 use std::fmt;
 
+use crate::ask::WITHDRAWN;
 use crate::calls;
 use crate::refusal::Refusal;
 
@@ -60,19 +61,21 @@ impl fmt::Display for Fraction {
 }
 
 /// The degrees of all items in a plain requirement, and of all items in each of
-/// its nodes.
+/// its nodes. A withdrawn item has none.
 ///
 /// The table is the library's: a whole number for each written node at each
-/// item. It is this list's own ([`list`]) or lent ([`list_into`]).
+/// item, 0 at a withdrawn one. It is this list's own ([`list`]) or lent
+/// ([`list_into`]).
 #[derive(Clone, PartialEq, Eq, Hash, Debug)]
 pub struct List<'a> {
     table: Cow<'a, [u32]>,
     items: usize,
     scale: u64,
+    out: Out,
 }
 
 impl List<'_> {
-    /// How many items there are.
+    /// How many items there are, withdrawn ones among them.
     pub fn items(&self) -> u64 {
         self.items as u64
     }
@@ -87,23 +90,31 @@ impl List<'_> {
         self.scale
     }
 
-    /// The degree of an item; none where the register has no such item.
+    /// Whether an item is withdrawn; none where the register has no such item.
+    pub fn is_withdrawn(&self, item: u64) -> Option<bool> {
+        let item = usize::try_from(item).ok()?;
+        (item < self.items).then(|| self.out.has(item))
+    }
+
+    /// The degree of an item; none where the register has no such item or it is
+    /// withdrawn.
     pub fn degree(&self, item: u64) -> Option<Fraction> {
-        let number = self.root().get(usize::try_from(item).ok()?)?;
+        let item = usize::try_from(item).ok()?;
+        let number = self.root().get(item).filter(|_| !self.out.has(item))?;
         Some(Fraction::lowest(u64::from(*number), self.scale))
     }
 
-    /// Each item with its degree, in the register's order.
+    /// Each item that is not withdrawn with its degree, in the register's order.
     pub fn iter(&self) -> impl Iterator<Item = (u64, Fraction)> + '_ {
-        self.told(0..self.items)
+        self.told(self.judged())
     }
 
-    /// Each item with its degree, the greatest degree first, and of equal ones
-    /// the lower item.
+    /// Each item that is not withdrawn with its degree, the greatest degree
+    /// first, and of equal ones the lower item.
     pub fn by_degree(&self) -> impl Iterator<Item = (u64, Fraction)> + '_ {
         // Over one scale degrees compare as their numbers do, and a stable sort
         // leaves equal ones in the register's order.
-        let mut items: Vec<usize> = (0..self.items).collect();
+        let mut items: Vec<usize> = self.judged().collect();
         items.sort_by_key(|item| Reverse(self.table[*item]));
         self.told(items)
     }
@@ -112,7 +123,7 @@ impl List<'_> {
     /// where there is no such node. Each is the node's degree there, were it a
     /// requirement of its own, over the node's own scale, so the numbers of one
     /// row compare as these degrees do. The row of a dropped node, and of any
-    /// below it, is all 0.
+    /// below it, is all 0, and every row is 0 at a withdrawn item.
     pub fn row(&self, node: u64) -> Option<&[u32]> {
         let node = usize::try_from(node).ok()?;
         self.table.chunks_exact(self.items).nth(node)
@@ -120,6 +131,10 @@ impl List<'_> {
 
     fn root(&self) -> &[u32] {
         &self.table[..self.items]
+    }
+
+    fn judged(&self) -> impl Iterator<Item = usize> + '_ {
+        (0..self.items).filter(|item| !self.out.has(*item))
     }
 
     fn told<'b>(
@@ -130,6 +145,30 @@ impl List<'_> {
             let number = self.table[item].into();
             (item as u64, Fraction::lowest(number, self.scale))
         })
+    }
+}
+
+/// The withdrawn items of a register, a bit for each: the table has no number
+/// that says so.
+#[derive(Clone, Copy, PartialEq, Eq, Hash, Debug)]
+struct Out([u64; 8]);
+
+impl Out {
+    /// Of an image that was read: the names of item 0 stand at place 5.
+    fn of(image: &[u8]) -> Out {
+        let mut out = [0; 8];
+        let names = image[5..].chunks_exact(8);
+        let items = usize::from(u16::from_be_bytes([image[3], image[4]]));
+        for (item, names) in names.take(items).enumerate() {
+            // Big-endian: the byte of the greatest names comes first.
+            let withdrawn = u64::from(names[0] >> (WITHDRAWN % 8));
+            out[item / 64] |= withdrawn << (item % 64);
+        }
+        Out(out)
+    }
+
+    fn has(&self, item: usize) -> bool {
+        self.0[item / 64] >> (item % 64) & 1 == 1
     }
 }
 
@@ -191,6 +230,7 @@ struct Filled {
     items: u64,
     nodes: u64,
     scale: u64,
+    out: Out,
 }
 
 impl Filled {
@@ -200,6 +240,7 @@ impl Filled {
             items,
             nodes,
             scale,
+            out: Out::of(image),
         })
     }
 
@@ -212,6 +253,7 @@ impl Filled {
             table,
             items: self.items as usize,
             scale: self.scale,
+            out: self.out,
         }
     }
 }

@@ -37,7 +37,7 @@ impl fmt::Display for Side {
 #[derive(Clone, Copy, PartialEq, Eq, Hash, Debug)]
 pub struct Refusal {
     pub side: Side,
-    /// 1 to 25: see [`Refusal::sentence`].
+    /// 1 to 26: see [`Refusal::sentence`].
     pub number: u64,
     /// 0 on the call's side.
     pub place: u64,
@@ -87,6 +87,7 @@ impl Refusal {
             23 => "a threshold's q is 0 or above 1,000",
             24 => "a threshold's p is above its q",
             25 => "a threshold's p and q share a factor above 1",
+            26 => "the item that is asked for is withdrawn",
             _ => "the number is not known here",
         }
     }

@@ -266,7 +266,7 @@ fn sessions() {
 #[test]
 fn sentences() {
     let sentence = |number| refusal(Side::Register, number, 0).sentence();
-    for number in 1..=25 {
+    for number in 1..=26 {
         assert_ne!(sentence(number), sentence(0));
         for other in 1..number {
             assert_ne!(sentence(number), sentence(other));

@@ -2,27 +2,25 @@
 -- Assumes nothing.
 use mathlib.Core.Path.{_≡_, refl, sym, ap, _∙_}
 use mathlib.Core.Logic.{_⊎_, inl, inr}
-use mathlib.Core.Bool.{Bool, true, false}
+use mathlib.Core.Bool.{true}
 use mathlib.Core.List.{List}
-use Prim.Native.Nat.{ℕ}
-use lib.Dec.{leb, leb→le}
+use Prim.Native.Nat.{ℕ, _≤_, _<_}
 use lib.ListN.{length}
 use Rattle.meaning.specs.declared.Refusal.{Refusal}
 use Rattle.meaning.specs.Refusal.{Answer, refused, onCall, _>>_}
 use Rattle.meaning.specs.Tree.{Concept}
-use Rattle.meaning.specs.Register.{Register}
+use Rattle.meaning.specs.Register.{Register, withdrawn}
 use Rattle.meaning.specs.ListRows.{Readable, Unreadable}
-use Rattle.meaning.specs.Calls.{inRange}
-use Rattle.meaning.proofs.Tests.{holds}
-use Rattle.meaning.proofs.Reading.{pass, stop, at-most, not-le, lt-of-not-le}
+use Rattle.meaning.specs.Calls.{askedFor}
+use Rattle.meaning.proofs.Asked.{Asks, asked-stops, asked-withdrawn, asked-either, asks-goes, asks-halts}
 use Rattle.meaning.proofs.ListRows.{readThen, unreadable-stops, readable-goes, unreadable-or-readable}
-use Rattle.asking.specs.Refusing.{Askable, Early, unread, noItem, conceptOf}
+use Rattle.asking.specs.Refusing.{Askable, Early, unread, noItem, isWithdrawn, conceptOf}
 
 -- ---- what is asked first, and then `next`
 
 module _ {C : Type 0} (image message : List ℕ) (item : ℕ) (next : Register → Concept → Answer C) where
   abbrev ranged : Register → Concept → Answer C
-  ranged g t = inRange g item >> next g t
+  ranged g t = askedFor g item >> next g t
 
   abbrev pub asked : Answer C
   asked = readThen image message ranged
@@ -30,12 +28,14 @@ module _ {C : Type 0} (image message : List ℕ) (item : ℕ) (next : Register �
   pub early-stops : (f : Refusal) → Early image message item f → asked ≡ refused f
   early-stops f (unread u) = unreadable-stops image message ranged f u
   early-stops f (noItem x m is) =
-      readable-goes image message ranged x ∙ stop (leb (length (x .register .names)) item) _ _ (at-most (length (x .register .names)) item m) ∙ ap refused (sym is)
+      readable-goes image message ranged x ∙ asks-halts (x .register) item _ (asked-stops (x .register) item m) ∙ ap refused (sym is)
+  early-stops f (isWithdrawn x l w is) =
+      readable-goes image message ranged x ∙ asks-halts (x .register) item _ (asked-withdrawn (x .register) item l w) ∙ ap refused (sym is)
 
   pub askable-goes : (x : Askable image message item) → asked ≡ next (x .readable .register) (conceptOf x)
   askable-goes x =
-      let n = length (x .readable .register .names) in
-      readable-goes image message ranged (x .readable) ∙ pass (leb n item) _ _ (not-le n item (x .inside))
+      readable-goes image message ranged (x .readable)
+      ∙ asks-goes (x .readable .register) item _ (record { inside = x .inside; serves = x .serves })
 
 -- ---- nothing is left out
 
@@ -43,13 +43,15 @@ module _ (image message : List ℕ) (item : ℕ) where
   abbrev Either : Type 0
   Either = ((f : Refusal) × Early image message item f) ⊎ Askable image message item
 
-  of-item : (x : Readable image message) (b : Bool) → leb (length (x .register .names)) item ≡ b → Either
-  of-item x true d = inl (onCall 15, noItem x (leb→le (length (x .register .names)) item (holds d)) refl)
-  of-item x false d = inr (record { readable = x; inside = lt-of-not-le (length (x .register .names)) item d })
+  of-item : (x : Readable image message)
+      → (length (x .register .names) ≤ item) ⊎ ((item < length (x .register .names)) × (withdrawn (x .register) item ≡ true)) ⊎ Asks (x .register) item → Either
+  of-item x (inl l) = inl (onCall 15, noItem x l refl)
+  of-item x (inr (inl w)) = inl (onCall 26, isWithdrawn x (w .0) (w .1) refl)
+  of-item x (inr (inr a)) = inr (record { readable = x; inside = a .inside; serves = a .serves })
 
   of-both : ((f : Refusal) × Unreadable image message f) ⊎ Readable image message → Either
   of-both (inl u) = inl (u .0, unread (u .1))
-  of-both (inr x) = of-item x (leb (length (x .register .names)) item) refl
+  of-both (inr x) = of-item x (asked-either (x .register) item)
 
   pub early-or-askable : Either
   early-or-askable = of-both (unreadable-or-readable image message)

@@ -2,12 +2,14 @@
 -- "A number is given exactly when its row holds and nothing earlier in the order below applies."
 -- Assumes nothing.
 use mathlib.Core.Path.{_≡_}
+use mathlib.Core.Bool.{true, false}
 use mathlib.Core.List.{List}
 use Prim.Native.Nat.{ℕ, _≤_, _<_}
 use lib.ListN.{length}
 use Rattle.meaning.specs.declared.Refusal.{Refusal}
 use Rattle.meaning.specs.Refusal.{onCall}
 use Rattle.meaning.specs.Tree.{Concept, nodes}
+use Rattle.meaning.specs.Register.{withdrawn}
 use Rattle.meaning.specs.Requirement.{bare}
 use Rattle.meaning.specs.FractionRows.{FractionTakes, FractionRow}
 use Rattle.meaning.specs.ListRows.{Readable, Unreadable}
@@ -18,15 +20,18 @@ use Rattle.asking.specs.Answers.{paperDegree, told, paperMargin}
 
 -- ---- what both calls ask first
 
--- what is read (meaning's ListRows), and an item of the register
+-- what is read (meaning's ListRows), and an item of the register that is in service
 pub record Askable (image message : List ℕ) (item : ℕ) : Type 0 where
   pub readable : Readable image message
   pub inside : item < length (readable .register .names)
+  pub serves : withdrawn (readable .register) item ≡ false
 
 -- a row of both calls that gives the refusal f
 pub data Early (image message : List ℕ) (item : ℕ) (f : Refusal) : Type 0 where
   unread : Unreadable image message f → Early image message item f
   noItem : (x : Readable image message) → length (x .register .names) ≤ item → f ≡ onCall 15 → Early image message item f
+  -- document 02, §5: "26 when the asked item is withdrawn, directly after 15"
+  isWithdrawn : (x : Readable image message) → item < length (x .register .names) → withdrawn (x .register) item ≡ true → f ≡ onCall 26 → Early image message item f
 
 -- the plain requirement that is asked about
 abbrev pub conceptOf : {image message : List ℕ} {item : ℕ} → Askable image message item → Concept

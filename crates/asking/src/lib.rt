@@ -41,8 +41,9 @@ pub fn degree_of(image: &[u8], message: &[u8], item: usize, map: &mut [u16]) -> 
             links,
             nodes,
         } => {
-            if items <= item {
-                return degree_refused(15);
+            let number = graph::refusal_of(image, items, item);
+            if number != 0 {
+                return degree_refused(number);
             }
             if map.len() < nodes {
                 return degree_refused(16);
@@ -93,12 +94,13 @@ pub fn margin_of(image: &[u8], message: &[u8], item: usize, p: usize, q: usize) 
             links,
             nodes: _,
         } => {
-            if item >= items {
-                return margin_refused(15);
-            }
-            let number = fractions::wrong(p, q);
+            let number = graph::refusal_of(image, items, item);
             if number != 0 {
                 return margin_refused(number);
+            }
+            let wrong = fractions::wrong(p, q);
+            if wrong != 0 {
+                return margin_refused(wrong);
             }
             let d = shown::degree_at(
                 image,

@@ -9,7 +9,8 @@ use native.Mathlib.Omega.{arith}
 use lib.ListN.{length, getD}
 use Rattle.meaning.specs.Bytes.{Bytes}
 use Rattle.meaning.specs.Graph.{Graph}
-use Rattle.meaning.specs.Register.{Register, judged}
+use Rattle.meaning.specs.Register.{Register}
+use Rattle.graph.specs.Walked.{walked}
 use Rattle.meaning.specs.Requirement.{Threshold, Requirement}
 use Rattle.meaning.specs.Message.{lawful, comparison, soundInner, Part, readInner, thresholdsOf}
 use Rattle.meaning.proofs.Tests.{and-both}
@@ -79,7 +80,7 @@ module _ {image : List ℕ} {items links : ℕ} {message B : List ℕ} {parts : 
     posed = record { graph = j; held = rw (en, er, ee) (k .posed .held); few = rw ee (k .posed .few) };
     stand = record { thresholds = thresholdsOf (k .requirement); each = rw ef (each-stands b) };
     most = k .most;
-    ruled = rw (eo, ee) (read-ruled b (judged (j .register)));
+    ruled = rw (eo, ee) (read-ruled b (walked (j .register)));
   }
 
   -- the index is of the register that was read

@@ -4,10 +4,9 @@
 use mathlib.Core.Path.{_≡_, refl, sym, ap, subst, _∙_}
 use mathlib.Core.Logic.{_↔_}
 use mathlib.Core.List.{List, []}
-use Prim.Native.Nat.{ℕ, _≤_, _<_}
-use lib.Dec.{T, ltb, leb}
-use lib.ListN.{length}
-use borrow.Author.Tests.{lt-leb, le-ltb}
+use Prim.Native.Nat.{ℕ, _≤_}
+use lib.Dec.{T, ltb}
+use borrow.Author.Tests.{le-ltb}
 use Rattle.meaning.specs.declared.Refusal.{Refusal}
 use Rattle.meaning.specs.Refusal.{good, refused}
 use Rattle.meaning.specs.Tree.{nodes}
@@ -19,11 +18,12 @@ use Rattle.meaning.specs.Requirement.{Requirement, bare, member}
 use Rattle.meaning.specs.Message.{Part, readRequirement, thresholdsOf}
 use Rattle.meaning.specs.Shown.{yesMap}
 use Rattle.meaning.specs.Calls.{decide, memberCall}
-use Rattle.meaning.proofs.Reading.{pass, stop, stopped, took, below, at-most, not-le, then-test, then-take}
+use Rattle.meaning.proofs.Reading.{stop, stopped, took, below, then-test, then-take}
+use Rattle.meaning.proofs.Asked.{Asks, asked-stops, asked-withdrawn, asks-goes, asks-halts}
 use Rattle.meaning.proofs.Whole.{meets-whole}
 use Rattle.meaning.proofs.One.{answered-one}
 use Rattle.meaning.proofs.Member.{bare-member}
-use Rattle.deciding.specs.Refusing.{DecideRow, badImage, badMessage, noItem, noRoom}
+use Rattle.deciding.specs.Refusing.{DecideRow, badImage, badMessage, noItem, isWithdrawn, noRoom}
 
 -- each row of the table refuses
 pub refuses-answer : (image message : List ℕ) (item room : ℕ) (x : Refusal) → DecideRow image message item room x → memberCall image message item room ≡ refused x
@@ -32,20 +32,23 @@ refuses-answer image message item room x (badImage e) = stopped (readRegister im
 refuses-answer image message item room x (badMessage g eg e) = took (readRegister image) _ g eg ∙ stopped (readRequirement message) _ x e
 refuses-answer image message item room x (noItem g q ps eg em l ex) =
     took (readRegister image) _ g eg ∙ took (readRequirement message) _ (q, ps) em
-    ∙ stop (leb (length (g .names)) item) _ _ (at-most (length (g .names)) item l) ∙ ap refused (sym ex)
-refuses-answer image message item room x (noRoom g q ps eg em l s ex) =
+    ∙ asks-halts g item _ (asked-stops g item l) ∙ ap refused (sym ex)
+refuses-answer image message item room x (isWithdrawn g q ps eg em l w ex) =
     took (readRegister image) _ g eg ∙ took (readRequirement message) _ (q, ps) em
-    ∙ pass (leb (length (g .names)) item) _ _ (not-le (length (g .names)) item l)
+    ∙ asks-halts g item _ (asked-withdrawn g item l w) ∙ ap refused (sym ex)
+refuses-answer image message item room x (noRoom g q ps eg em l w s ex) =
+    took (readRegister image) _ g eg ∙ took (readRequirement message) _ (q, ps) em
+    ∙ asks-goes g item _ (record { inside = l; serves = w })
     ∙ stop (ltb room (nodes q)) _ _ (below room (nodes q) s) ∙ ap refused (sym ex)
 
 module _ (image message : List ℕ) (item room : ℕ) (g : Register) (q : Requirement) (ps : List Part) (eg : readRegister image ≡ good g)
-    (em : readRequirement message ≡ good (q, ps)) (inside : item < length (g .names)) (fits : nodes q ≤ room) where
+    (em : readRequirement message ≡ good (q, ps)) (asks : Asks g item) (fits : nodes q ≤ room) where
   pub member-answer : memberCall image message item room ≡ good (decide (member (judged g) q item) (yesMap (judged g) q item))
   unfolding memberCall
   member-answer =
       then-take _ _ g eg
       (then-take _ _ (q, ps) em
-      (then-test _ _ _ (lt-leb (length (g .names)) item inside) (then-test _ _ _ (le-ltb room (nodes q) fits) refl)))
+      (asks-goes g item _ asks ∙ then-test _ _ _ (le-ltb room (nodes q) fits) refl))
 
 -- a plain requirement is met exactly where the degree is 1
 pub plain-one : (G : Graph ℕ) (q : Requirement) (item : ℕ) → thresholdsOf q ≡ []

@@ -20,7 +20,7 @@ use Rattle.meaning.specs.Refusal.{Answer, good, refused, onCall, Exactly}
 use Rattle.meaning.specs.Tree.{Tree, nodes, subtree, roleAt}
 use Rattle.meaning.specs.Graph.{Graph}
 use Rattle.meaning.specs.Fraction.{Frac, _//_, Lowest}
-use Rattle.meaning.specs.Register.{Register, judged, readRegister}
+use Rattle.meaning.specs.Register.{Register, withdrawn, judged, readRegister}
 use Rattle.meaning.specs.Degree.{answered}
 use Rattle.meaning.specs.Whole.{meetsBy}
 use Rattle.meaning.specs.Requirement.{Label, Requirement, bare, fulfils, member, RespectingMap}
@@ -30,6 +30,7 @@ use Rattle.meaning.specs.Calls.{Decision, met, unmet, memberCall, afterMember}
 use Rattle.meaning.specs.Calls.{decide as decision}
 use Rattle.meaning.proofs.Tests.{is-true, is-false}
 use Rattle.meaning.proofs.Refusing.{exactly, carried}
+use Rattle.meaning.proofs.Asked.{Asks, asked-either}
 use Rattle.meaning.proofs.Image.{read-image}
 use Rattle.meaning.proofs.Degree.{answered-lowest}
 use Rattle.meaning.proofs.Rising.{LowestOf}
@@ -40,7 +41,7 @@ use Rattle.deciding.specs.declared.Verdict.{Verdict}
 use Rattle.deciding.specs.declared.Verdict.the-variants.{Yes, No, Refused}
 use Rattle.deciding.specs.Answers.{Said, says, said, paperVerdict}
 use Rattle.deciding.specs.Answers.{yes as saidYes, no as saidNo}
-use Rattle.deciding.specs.Refusing.{DecidePromise, DecideRow, badImage, badMessage, noItem, noRoom}
+use Rattle.deciding.specs.Refusing.{DecidePromise, DecideRow, badImage, badMessage, noItem, isWithdrawn, noRoom}
 use Rattle.deciding.proofs.Decided.{refuses-answer, member-answer, plain-one}
 
 -- ---- one result
@@ -78,16 +79,18 @@ module _ (image message : List ℕ) (item room : ℕ) where
   either = read (readRegister image) refl (readRequirement message) refl
     where
       tested : (g : Register) (q : Requirement) (ps : List Part) → readRegister image ≡ good g → readRequirement message ≡ good (q, ps)
-          → Dec (item < length (g .names)) → Dec (room < nodes q) → ((x : Refusal) × Row x) ⊎ Takes
-      tested g q ps eg em (no l) s = inl (onCall 15, noItem g q ps eg em (omega (arith, l)) refl)
-      tested g q ps eg em (yes l) (yes s) = inl (onCall 16, noRoom g q ps eg em l s refl)
-      tested g q ps eg em (yes l) (no s) = inr (_, member-answer image message item room g q ps eg em l (omega (arith, s)))
+          → (length (g .names) ≤ item) ⊎ ((item < length (g .names)) × (withdrawn g item ≡ true)) ⊎ Asks g item → Dec (room < nodes q)
+          → ((x : Refusal) × Row x) ⊎ Takes
+      tested g q ps eg em (inl l) s = inl (onCall 15, noItem g q ps eg em l refl)
+      tested g q ps eg em (inr (inl w)) s = inl (onCall 26, isWithdrawn g q ps eg em (w .0) (w .1) refl)
+      tested g q ps eg em (inr (inr a)) (yes s) = inl (onCall 16, noRoom g q ps eg em (a .inside) (a .serves) s refl)
+      tested g q ps eg em (inr (inr a)) (no s) = inr (_, member-answer image message item room g q ps eg em a (omega (arith, s)))
 
       read : (a : Answer Register) → readRegister image ≡ a → (m : Answer (Requirement × List Part)) → readRequirement message ≡ m
           → ((x : Refusal) × Row x) ⊎ Takes
       read (refused y) eg m em = inl (y, badImage eg)
       read (good g) eg (refused y) em = inl (y, badMessage g eg em)
-      read (good g) eg (good y) em = tested g (y .0) (y .1) eg em (decLt item (length (g .names))) (decLt room (nodes (y .0)))
+      read (good g) eg (good y) em = tested g (y .0) (y .1) eg em (asked-either g item) (decLt room (nodes (y .0)))
 
   said-exactly : Exactly (said (memberCall image message item room)) Row Takes
   said-exactly = carried said says (λ d. refl) (λ x. refl) _ Row Takes (exactly _ Row Takes (refuses-answer image message item room) (λ d. d) either)
@@ -109,7 +112,7 @@ decide-kept image message item old new r p other = p .1 ∙ go (memberCall image
     go (good unmet) e = refl
     go (refused x) e = refl
 
--- ---- yes and no, of a register and a requirement that were read
+-- ---- yes and no, of a register and a requirement that were read, and of an item in service
 
 -- the map shown for a yes: it is written from the first place on, and is a threshold-respecting map in which each child goes to the lowest-numbered
 -- successor that meets it
@@ -120,13 +123,13 @@ pub record Shows (g : Register) (q : Requirement) (item : ℕ) (old new : List �
       → LowestOf (λ y. T (meetsBy (fulfils (judged g)) (judged g) t y)) (judged g .next (map .whole .map p) role) (map .whole .map (p ++ k ∷ []))
 
 module _ (image message : List ℕ) (item : ℕ) (old new : List ℕ) (r : Verdict) (promised : DecidePromise image message item old new r) (g : Register)
-    (q : Requirement) (ps : List Part) (eg : readRegister image ≡ good g) (em : readRequirement message ≡ good (q, ps)) (inside : item < length (g .names))
+    (q : Requirement) (ps : List Part) (eg : readRegister image ≡ good g) (em : readRequirement message ≡ good (q, ps)) (asks : Asks g item)
     (fits : nodes q ≤ length old) where
   abbrev G : Graph ℕ
   G = judged g
 
   when : (b : Bool) → member G q item ≡ b → memberCall image message item (length old) ≡ good (decision b (yesMap G q item))
-  when b e = member-answer image message item (length old) g q ps eg em inside fits ∙ ap (λ (z : Bool). good (decision z (yesMap G q item))) e
+  when b e = member-answer image message item (length old) g q ps eg em asks fits ∙ ap (λ (z : Bool). good (decision z (yesMap G q item))) e
 
   met-yes : T (member G q item) → r ≡ Yes (nodes q)
   met-yes t =

@@ -46,8 +46,9 @@ fn decide_among(
     let m = requirement::read_message(message, &mut packed);
     match m {
         Message::Good { nodes, parts } => {
-            if items <= item {
-                return refused(15);
+            let number = graph::refusal_of(image, items, item);
+            if number != 0 {
+                return refused(number);
             }
             if map.len() < nodes {
                 return refused(16);
@@ -95,7 +96,7 @@ fn decide_read(
     let ends = rows::ends(packed);
     let owners = rows::owners(packed);
     let firsts = rows::firsts(packed);
-    let mut index = [0u16; 513];
+    let mut index = [0u16; graph::INDEX];
     graph::fill_index(image, items, links, &mut index);
     meeting::settle(
         image,

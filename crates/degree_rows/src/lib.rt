@@ -77,14 +77,14 @@ fn print_rated(
     requires { ⌜ ((m : List ℕ) × Sought (now image) m items links (now names) (now roles) (now ends) (now marks)) ⌝ }
     requires { ⌜ rows ≤ items ⌝ }
 {
-    let mut index = [0u16; 513];
-    graph::fill_index(image, items, links, &mut index[..513]);
+    let mut index = [0u16; graph::INDEX];
+    graph::fill_index(image, items, links, &mut index[..graph::INDEX]);
     let mut notes = [0u64; 4096];
     let mut numbers = [0u32; 3584];
     let scale = ratings::rate(
         image,
         items,
-        &index[..513],
+        &index[..graph::INDEX],
         names,
         roles,
         ends,
@@ -95,7 +95,7 @@ fn print_rated(
     print_degrees(
         image,
         items,
-        &index[..513],
+        &index[..graph::INDEX],
         ends,
         marks,
         &notes[..4096],

@@ -13,7 +13,7 @@ use Rattle.meaning.specs.Names.{common}
 use Rattle.meaning.specs.Names.{names as many}
 use Rattle.meaning.specs.Tree.{Forest, none, more, Concept, children, under}
 use Rattle.meaning.specs.Tree.{node as rooted}
-use Rattle.meaning.specs.Register.{judged}
+use Rattle.graph.specs.Walked.{walked}
 use Rattle.meaning.specs.Reduce.{dropped}
 use Rattle.meaning.specs.Degree.{orOne, best}
 use Rattle.meaning.specs.InPlace.{countIn, scaleIn, scaleInF, degreeIn, degreeInF}
@@ -60,7 +60,7 @@ module _ {s : List ℕ} {items : ℕ} {index names roles ends marks : List ℕ} 
         rw (same, q .0, q .1, z) (omega arith, λ x. rw (q .2 x) (ap (orOne (many a)) (omega arith)))
 
     pub alone-done : (X : ℕ → Type 0) (at from scale : ℕ) (notes numbers out : List ℕ) → scale ≡ max 1 (many (getD names node 0))
-        → Image s (λ g. (x : ℕ) → X x → rowAt out from x ≡ orOne (many (getD names node 0)) (common (getD names node 0) (judged g .names x)))
+        → Image s (λ g. (x : ℕ) → X x → rowAt out from x ≡ orOne (many (getD names node 0)) (common (getD names node 0) (walked g .names x)))
         → Kept at numbers out → (j : Gradable (Judged s items index) names roles ends marks node left) → Done j X at from scale notes notes numbers out
     alone-done X at from scale notes numbers out es eo kept =
         let q = alone-is (k .tree) (k .posed .held) (k .marked) (h .none refl) in
@@ -187,7 +187,7 @@ module _ {s : List ℕ} {items : ℕ} {index names roles ends marks : List ℕ} 
               (omega arith) (omega arith) (omega arith) (omega (arith, place .inside)) (d .outside) (part .outside)
 
           pub first-own : Asked s (λ g. Items (length (g .names)) set
-              × ((x : ℕ) → Member set x → common (getD names node 0) (judged g .names x) * scale + rowAt zs (at + 512) x < 4294967296)) × (at + 512 + 512 ≤ length zs)
+              × ((x : ℕ) → Member set x → common (getD names node 0) (walked g .names x) * scale + rowAt zs (at + 512) x < 4294967296)) × (at + 512 + 512 ≤ length zs)
           first-own = (
             record {
               register = k .posed .graph .register;
@@ -199,7 +199,7 @@ module _ {s : List ℕ} {items : ℕ} {index names roles ends marks : List ℕ} 
 
           -- so it is at the head of the others
           pub first-headed : (out : List ℕ) → length out ≡ length zs → Kept at zs out
-              → Image s (λ g. (x : ℕ) → Member set x → rowAt out at x ≡ common (getD names node 0) (judged g .names x) * scale + rowAt zs (at + 512) x)
+              → Image s (λ g. (x : ℕ) → Member set x → rowAt out at x ≡ common (getD names node 0) (walked g .names x) * scale + rowAt zs (at + 512) x)
               → Headed s items index names roles ends marks node left set heavy at scale new out
           first-headed out so kept sum = record {
             asked = k;

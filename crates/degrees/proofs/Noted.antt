@@ -12,7 +12,8 @@ use lib.Dec.{ltb}
 use lib.ListN.{length, getD}
 use borrow.Author.Tests.{ltb-true, ltb-false}
 use Rattle.meaning.specs.Tree.{node, Forest, none, more, Concept, children}
-use Rattle.meaning.specs.Register.{Register, judged}
+use Rattle.meaning.specs.Register.{Register}
+use Rattle.graph.specs.Walked.{walked}
 use Rattle.meaning.specs.InPlace.{degreeIn}
 use Rattle.meaning.specs.Shown.{pick}
 use Rattle.meaning.specs.Rows.{Holds, HoldsF}
@@ -54,7 +55,7 @@ module _ (names roles ends marks : List ℕ) (g : Register) where
         let here : i < getD ends i 0 = opened names roles ends t left i (getD ends i 0) (h .2) .inside in
         let within : getD ends i 0 ≤ e = h .1 in (
           λ k. (
-            note-same g i x (pick (λ y. degreeIn (judged g) t y) (judged g .next x r)) old new size (same i (omega arith) (omega arith)) (w .0 k .0),
+            note-same g i x (pick (λ y. degreeIn (walked g) t y) (walked g .next x r)) old new size (same i (omega arith) (omega arith)) (w .0 k .0),
             λ y m. noted-same old new t left i (getD ends i 0) y (h .2) size (λ j p q. same j (omega arith) (omega arith)) (w .0 k .1 y m),
           ),
           noted-sameF old new f left (getD ends i 0) e x (h .3) size (λ j p q. same j (omega arith) q) (w .1),
@@ -82,7 +83,7 @@ module _ (names roles ends marks : List ℕ) (g : Register) (X : ℕ → Type 0)
       → ((j : ℕ) → c ≤ j → j < getD ends c 0 → Same j old new) → One roles ends marks g X old c u → One roles ends marks g X new c u
   one-same old new u left c h l size same w x m =
       let q = w x m in (
-        note-same g c x (pick (λ y. degreeIn (judged g) u y) (judged g .next x (getD roles c 0))) old new size (same c (omega arith) l) (q .0),
+        note-same g c x (pick (λ y. degreeIn (walked g) u y) (walked g .next x (getD roles c 0))) old new size (same c (omega arith) l) (q .0),
         λ y p. noted-same names roles ends marks g old new u left c (getD ends c 0) y h size (λ j a b. same j (omega arith) b) (q .1 y p),
       )
 

@@ -9,7 +9,7 @@ use native.Mathlib.Omega.{arith}
 use lib.ListN.{length, getD}
 use Rattle.meaning.specs.Tree.{children}
 use Rattle.meaning.specs.Graph.{Graph}
-use Rattle.meaning.specs.Register.{judged}
+use Rattle.graph.specs.Walked.{walked}
 use Rattle.meaning.specs.Degree.{best}
 use Rattle.meaning.specs.InPlace.{degreeIn}
 use Rattle.meaning.specs.Shown.{pick}
@@ -19,7 +19,7 @@ use Rattle.register.specs.Image.{Asked}
 use Rattle.graph.specs.Judged.{Judged}
 use Rattle.graph.specs.Sets.{Spread}
 use Rattle.graph.proofs.Use.{one-register}
-use Rattle.graph.proofs.Same.{best-same, pick-same}
+use Rattle.meaning.proofs.Same.{best-same, pick-same}
 use Rattle.degrees.specs.Gradable.{Gradable, Member, Items}
 use Rattle.degrees.specs.Room.{Lent}
 use Rattle.degrees.specs.Notes.{Note, Noted, Outside}
@@ -32,7 +32,7 @@ use Rattle.degrees.proofs.Noted.{noted-same}
 
 module _ {s : List ℕ} {items : ℕ} {index names roles ends marks : List ℕ} {node left : ℕ} (k : Gradable (Judged s items index) names roles ends marks node left) where
   abbrev pub graph : Graph ℕ
-  graph = judged (k .posed .graph .register)
+  graph = walked (k .posed .graph .register)
 
   abbrev pub written : Written ends node
   written = record { names = names; roles = roles; left = left; tree = k .tree; held = k .posed .held; few = k .posed .few }

@@ -7,7 +7,8 @@ use Prim.Native.Nat.{ℕ, _+_}
 use lib.ListN.{getD}
 use Rattle.meaning.specs.Tree.{Concept}
 use Rattle.meaning.specs.Graph.{Graph}
-use Rattle.meaning.specs.Register.{Register, judged}
+use Rattle.meaning.specs.Register.{Register}
+use Rattle.graph.specs.Walked.{walked}
 use Rattle.meaning.specs.InPlace.{scaleIn, degreeIn}
 pub use Rattle.folds.specs.Folded.{rowAt, Kept, sumWith, Folding, Folded}
 use Rattle.graph.specs.Judged.{Judged}
@@ -17,7 +18,7 @@ use Rattle.degrees.specs.Notes.{Noted, Outside}
 -- the degrees of the items of X, from a place on
 pub record Worked (g : Register) (t : Concept) (X : ℕ → Type 0) (at scale : ℕ) (numbers : List ℕ) : Type 0 where
   pub scaled : scale ≡ scaleIn t
-  pub each : (x : ℕ) → X x → rowAt numbers at x ≡ degreeIn (judged g) t x
+  pub each : (x : ℕ) → X x → rowAt numbers at x ≡ degreeIn (walked g) t x
 
 -- they are worked out and stand from a place on, and it is noted where the nodes below go; nothing else has changed but places from `at` on
 pub record Done {s : List ℕ} {items : ℕ} {index names roles ends marks : List ℕ} {node left : ℕ} (k : Gradable (Judged s items index) names roles ends marks node left)

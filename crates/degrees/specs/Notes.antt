@@ -5,7 +5,8 @@ use mathlib.Core.List.{List, List·Memᴰ}
 use Prim.Native.Nat.{ℕ, _+_}
 use lib.ListN.{getD}
 use Rattle.meaning.specs.Tree.{node, Forest, none, more, Concept}
-use Rattle.meaning.specs.Register.{Register, judged}
+use Rattle.meaning.specs.Register.{Register}
+use Rattle.graph.specs.Walked.{walked}
 use Rattle.meaning.specs.InPlace.{degreeIn}
 use Rattle.meaning.specs.Shown.{pick}
 pub use Rattle.folds.specs.Notes.{flag, Note, Outside, Clear}
@@ -19,6 +20,6 @@ module _ (ends marks : List ℕ) (g : Register) (notes : List ℕ) where
     pub NotedF : Forest ℕ → ℕ → ℕ → Type 0
     NotedF none i x = Unit {0}
     NotedF (more r t f) i x =
-        ((getD marks i 0 ≡ 0 → ⊥) → Note g notes i x (pick (λ y. degreeIn (judged g) t y) (judged g .next x r))
-        × ((y : ℕ) → List·Memᴰ y (judged g .next x r) → Noted t i y))
+        ((getD marks i 0 ≡ 0 → ⊥) → Note g notes i x (pick (λ y. degreeIn (walked g) t y) (walked g .next x r))
+        × ((y : ℕ) → List·Memᴰ y (walked g .next x r) → Noted t i y))
         × NotedF f (getD ends i 0) x

@@ -6,7 +6,7 @@ ghost use mathlib.Core.Path.{_≡_};
 ghost use mathlib.Core.Bool.{true};
 ghost use Prim.Native.Nat.{_+_, _-_, _<_};
 ghost use lib.ListN.{length, getD};
-ghost use Rattle.meaning.specs.Register.{judged};
+ghost use Rattle.graph.specs.Walked.{walked};
 ghost use Rattle.graph.specs.Judged.{Judged};
 ghost use Rattle.degrees.specs.Gradable.{Gradable, Member, Items};
 ghost use Rattle.degrees.specs.Room.{Lent};
@@ -133,7 +133,7 @@ fn reach(
     requires { ⌜ Gradable (Judged (now s) items (now index)) (now names) (now roles) (now ends) (now marks) node left ⌝ }
     requires { ⌜ Lent items (now set) (now notes) (now numbers) (now ends) node at ⌝ }
     ensures { λ r. ⌜ ((k : Gradable (Judged (now (s .entry)) items (now (index .entry))) (now (names .entry)) (now (roles .entry)) (now (ends .entry)) (now (marks .entry)) node left)
-        → Done k (Below (judged (k .posed .graph .register)) (now (set .entry)) (getD (now (roles .entry)) node 0)) at (r .from) (r .scale)
+        → Done k (Below (walked (k .posed .graph .register)) (now (set .entry)) (getD (now (roles .entry)) node 0)) at (r .from) (r .scale)
         (now (notes .entry)) (now (notes .exit)) (now (numbers .entry)) (now (numbers .exit))) ⌝ }
     ensures { λ r. ⌜ Standing at (r .from) ⌝ }
 {

@@ -1,4 +1,5 @@
 pub mod Fill
 pub mod OnePass
+pub mod Serving
 pub mod Noting
 pub mod Step

@@ -14,12 +14,12 @@ use lib.Seq.{getD-set-same, getD-set-other, set-out}
 use borrow.Author.Tests.{eq-eqb, ne-eqb}
 use Rattle.meaning.specs.Names.{has}
 use Rattle.meaning.specs.Session.{withName}
-use Rattle.meaning.specs.Register.{Register, judged}
+use Rattle.meaning.specs.Register.{Register}
 use Rattle.meaning.specs.Shown.{pick}
 use Rattle.meaning.proofs.SessionNames.{has-none, with-has}
-use Rattle.meaning.proofs.Tests.{true-false}
-use Rattle.graph.specs.Judged.{startNo, endNo, spanned, Runs}
-use Rattle.graph.proofs.Spans.{spanned-end}
+use Rattle.meaning.proofs.Tests.{true-false, not-some}
+use Rattle.graph.specs.Walked.{walked}
+use Rattle.graph.specs.Judged.{startNo, endNo, Runs}
 use Rattle.folds.specs.declared.Best.{Best}
 use Rattle.folds.specs.Notes.{flag, Note, Outside, Clear}
 use Rattle.folds.specs.Folded.{Top}
@@ -56,12 +56,12 @@ module _ (notes : List ℕ) (at n : ℕ) where
 module _ (g : Register) (v : ℕ → ℕ) (role node : ℕ) (X : ℕ → Type 0) where
   -- where the node goes from x
   abbrev choice : ℕ → Option ℕ
-  choice x = pick v (judged g .next x role)
+  choice x = pick v (walked g .next x role)
 
   -- those before the i-th are noted
   pub record Noting (old new : List ℕ) (i : ℕ) : Type 0 where
     pub size : length new ≡ length old
-    pub done : (x : ℕ) → x < i → X x → Note g new node x (pick v (judged g .next x role))
+    pub done : (x : ℕ) → x < i → X x → Note g new node x (pick v (walked g .next x role))
     pub ahead : (k : ℕ) → k < length (g .links) → i ≤ startNo g k → flag new node k ≡ false
     pub other : (j k : ℕ) → (j ≡ node → ⊥) → flag new j k ≡ flag old j k
 
@@ -128,23 +128,18 @@ module _ (g : Register) (v : ℕ → ℕ) (role node : ℕ) (X : ℕ → Type 0)
             go k c f t (yes d) = o ∙ ap (λ (z : ℕ). some (endNo g z)) (sym d)
             go k c f t (no d) = absurd (true-false (sym (flag-link new at node node k d) ∙ t) (w .ahead k c (omega (arith, f))))
 
-    nowhere-some : (y : ℕ) → pick v [] ≡ some y → ⊥
-    unfolding pick
-    nowhere-some y e = let z : _≡_ {A = ℕ} 0 1 = cc in omega arith
-
-    pub noting-more : (first end : ℕ) (b : Best) → Runs g i role first end → Top g v (spanned (endNo g) first end) first end b → (new′ : List ℕ)
+    pub noting-more : (first end : ℕ) (b : Best) → Runs g i role first end → Top g v (walked g .next i role) first end b → (new′ : List ℕ)
         → (b .link < end → new′ ≡ noteAt new (b .link) node) → (end ≤ b .link → new′ ≡ new) → Noting old new′ j
-    noting-more first end b r t new′ yes′ no′ = go (decLt first end) (decLt (b .link) end)
+    noting-more first end b r t new′ yes′ no′ = go (decLt (b .link) end)
       where
-        go : Dec (first < end) → Dec (b .link < end) → Noting old new′ j
-        go (yes l) (no n) = absurd (n (t .link l .1))
-        go (yes l) (yes m) =
-            let p = t .link l in
+        go : Dec (b .link < end) → Noting old new′ j
+        go (yes m) =
+            let p = t .link m in
             subst (λ (z : List ℕ). Noting old z j) (sym (yes′ m))
-            (along (b .link) (omega (arith, m, r .within)) (r .own (b .link) (p .0) m) (ap (pick v) (r .next) ∙ p .2))
-        go (no l) d =
-            let m : end ≤ first = omega (arith, l) in
-            subst (λ (z : List ℕ). Noting old z j) (sym (no′ (t .none m))) (stay (λ y e. nowhere-some y (sym (ap (pick v) (r .next ∙ spanned-end (endNo g) first end m)) ∙ e)))
+            (along (b .link) (omega (arith, m, r .within)) (r .own (b .link) (p .0) m) (p .1))
+        go (no l) =
+            let m : end ≤ b .link = omega (arith, l) in
+            subst (λ (z : List ℕ). Noting old z j) (sym (no′ m)) (stay (λ y e. not-some y (sym (t .none m) ∙ e)))
 
   pub noting-outside : (old new : List ℕ) (i : ℕ) → Noting old new i → Outside node (node + 1) old new
   noting-outside old new i w j k (inl l) = w .other j k (λ e. let z : j ≡ node = e in omega arith)

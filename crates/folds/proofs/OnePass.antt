@@ -5,7 +5,7 @@ use mathlib.Core.Bool.{Bool, true, false, cond}
 use mathlib.Core.List.{List, [], _∷_}
 use mathlib.Core.Option.{some}
 use Prim.Native.Nat.{ℕ, _+_, _-_, _≤_, _<_}
-use native.Mathlib.Decide.{ℕ-discrete}
+use native.Mathlib.Decide.{ℕ-discrete, decLt}
 use native.Mathlib.Nat.{le-refl}
 use native.Mathlib.Omega.{arith}
 use lib.Dec.{ltb}
@@ -16,7 +16,7 @@ use Rattle.meaning.specs.Shown.{firstBest, pick}
 use Rattle.meaning.proofs.Best.{pick-some}
 use Rattle.graph.specs.Judged.{endNo, spanned}
 use Rattle.graph.proofs.Spans.{spanned-step, spanned-end}
-use Rattle.graph.proofs.Same.{Agree, best-same, pick-same}
+use Rattle.meaning.proofs.Same.{Alike, best-same, pick-same}
 use Rattle.folds.specs.declared.Best.{Best}
 use Rattle.folds.specs.Folded.{Top}
 
@@ -89,28 +89,35 @@ module _ (v e : ℕ → ℕ) (first : ℕ) where
 
 pub scan-end : (v : ℕ → ℕ) (g : Register) (first end : ℕ) (b : Best) → Scan v (endNo g) first (b .value) (b .link) end
     → Top g v (spanned (endNo g) first end) first end b
-unfolding best
-scan-end v g first end b s = record {
-  value = go (ℕ-discrete end first);
-  link = λ m. let q = s .behind m in (q .0, q .1, chosen m);
-  none = λ m. let z = s .low in omega (arith, s .start (omega arith) .1);
-}
+unfolding best pick
+scan-end v g first end b s = go (decLt first end)
   where
     chosen : first < end → pick v (spanned (endNo g) first end) ≡ some (endNo g (b .link))
     chosen m =
         picked v (endNo g) first end m (endNo g (b .link))
         (ap (firstBest v (endNo g (b .link))) (sym (spanned-end (endNo g) end end (le-refl end))) ∙ s .rest m end (le-refl end))
 
-    go : Dec (end ≡ first) → b .value ≡ best v (spanned (endNo g) first end)
-    go (yes z) = s .start z .0 ∙ sym (ap (best v) (spanned-end (endNo g) first end (omega (arith, z))))
-    go (no z) =
-        let m : first < end = let y = s .low in omega (arith, z) in
-        s .behind m .2 ∙ pick-some v (spanned (endNo g) first end) (endNo g (b .link)) (chosen m) .1
+    go : Dec (first < end) → Top g v (spanned (endNo g) first end) first end b
+    go (yes m) =
+        let q = s .behind m in
+        record {
+          value = q .2 ∙ pick-some v (spanned (endNo g) first end) (endNo g (b .link)) (chosen m) .1;
+          link = λ _. (q .0, chosen m);
+          none = λ l. absurd (omega (arith, l, q .1));
+        }
+    go (no m) =
+        let none : end ≡ first = let z = s .low in omega (arith, m) in
+        let empty = spanned-end (endNo g) first end (omega (arith, none)) in
+        record {
+          value = s .start none .0 ∙ sym (ap (best v) empty);
+          link = λ l. absurd (omega (arith, l, none, s .start none .1));
+          none = λ _. ap (pick v) empty;
+        }
 
 -- for values that are the same at the ends
-pub top-same : (g : Register) (v v′ : ℕ → ℕ) (ys : List ℕ) (first end : ℕ) (b : Best) → Agree v v′ ys → Top g v ys first end b → Top g v′ ys first end b
+pub top-same : (g : Register) (v v′ : ℕ → ℕ) (ys : List ℕ) (first end : ℕ) (b : Best) → Alike v v′ ys → Top g v ys first end b → Top g v′ ys first end b
 top-same g v v′ ys first end b e t = record {
   value = t .value ∙ best-same v v′ ys e;
-  link = λ l. let q = t .link l in (q .0, q .1, sym (pick-same v v′ ys e) ∙ q .2);
-  none = t .none;
+  link = λ l. let q = t .link l in (q .0, sym (pick-same v v′ ys e) ∙ q .1);
+  none = λ l. sym (pick-same v v′ ys e) ∙ t .none l;
 }

@@ -1,6 +1,6 @@
 -- Folding a child in at the members of a set, one after the other: the sums and the notes together.
 -- Assumes nothing.
-use mathlib.Core.Path.{_≡_, sym, ap, _∙_}
+use mathlib.Core.Path.{_≡_, sym, ap, subst, _∙_}
 use mathlib.Core.Bool.{false}
 use mathlib.Core.Logic.{_⊎_}
 use mathlib.Core.List.{List}
@@ -9,9 +9,11 @@ use native.Mathlib.Nat.{le-refl}
 use native.Mathlib.Omega.{arith}
 use lib.ListN.{length, getD, set}
 use Rattle.meaning.specs.Bytes.{Bytes}
-use Rattle.meaning.specs.Register.{judged}
+use Rattle.meaning.specs.Register.{withdrawn, except}
 use Rattle.meaning.specs.Degree.{best}
+use Rattle.graph.specs.Walked.{walked}
 use Rattle.graph.specs.Judged.{Judged, endNo, spanned, Runs}
+use Rattle.graph.proofs.Walked.{walked-run}
 use Rattle.graph.proofs.Use.{next-inside}
 use Rattle.folds.specs.declared.Best.{Best}
 use Rattle.folds.specs.Members.{Member}
@@ -24,7 +26,7 @@ use Rattle.folds.proofs.Noting.{Noting, noteAt, noting-none, noting-mor
 module _ {s : List ℕ} {items : ℕ} {index : List ℕ} (j : Judged s items index) (members : List ℕ) (role node from to scale product : ℕ) (notes₀ numbers₀ : List ℕ) where
   -- the members before x are done
   pub record Stepped (notes numbers : List ℕ) (x : ℕ) : Type 0 where
-    pub filled : Filled (sumWith (judged (j .register)) numbers₀ role from to scale product) (Member members) to numbers₀ numbers x
+    pub filled : Filled (sumWith (walked (j .register)) numbers₀ role from to scale product) (Member members) to numbers₀ numbers x
     pub noting : Noting (j .register) (rowAt numbers₀ from) role node (Member members) notes₀ notes x
 
   -- from x up to y there is no member
@@ -35,13 +37,17 @@ module _ {s : List ℕ} {items : ℕ} {index : List ℕ} (j : Judged s items ind
   step-none x clear none = record { filled = filled-none _ _ _ _ x none; noting = noting-none (j .register) _ role node _ notes₀ x clear none }
 
   module _ (b : Bytes s) (notes numbers : List ℕ) (x : ℕ) (w : Stepped notes numbers x) (apart : (from + 512 ≤ to) ⊎ (to + 512 ≤ from)) (first end : ℕ) (t : Best)
-      (r : Runs (j .register) x role first end) (top : Top (j .register) (rowAt numbers from) (spanned (endNo (j .register)) first end) first end t) where
-    top₀ : Top (j .register) (rowAt numbers₀ from) (spanned (endNo (j .register)) first end) first end t
-    top₀ = top-same (j .register) (rowAt numbers from) (rowAt numbers₀ from) (spanned (endNo (j .register)) first end) first end t
-        (λ y m. filled-apart _ _ to numbers₀ numbers x (w .filled) from apart y (let l = next-inside j b x role y (rw (r .next) m) in let q = j .most in omega arith)) top
+      (r : Runs (j .register) x role first end) (top : Top (j .register) (rowAt numbers from) (except (withdrawn (j .register)) (spanned (endNo (j .register)) first end)) first end t) where
+    abbrev ys : List ℕ
+    ys = walked (j .register) .next x role
 
-    pub step-value : t .value ≡ best (rowAt numbers₀ from) (judged (j .register) .next x role)
-    step-value = rw (r .next) (top₀ .value)
+    top₀ : Top (j .register) (rowAt numbers₀ from) ys first end t
+    top₀ = top-same (j .register) (rowAt numbers from) (rowAt numbers₀ from) ys first end t
+        (λ y m. filled-apart _ _ to numbers₀ numbers x (w .filled) from apart y (let l = next-inside j b x role y m in let q = j .most in omega arith))
+        (subst (λ (zs : List ℕ). Top (j .register) (rowAt numbers from) zs first end t) (sym (walked-run (j .register) x role first end r)) top)
+
+    pub step-value : t .value ≡ best (rowAt numbers₀ from) ys
+    step-value = top₀ .value
 
     pub step-more : (y v : ℕ) (new : List ℕ) → x < 512 → to + 512 ≤ length numbers₀ → v ≡ rowAt numbers to x * scale + t .value * product → x + 1 ≤ y → None (x + 1) y
         → (t .link < end → new ≡ noteAt notes (t .link) node) → (end ≤ t .link → new ≡ notes) → Stepped new (set numbers (to + x) v) y

@@ -1,15 +1,16 @@
 // Folding a child's numbers into those of its parent, at the items of a set; numbers stand in rows, with a place for each item.
 use fields::bits;
 ghost use mathlib.Core.Path.{_≡_};
-ghost use mathlib.Core.Bool.{true};
+ghost use mathlib.Core.Bool.{true, false};
 ghost use Prim.Native.Nat.{ℕ, _+_, _*_, _≤_, _<_, max};
 ghost use lib.ListN.{length, getD, set};
 ghost use Rattle.meaning.specs.Names.{common};
 ghost use Rattle.meaning.specs.Names.{names as many};
-ghost use Rattle.meaning.specs.Register.{judged};
+ghost use Rattle.meaning.specs.Register.{withdrawn, except};
 ghost use Rattle.meaning.specs.Session.{withName};
 ghost use Rattle.meaning.specs.Degree.{orOne};
 ghost use Rattle.register.specs.Image.{Asked, Image};
+ghost use Rattle.graph.specs.Walked.{walked};
 ghost use Rattle.graph.specs.Judged.{Judged, spanned, endNo, Parted};
 ghost use Rattle.folds.specs.Members.{Member, Items};
 ghost use Rattle.folds.specs.Folded.{rowAt, Kept, Top, Folding, Folded};
@@ -17,14 +18,15 @@ ghost use Rattle.folds.specs.Folded.{rowAt, Kept, Top, Folding, Folded};
 // A row of numbers has a place for each item that there may be.
 pub const ROW: usize = 512;
 
-// Of some links: the greatest value of an end (0 where there is no link), and the first link whose end has it; and where they end.
+// Of some links: the greatest value of an end in service (0 where there is none), and the first link whose end has it (none of
+// them where there is none); and where they end.
 pub struct Best {
     pub value: u32,
     pub link: usize,
     pub end: usize,
 }
 
-// One pass over the links from `first` on, up to the first of a higher role or to `stop`; the values of their ends stand from `at` on.
+// One pass over the links from `first` on, up to the first of a higher role or to `stop`; the values of their ends stand from `at` on. All ends count.
 fn best_of(
     s: &[u8],
     items: usize,
@@ -64,6 +66,76 @@ fn best_of(
         link,
         end: k,
     }
+}
+
+// The same where an item is withdrawn: an end counts where its value is at least `least`, one more than the best so far, and it is in service.
+fn best_serving(
+    s: &[u8],
+    items: usize,
+    role: usize,
+    first: usize,
+    stop: usize,
+    numbers: &[u32],
+    at: usize,
+) -> Best
+    requires { ⌜ Asked (now s) (λ g. (items ≡ length (g .names)) × (stop ≤ length (g .links))) ⌝ }
+    requires { ⌜ (first ≤ stop) × (items ≤ 512) × (at + 512 ≤ length (now numbers)) ⌝ }
+    ensures { λ r. ⌜ Image (now (s .entry)) (λ g. Parted g (role + 1) first stop (r .end)
+        × Top g (rowAt (now (numbers .entry)) at) (except (withdrawn g) (spanned (endNo g) first (r .end))) first (r .end) r) ⌝ }
+{
+    let mut value: u32 = 0;
+    let mut least: u64 = 0;
+    let mut link = stop;
+    let mut k = first;
+    while k < stop {
+        let this = k;
+        if role < register::role_of(s, items, this) {
+            return Best {
+                value,
+                link,
+                end: this,
+            };
+        }
+        let to = graph::end_of(s, items, this);
+        let v = numbers[at + to];
+        k += 1;
+        if fields::quad(v) < least {
+            continue;
+        }
+        if graph::is_out(s, to) {
+            continue;
+        }
+        value = v;
+        least = fields::quad(v) + 1;
+        link = this;
+    }
+    Best {
+        value,
+        link,
+        end: k,
+    }
+}
+
+// The best of the ends in service. `served`: all items are, so none is looked at.
+fn chosen(
+    s: &[u8],
+    items: usize,
+    served: bool,
+    role: usize,
+    first: usize,
+    stop: usize,
+    numbers: &[u32],
+    at: usize,
+) -> Best
+    requires { ⌜ Asked (now s) (λ g. (items ≡ length (g .names)) × (stop ≤ length (g .links)) × (served ≡ true → (x : ℕ) → withdrawn g x ≡ false)) ⌝ }
+    requires { ⌜ (first ≤ stop) × (items ≤ 512) × (at + 512 ≤ length (now numbers)) ⌝ }
+    ensures { λ r. ⌜ Image (now (s .entry)) (λ g. Parted g (role + 1) first stop (r .end)
+        × Top g (rowAt (now (numbers .entry)) at) (except (withdrawn g) (spanned (endNo g) first (r .end))) first (r .end) r) ⌝ }
+{
+    if served {
+        return best_of(s, items, role, first, stop, numbers, at);
+    }
+    best_serving(s, items, role, first, stop, numbers, at)
 }
 
 // A number so far over the scale of the children so far, and a child's number over its own scale: their sum over the product.
@@ -110,10 +182,11 @@ pub fn fold(
     ensures { λ _. ⌜ ((j : Judged (now (s .entry)) items (now (index .entry)))
         → Folded (j .register) (now (set .entry)) (now (notes .entry)) (now (notes .exit)) (now (numbers .entry)) (now (numbers .exit)) role node from to scale product) ⌝ }
 {
+    let served = graph::all_serve(index);
     let mut x = graph::sets::next_in(set, 0);
     while x < ROW {
         let r = graph::from_role(s, items, index, x, role);
-        let b = best_of(s, items, role, r.first, r.end, numbers, from);
+        let b = chosen(s, items, served, role, r.first, r.end, numbers, from);
         numbers[to + x] = folded(numbers[to + x], scale, b.value, product);
         note(notes, b.link, b.end, node);
         x = graph::sets::next_in(set, x + 1);
@@ -124,10 +197,10 @@ pub fn fold(
 // in the next row.
 pub fn own(s: &[u8], names: u64, scale: u64, set: &[u64], at: usize, numbers: &mut [u32])
     requires { ⌜ Asked (now s) (λ g. Items (length (g .names)) (now set) × ((x : ℕ) → Member (now set) x
-        → common names (judged g .names x) * scale + rowAt (now numbers) (at + 512) x < 4294967296)) ⌝ }
+        → common names (walked g .names x) * scale + rowAt (now numbers) (at + 512) x < 4294967296)) ⌝ }
     requires { ⌜ at + 512 + 512 ≤ length (now numbers) ⌝ }
     ensures { λ _. ⌜ Image (now (s .entry)) (λ g. (x : ℕ) → Member (now (set .entry)) x
-        → rowAt (now (numbers .exit)) at x ≡ common names (judged g .names x) * scale + rowAt (now (numbers .entry)) (at + 512) x) ⌝ }
+        → rowAt (now (numbers .exit)) at x ≡ common names (walked g .names x) * scale + rowAt (now (numbers .entry)) (at + 512) x) ⌝ }
     ensures { λ _. ⌜ Kept at (now (numbers .entry)) (now (numbers .exit)) ⌝ }
 {
     let mut x = graph::sets::next_in(set, 0);
@@ -154,7 +227,7 @@ pub fn alone(s: &[u8], names: u64, set: &[u64], at: usize, numbers: &mut [u32]) 
     requires { ⌜ at + 512 ≤ length (now numbers) ⌝ }
     ensures { λ r. ⌜ r ≡ max 1 (many names) ⌝ }
     ensures { λ _. ⌜ Image (now (s .entry)) (λ g. (x : ℕ) → Member (now (set .entry)) x
-        → rowAt (now (numbers .exit)) at x ≡ orOne (many names) (common names (judged g .names x))) ⌝ }
+        → rowAt (now (numbers .exit)) at x ≡ orOne (many names) (common names (walked g .names x))) ⌝ }
     ensures { λ _. ⌜ Kept at (now (numbers .entry)) (now (numbers .exit)) ⌝ }
 {
     let mut x = graph::sets::next_in(set, 0);

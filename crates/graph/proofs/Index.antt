@@ -1,4 +1,4 @@
--- The index of where each item's links begin: from where its last one ends, and from what stands before.
+-- The index of where each item's links begin: from where its last one ends, and from what stands before; and its last place.
 -- Assumes nothing.
 use mathlib.Core.Path.{_≡_, refl, sym, ap, _∙_, subst}
 use mathlib.Core.List.{List}
@@ -10,7 +10,7 @@ use lib.Seq.{getD-set-same, getD-set-other}
 use borrow.Author.Count.{below-more}
 use Rattle.meaning.specs.Bytes.{Bytes}
 use Rattle.meaning.specs.Refusal.{good}
-use Rattle.meaning.specs.Register.{Register, readBuffer}
+use Rattle.meaning.specs.Register.{Link, Register, readBuffer}
 use Rattle.register.specs.Image.{Begins, Image}
 use Rattle.register.proofs.Begins.{links-rise, begins-first}
 use Rattle.graph.specs.Judged.{startNo, Ends, Noted, Risen}
@@ -130,3 +130,16 @@ module _ (s : List ℕ) (b : Bytes s) (g : Register) (h : readBuffer s ≡ good 
 
 pub risen-all : (n items : ℕ) (old new : List ℕ) → Risen n old new → n ≡ items → Risen items old new
 risen-all n items old new w e = subst (λ (z : ℕ). Risen z old new) e w
+
+-- ---- the last place, which is no item's
+
+module _ (ls : List Link) (items : ℕ) (mid : List ℕ) (v : ℕ) (long : length mid ≡ 514) where
+  pub flag-long : length (set mid 513 v) ≡ 514
+  flag-long = length-set mid 513 v ∙ long
+
+  pub flag-aside : items ≤ 512 → ((k : ℕ) → k ≤ items → Begins ls k (getD mid k 0)) → (k : ℕ) → k ≤ items → Begins ls k (getD (set mid 513 v) k 0)
+  flag-aside most w k l =
+      subst (λ (z : ℕ). Begins ls k z) (sym (getD-set-other mid 513 k v 0 (λ e. let z : k ≡ 513 = e in omega (arith, l, most)))) (w k l)
+
+  pub flag-there : getD (set mid 513 v) 513 0 ≡ 0 → v ≡ 0
+  flag-there e = sym (getD-set-same mid 513 v 0 (omega (arith, long))) ∙ e

@@ -7,5 +7,6 @@ pub mod Rising
 pub mod Runs
 pub mod Index
 pub mod Spreading
-pub mod Same
+pub mod Walked
+pub mod Asked
 pub mod Use

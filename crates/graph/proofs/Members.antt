@@ -14,10 +14,12 @@ use lib.ListN.{length, getD, set, List·getD-eq-default}
 use lib.Seq.{getD-set-same, getD-set-other}
 use borrow.Author.Tests.{eq-eqb, ne-eqb, eqb-true, eqb-false}
 use Rattle.meaning.specs.Names.{has}
-use Rattle.meaning.specs.Register.{Register, judged}
+use Rattle.meaning.specs.Register.{Register, withdrawn, targets}
 use Rattle.meaning.specs.Session.{withName}
 use Rattle.meaning.proofs.SessionNames.{with-has, has-none}
 use Rattle.meaning.proofs.Tests.{true-false}
+use Rattle.meaning.proofs.Links.{except-in}
+use Rattle.graph.specs.Walked.{walked}
 use Rattle.graph.specs.Sets.{inSet, Among, Next, With, Without, Gathered}
 use Rattle.graph.proofs.Digits.{has-shift, has-high, has-or, has-bit, trailing-below, trailing-at, trailing-some, ones-below}
 use Rattle.graph.specs.Judged.{spanned, endNo, Opens, Parted}
@@ -191,8 +193,10 @@ gathered-more f first k items x old new later w v e l = record {
 
 -- the run's ends are the successors
 pub gathered-run : (g : Register) (item role first stop k items : ℕ) (old new : List ℕ) → Opens g item role first stop → Parted g (role + 1) first stop k
-    → Gathered (spanned (endNo g) first k) items old new → Gathered (judged g .next item role) items old new
-gathered-run g item role first stop k items old new o p w = subst (λ (ys : List ℕ). Gathered ys items old new) (sym (o .run k p .next)) w
+    → Gathered (spanned (endNo g) first k) items old new → Gathered (walked g .next item role) items old new
+gathered-run g item role first stop k items old new o p w =
+    let all : Gathered (targets (g .links) item role) items old new = subst (λ (ys : List ℕ). Gathered ys items old new) (sym (o .run k p .ends)) w in
+    record { kept = all .kept; got = λ y m. all .got y (except-in (withdrawn g) (targets (g .links) item role) y .0 m .0); among = all .among }
 
 -- ---- the same from an item on, and from a whole number on
 

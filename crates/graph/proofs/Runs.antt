@@ -108,7 +108,7 @@ opens-found s bs items index j item role b e first l eb ee lo =
           λ k x y. let c = lo .here (omega arith) in let d = hi .before (omega arith) in
           let m = rise first k p x (omega arith) in let n = rise k (end - 1) (omega arith) (omega arith) (omega arith) in omega arith in
           record {
-            next = cut ls item role b first end e v w p o u
+            ends = cut ls item role b first end e v w p o u
                 (λ k x y z. let c = lo .before (omega arith) in let m = rise k (first - 1) x (omega arith) (omega arith) in omega (arith, z))
                 (λ k x y z. let c = hi .here (omega arith) in let m = rise end k (omega arith) x y in omega (arith, z))
                 (λ k x y. rw (own k (omega arith) (omega arith), same k x y, eq-eqb item item refl, eq-eqb role role refl));

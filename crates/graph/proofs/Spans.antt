@@ -1,10 +1,12 @@
 -- The values of a function from one number up to another, one after the other.
 -- Assumes nothing.
 use mathlib.Core.Path.{_≡_, refl, ap, sym, _∙_, subst}
+use mathlib.Core.Bool.{Bool, cond}
 use mathlib.Core.Logic.{_⊎_, inl, inr}
 use mathlib.Core.List.{List, [], _∷_, List·Memᴰ, List·Memᴰ·head, List·Memᴰ·tail, List·Memᴰ·cases-cons}
 use Prim.Native.Nat.{ℕ, zero, suc, _+_, _-_, _≤_, _<_}
 use native.Mathlib.Omega.{arith}
+use Rattle.meaning.specs.Register.{except}
 use Rattle.graph.specs.Judged.{valuesFrom, spanned}
 
 module _ (f : ℕ → ℕ) where
@@ -45,3 +47,16 @@ module _ (f : ℕ → ℕ) where
 
   pub spanned-member : (first end k : ℕ) → first ≤ k → k < end → List·Memᴰ (f k) (spanned f first end)
   spanned-member first end k h l = value-member first (end - first) k h (omega arith)
+
+-- of these the ones that are not out
+module _ (out : ℕ → Bool) (f : ℕ → ℕ) where
+  abbrev pub kept : ℕ → ℕ → List ℕ
+  kept k end = except out (spanned f k end)
+
+  pub kept-step : (k end : ℕ) → k < end → kept k end ≡ cond (out (f k)) (kept (k + 1) end) (f k ∷ kept (k + 1) end)
+  unfolding except
+  kept-step k end l = ap (except out) (spanned-step f k end l)
+
+  pub kept-end : (k end : ℕ) → end ≤ k → kept k end ≡ []
+  unfolding except
+  kept-end k end l = ap (except out) (spanned-end f k end l)

@@ -11,10 +11,11 @@ use lib.Dec.{T}
 use lib.ListN.{length}
 use Rattle.meaning.specs.Bytes.{Bytes}
 use Rattle.meaning.specs.Refusal.{good}
-use Rattle.meaning.specs.Register.{Link, Register, linksOf, judged, readBuffer}
-use Rattle.meaning.proofs.Links.{targets-links, link}
+use Rattle.meaning.specs.Register.{Link, Register, withdrawn, linksOf, targets, readBuffer}
+use Rattle.meaning.proofs.Links.{targets-links, except-in, link}
 use Rattle.meaning.proofs.Image.{right, image-fits}
 use Rattle.register.specs.Image.{Asked, OfSize}
+use Rattle.graph.specs.Walked.{walked}
 use Rattle.graph.specs.Judged.{Judged}
 
 -- one of the links up to an end
@@ -27,7 +28,8 @@ pub asked-link : {s : List ℕ} {items links : ℕ} → OfSize s items links →
     → Asked s (λ g. (items ≡ length (g .names)) × (k < length (g .links)))
 asked-link a k l = record { register = a .register; read = a .read; holds = (a .holds .0, omega (arith, a .holds .1)) }
 
-link-inside : (n : ℕ) (before : Option Link) (ls : List Link) (l : Link) → T (linksOf n before ls) → List·Memᴰ l ls → l .to < n
+-- a link of so many items leads to one of them
+pub link-inside : (n : ℕ) (before : Option Link) (ls : List Link) (l : Link) → T (linksOf n before ls) → List·Memᴰ l ls → l .to < n
 link-inside n before [] l w m = elim m [ ]
 link-inside n before (x ∷ ls) l w m = go (List·Memᴰ·cases-cons m) (λ k. link-inside n (some x) ls l (right n before x ls w .1) k)
   where
@@ -36,10 +38,10 @@ link-inside n before (x ∷ ls) l w m = go (List·Memᴰ·cases-cons m) (λ k. l
     go (inr k) h = h k
 
 -- the successors of an item are items
-pub successor-inside : (s : List ℕ) (items : ℕ) (g : Register) → readBuffer s ≡ good g → items ≡ length (g .names) → Bytes s → (x r y : ℕ) → List·Memᴰ y (judged g .next x r)
+pub successor-inside : (s : List ℕ) (items : ℕ) (g : Register) → readBuffer s ≡ good g → items ≡ length (g .names) → Bytes s → (x r y : ℕ) → List·Memᴰ y (walked g .next x r)
     → y < items
 successor-inside s items g h e b x r y m =
-    rw e (link-inside (length (g .names)) nowhere (g .links) (link x r y) (image-fits s g b h .0 .rising) (targets-links (g .links) x r y .0 m))
+    rw e (link-inside (length (g .names)) nowhere (g .links) (link x r y) (image-fits s g b h .0 .rising) (targets-links (g .links) x r y .0 (except-in (withdrawn g) (targets (g .links) x r) y .0 m .0)))
 
 module _ {s : List ℕ} {items : ℕ} {index : List ℕ} (j : Judged s items index) where
   pub one-register : (g : Register) → readBuffer s ≡ good g → j .register ≡ g
@@ -54,5 +56,5 @@ module _ {s : List ℕ} {items : ℕ} {index : List ℕ} (j : Judged s items ind
   pub asked-links : {end : ℕ} → end ≤ length (j .register .links) → Asked s (λ g. (items ≡ length (g .names)) × (end ≤ length (g .links)))
   asked-links l = record { register = j .register; read = j .read; holds = (j .items-are, l) }
 
-  pub next-inside : Bytes s → (x r y : ℕ) → List·Memᴰ y (judged (j .register) .next x r) → y < items
+  pub next-inside : Bytes s → (x r y : ℕ) → List·Memᴰ y (walked (j .register) .next x r) → y < items
   next-inside = successor-inside s items (j .register) (j .read) (j .items-are)

@@ -2,22 +2,25 @@
 -- successors under a role.
 -- Assumes nothing.
 use mathlib.Core.Path.{_≡_}
+use mathlib.Core.Bool.{false}
 use mathlib.Core.List.{List, [], _∷_}
 use Prim.Native.Nat.{ℕ, zero, suc, _+_, _-_, _≤_, _<_, max}
 use lib.ListN.{length, getD}
 use Rattle.meaning.specs.Bounds.{mostItems}
 use Rattle.meaning.specs.Refusal.{good}
-use Rattle.meaning.specs.Register.{Register, judged, readBuffer}
+use Rattle.meaning.specs.Register.{Register, withdrawn, targets, readBuffer}
 use Rattle.register.specs.Image.{linkNo, Begins, Image}
 
--- the register that the bytes begin with, of so many items, and an index that says where the links of each of them begin and end
+-- the register that the bytes begin with, of so many items, and an index that says where the links of each of them begin and end, and at its last place
+-- 0 only where none of them is withdrawn
 pub record Judged (s : List ℕ) (items : ℕ) (index : List ℕ) : Type 0 where
   pub register : Register
   pub read : readBuffer s ≡ good register
   pub items-are : items ≡ length (register .names)
   pub most : items ≤ mostItems
-  pub room : items < length index
+  pub room : length index ≡ 514
   pub indexed : (k : ℕ) → k ≤ items → Begins (register .links) k (getD index k 0)
+  pub serving : getD index 513 0 ≡ 0 → (x : ℕ) → withdrawn register x ≡ false
 
 -- where the k-th link leads from and to
 abbrev pub startNo : Register → ℕ → ℕ
@@ -35,9 +38,9 @@ valuesFrom f k (suc n) = f k ∷ valuesFrom f (k + 1) n
 abbrev pub spanned : (ℕ → ℕ) → ℕ → ℕ → List ℕ
 spanned f first end = valuesFrom f first (end - first)
 
--- the successors of an item under a role are the ends of the links from `first` up to `end`, and these lead from the item
+-- where the links of an item under a role lead: these are the links from `first` up to `end`, and they lead from the item
 pub record Runs (g : Register) (item role first end : ℕ) : Type 0 where
-  pub next : judged g .next item role ≡ spanned (endNo g) first end
+  pub ends : targets (g .links) item role ≡ spanned (endNo g) first end
   pub own : (k : ℕ) → first ≤ k → k < end → startNo g k ≡ item
   pub order : first ≤ end
   pub within : end ≤ length (g .links)

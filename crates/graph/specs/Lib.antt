@@ -1,3 +1,4 @@
+pub mod Walked
 pub mod Judged
 pub mod Sets
 pub mod Posed

@@ -1,13 +1,20 @@
 // The graph that is judged, of a register image that was read: names of an item, and successors under a role.
 pub mod sets; // sets.rt: sets of up to 512 items
 
+use fields::bits;
 ghost use mathlib.Core.Path.{_≡_};
+ghost use mathlib.Core.Bool.{true, false};
 ghost use Prim.Native.Nat.{ℕ, _+_, _≤_, _<_, max};
 ghost use lib.ListN.{length, getD};
-ghost use Rattle.meaning.specs.Register.{judged};
+ghost use Rattle.meaning.specs.Register.{withdrawn};
+ghost use Rattle.meaning.specs.Calls.{askedFor};
 ghost use Rattle.register.specs.Image.{Asked, OfSize, Image};
+ghost use Rattle.graph.specs.Walked.{walked, numbered};
 ghost use Rattle.graph.specs.Judged.{Judged, endNo, Runs, Opens, Parted, Noted, Risen};
 ghost use Rattle.graph.specs.Sets.{Among, Spread, Gathered};
+
+// An index has a place for each item that there may be, one where the links of the last end, and one that says whether an item is withdrawn.
+pub const INDEX: usize = 514;
 
 // A run of links: from `first` up to `end`.
 pub struct Span {
@@ -18,9 +25,46 @@ pub struct Span {
 // The names of an item.
 pub fn names(s: &[u8], item: usize) -> u64
     requires { ⌜ Asked (now s) (λ g. item < length (g .names)) ⌝ }
-    ensures { λ r. ⌜ Image (now (s .entry)) (λ g. r ≡ judged g .names item) ⌝ }
+    ensures { λ r. ⌜ Image (now (s .entry)) (λ g. r ≡ walked g .names item) ⌝ }
 {
     register::names_of(s, item)
+}
+
+// Whether an item is withdrawn: the one test of document 02, §5.
+pub fn is_out(s: &[u8], item: usize) -> bool
+    requires { ⌜ Asked (now s) (λ g. item < length (g .names)) ⌝ }
+    ensures { λ r. ⌜ Image (now (s .entry)) (λ g. r ≡ withdrawn g item) ⌝ }
+{
+    bits::on(register::names_of(s, item), meaning::WITHDRAWN)
+}
+
+// Whether each of so many items is in service.
+pub fn none_out(s: &[u8], items: usize) -> bool
+    requires { ⌜ Asked (now s) (λ g. items ≡ length (g .names)) ⌝ }
+    ensures { λ r. ⌜ (r ≡ true → Image (now (s .entry)) (λ g. (x : ℕ) → x < items → withdrawn g x ≡ false)) ⌝ }
+{
+    let mut i = 0;
+    while i < items {
+        if is_out(s, i) {
+            return false;
+        }
+        i += 1;
+    }
+    true
+}
+
+// What is wrong with an item that is asked for: 15 where there is none such among so many, 26 where it is withdrawn; 0 where nothing is.
+pub fn refusal_of(s: &[u8], items: usize, item: usize) -> usize
+    requires { ⌜ Asked (now s) (λ g. items ≡ length (g .names)) ⌝ }
+    ensures { λ r. ⌜ Image (now (s .entry)) (λ g. askedFor g item ≡ numbered r) ⌝ }
+{
+    if items <= item {
+        return 15;
+    }
+    if is_out(s, item) {
+        return 26;
+    }
+    0
 }
 
 // Where the k-th link leads to, among so many items.
@@ -32,14 +76,36 @@ pub fn end_of(s: &[u8], items: usize, k: usize) -> usize
     register::to_of(s, items, k)
 }
 
-// Fills an index that is all zeros: at place k stands where the links of item k begin.
+// Fills an index that is all zeros: at place k stands where the links of item k begin, and behind all of these whether an item is withdrawn.
 pub fn fill_index(s: &[u8], items: usize, links: usize, index: &mut [u16])
     requires { ⌜ OfSize (now s) items links ⌝ }
-    requires { ⌜ (items < length (now index)) × ((k : ℕ) → getD (now index) k 0 ≡ 0) ⌝ }
+    requires { ⌜ (length (now index) ≡ 514) × ((k : ℕ) → getD (now index) k 0 ≡ 0) ⌝ }
     ensures { λ _. ⌜ Judged (now (s .entry)) items (now (index .exit)) ⌝ }
 {
     note_ends(s, items, links, index);
     raise(items, index);
+    index[INDEX - 1] = flag(none_out(s, items));
+}
+
+// 0 where no item is withdrawn, else 1.
+fn flag(none: bool) -> u16
+    ensures { λ r. ⌜ (r ≡ 0 → none ≡ true) ⌝ }
+{
+    if none {
+        return 0;
+    }
+    1
+}
+
+// Whether each item is in service, as the index says.
+pub fn all_serve(index: &[u16]) -> bool
+    requires { ⌜ 513 < length (now index) ⌝ }
+    ensures { λ r. ⌜ (r ≡ true → getD (now (index .entry)) 513 0 ≡ 0) ⌝ }
+{
+    if index[INDEX - 1] == 0 {
+        return true;
+    }
+    false
 }
 
 // Behind the place of each item that links lead from: where its last one ends. Two links in a turn, read a turn before they are noted (so that the
@@ -116,7 +182,7 @@ pub fn from_role(s: &[u8], items: usize, index: &[u16], item: usize, role: usize
     Span { first, end }
 }
 
-// The successors of an item under a role, as a run of links.
+// The links of an item under a role, as a run of links.
 pub fn run(s: &[u8], items: usize, index: &[u16], item: usize, role: usize) -> Span
     requires { ⌜ Judged (now s) items (now index) ⌝ }
     requires { ⌜ item < items ⌝ }
@@ -167,7 +233,7 @@ pub fn spread(s: &[u8], items: usize, index: &[u16], set: &[u64], role: usize, b
     requires { ⌜ (length (now set) ≡ 8) × Among items (now set) ⌝ }
     requires { ⌜ (length (now below) ≡ 8) × Among items (now below) ⌝ }
     ensures { λ _. ⌜ ((j : Judged (now (s .entry)) items (now (index .entry)))
-        → Spread (judged (j .register)) items (now (set .entry)) role (now (below .exit))) ⌝ }
+        → Spread (walked (j .register)) items (now (set .entry)) role (now (below .exit))) ⌝ }
 {
     let mut full = 0;
     let mut x = sets::next_in(set, 0);
@@ -186,7 +252,7 @@ fn gather(s: &[u8], items: usize, index: &[u16], item: usize, role: usize, set: 
     requires { ⌜ Judged (now s) items (now index) ⌝ }
     requires { ⌜ (item < items) × (length (now set) ≡ 8) × Among items (now set) ⌝ }
     ensures { λ _. ⌜ ((j : Judged (now (s .entry)) items (now (index .entry)))
-        → Gathered (judged (j .register) .next item role) items (now (set .entry)) (now (set .exit))) ⌝ }
+        → Gathered (walked (j .register) .next item role) items (now (set .entry)) (now (set .exit))) ⌝ }
 {
     let r = from_role(s, items, index, item, role);
     let end = r.end;

@@ -1,3 +1,4 @@
 pub mod Writing
 pub mod Lines
 pub mod Begins
+pub mod Entries

@@ -14,7 +14,7 @@ use Rattle.lines.specs.Text.{Wrote, decimal}
 use Rattle.meaning.specs.declared.Refusal.{Refusal}
 use Rattle.meaning.specs.Fraction.{Frac}
 use Rattle.lines.proofs.Writing.{as-text}
-use Rattle.lines.specs.Lines.{sideWord, refusedWord, atWord, yesWord, noWord, refusalLine, place, places, shownMap, degreeLine, yesLine, noLine}
+use Rattle.lines.specs.Lines.{sideWord, refusedWord, atWord, yesWord, refusalLine, place, places, shownMap, degreeLine, yesLine, itemLine}
 
 -- ---- a place
 
@@ -88,6 +88,6 @@ pub yes-line : (i : ℕ) (m : List ℕ) → yesLine i m ≡ decimal i ++ yesWord
 unfolding yesLine
 yes-line i m = refl
 
-pub no-line : (i : ℕ) → noLine i ≡ decimal i ++ noWord
-unfolding noLine
-no-line i = refl
+pub item-line : (i : ℕ) (word : List ℕ) → itemLine i word ≡ decimal i ++ word
+unfolding itemLine
+item-line i word = refl

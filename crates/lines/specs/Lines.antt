@@ -1,4 +1,4 @@
--- The lines of a listing, as document 01 has them at the end of "Sheet of examples".
+-- The lines of a listing, as document 01 has them at the end of "Sheet of examples", and the line of a withdrawn item (document 02, §5).
 -- Assumes nothing.
 use mathlib.Core.Bool.{cond}
 use mathlib.Core.List.{List, [], _∷_, _++_}
@@ -25,6 +25,10 @@ yesWord = 32 ∷ 121 ∷ 101 ∷ 115 ∷ 32 ∷ []
 -- ` no -` and a line's end
 abbrev pub noWord : List ℕ
 noWord = 32 ∷ 110 ∷ 111 ∷ 32 ∷ 45 ∷ 10 ∷ []
+
+-- ` withdrawn -` and a line's end
+abbrev pub withdrawnWord : List ℕ
+withdrawnWord = 32 ∷ 119 ∷ 105 ∷ 116 ∷ 104 ∷ 100 ∷ 114 ∷ 97 ∷ 119 ∷ 110 ∷ 32 ∷ 45 ∷ 10 ∷ []
 
 -- ` refused ` and ` at `
 abbrev pub refusedWord : List ℕ
@@ -65,5 +69,13 @@ degreeLine i d m = decimal i ++ (32 ∷ []) ++ decimal (d .num) ++ (47 ∷ []) +
 unfoldable pub yesLine : ℕ → List ℕ → List ℕ
 yesLine i m = decimal i ++ yesWord ++ shownMap m ++ (10 ∷ [])
 
-unfoldable pub noLine : ℕ → List ℕ
-noLine i = decimal i ++ noWord
+-- an item, and words that end its line
+unfoldable pub itemLine : ℕ → List ℕ → List ℕ
+itemLine i word = decimal i ++ word
+
+abbrev pub noLine : ℕ → List ℕ
+noLine i = itemLine i noWord
+
+-- "`withdrawn` as second field and `-` as map"
+abbrev pub withdrawnLine : ℕ → List ℕ
+withdrawnLine i = itemLine i withdrawnWord

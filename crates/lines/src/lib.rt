@@ -1,4 +1,4 @@
-// The lines of a listing, as text in a lent buffer: a refusal's, and an item's with its degree or with yes or no, and its map.
+// The lines of a listing, as text in a lent buffer: a refusal's, and an item's with its degree or with yes or no, and its map, or with `withdrawn`.
 // A line is written from the buffer's first byte on; what is answered is how long it is.
 use crate::text::put_byte;
 use crate::text::put_digits;
@@ -14,7 +14,7 @@ ghost use lib.ListN.{length};
 ghost use Rattle.meaning.specs.Bounds.{mostNodes};
 ghost use Rattle.meaning.specs.Fraction.{_//_};
 ghost use Rattle.lines.specs.Text.{Wrote};
-ghost use Rattle.lines.specs.Lines.{lineRoom, sideWord, refusalLine, place, places, shownMap, degreeLine, yesLine, noLine};
+ghost use Rattle.lines.specs.Lines.{lineRoom, sideWord, refusalLine, place, places, shownMap, degreeLine, yesLine, itemLine, noLine, withdrawnLine};
 
 pub mod text;
 
@@ -122,12 +122,30 @@ pub fn put_yes_line(line: &mut [u8], item: usize, map: &[u16]) -> usize
     put_byte(line, k, b'\n')
 }
 
-// The line of an item that does not.
+// The line of an item with words that end it.
+fn put_item_line(line: &mut [u8], item: usize, word: &[u8]) -> usize
+    requires { ⌜ (lineRoom ≤ length (now line)) × (length (now word) ≤ 20) ⌝ }
+    ensures { λ r. ⌜ Wrote (now (line .entry)) (now (line .exit)) 0 (itemLine item (now (word .entry))) r ⌝ }
+    ensures { λ r. ⌜ r ≤ lineRoom ⌝ }
+{
+    let k = put_number(line, 0, item as u64);
+    put_word(line, k, word)
+}
+
+// The line of an item that does not meet the requirement.
 pub fn put_no_line(line: &mut [u8], item: usize) -> usize
     requires { ⌜ lineRoom ≤ length (now line) ⌝ }
     ensures { λ r. ⌜ Wrote (now (line .entry)) (now (line .exit)) 0 (noLine item) r ⌝ }
     ensures { λ r. ⌜ r ≤ lineRoom ⌝ }
 {
-    let k = put_number(line, 0, item as u64);
-    put_word(line, k, b" no -\n")
+    put_item_line(line, item, b" no -\n")
+}
+
+// The line of an item that is withdrawn.
+pub fn put_withdrawn_line(line: &mut [u8], item: usize) -> usize
+    requires { ⌜ lineRoom ≤ length (now line) ⌝ }
+    ensures { λ r. ⌜ Wrote (now (line .entry)) (now (line .exit)) 0 (withdrawnLine item) r ⌝ }
+    ensures { λ r. ⌜ r ≤ lineRoom ⌝ }
+{
+    put_item_line(line, item, b" withdrawn -\n")
 }

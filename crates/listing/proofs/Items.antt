@@ -10,12 +10,13 @@ use lib.Seq.{take-all}
 use borrow.Author.Tests.{lt-ltb, le-ltb}
 use Rattle.meaning.specs.declared.Refusal.{Refusal}
 use Rattle.meaning.specs.Refusal.{Answer, good, refused, _>>=_}
-use Rattle.meaning.specs.Bounds.{mostItems, mostNodes}
+use Rattle.meaning.specs.Bounds.{mostItems}
 use Rattle.meaning.specs.Bytes.{Bytes, number}
+use Rattle.meaning.specs.Tree.{Concept, nodes}
 use Rattle.meaning.specs.Register.{readRegister, readRegisterBy}
 use Rattle.meaning.specs.Requirement.{Requirement}
 use Rattle.meaning.specs.Message.{Part, readRequirement}
-use Rattle.meaning.specs.Calls.{Found, degreeCall}
+use Rattle.meaning.specs.Calls.{readPlain}
 use Rattle.meaning.proofs.Reading.{good-inj, not-good, took, stopped}
 use Rattle.meaning.proofs.Image.{image-fits, whole-buffer}
 use Rattle.fields.specs.Head.{wrongIn}
@@ -27,9 +28,9 @@ use Rattle.requirement.specs.declared.Message.the-variants.{Good as GoodMessage
 use Rattle.requirement.specs.Message.{paperMessage}
 use Rattle.requirement.specs.Message.{counted as countedMessage}
 use Rattle.deciding.proofs.Answered.{imaged, image-refused}
-use Rattle.asking.specs.declared.Answered.{Answered}
-use Rattle.asking.specs.declared.Answered.the-variants.{Good as GoodDegree, Refused as RefusedDegree}
-use Rattle.asking.specs.Answers.{Told, paperDegree, told}
+use Rattle.plain.specs.declared.Plain.{Plain}
+use Rattle.plain.specs.declared.Plain.the-variants.{Good as GoodPlain, Refused as RefusedPlain}
+use Rattle.plain.specs.Reading.{Rows, PlainOutcome, PlainDone}
 use Rattle.lines.specs.Lines.{refusalLine}
 use Rattle.listing.specs.Listing.{lines, degreeHead, memberHead}
 use Rattle.listing.specs.Listing.{degreeRows, memberRows, listed, listedItems, listingOf, printed, registerEnd, tooLong, mostInput, listing}
@@ -47,23 +48,22 @@ same-lines f h (suc n) all = ap₂ (λ (x y : List ℕ). x ++ y) (same-lines f h
 
 -- ---- the listing, by what was read
 
-pub listed-degrees : (image message : List ℕ) (n num den k : ℕ) (r : Answered) → r ≡ GoodDegree num den k
-    → paperDegree r ≡ told (degreeCall image message 0 mostNodes) → printed (listed image message n []) ≡ degreeHead ++ degreeRows image message n
-unfolding listed told _>>=_
-listed-degrees image message n num den k r e p = go (degreeCall image message 0 mostNodes) p
-  where
-    go : (D : Answer Found) → paperDegree r ≡ told D → printed (D >>= λ _. good (degreeHead ++ degreeRows image message n)) ≡ degreeHead ++ degreeRows image message n
-    go (good a) q = refl
-    go (refused f) q = absurd (not-good (sym q ∙ ap paperDegree e))
+module _ (image message : List ℕ) (n : ℕ) (A : Rows) (r : Plain) (done : PlainDone message A r) where
+  pub listed-degrees : (k : ℕ) → r ≡ GoodPlain k → printed (listed image message n []) ≡ degreeHead ++ degreeRows image message n
+  unfolding listed _>>=_
+  listed-degrees k e = go (readPlain message) done
+    where
+      go : (a : Answer Concept) → PlainOutcome A a r → printed (a >>= λ _. good (degreeHead ++ degreeRows image message n)) ≡ degreeHead ++ degreeRows image message n
+      go (good t) o = refl
+      go (refused f) o = let z : RefusedPlain f ≡ GoodPlain k = sym o ∙ e in let y : _≡_ {A = ℕ} 0 1 = cc in absurd (omega arith)
 
-pub listed-refused : (image message : List ℕ) (n : ℕ) (f : Refusal) (r : Answered) → r ≡ RefusedDegree f
-    → paperDegree r ≡ told (degreeCall image message 0 mostNodes) → printed (listed image message n []) ≡ refusalLine f
-unfolding listed told _>>=_
-listed-refused image message n f r e p = go (degreeCall image message 0 mostNodes) p
-  where
-    go : (D : Answer Found) → paperDegree r ≡ told D → printed (D >>= λ _. good (degreeHead ++ degreeRows image message n)) ≡ refusalLine f
-    go (good a) q = absurd (not-good (sym (ap paperDegree e) ∙ q))
-    go (refused g) q = let z : _≡_ {A = Answer Told} (refused f) (refused g) = sym (ap paperDegree e) ∙ q in let same : f ≡ g = cc in ap refusalLine (sym same)
+  pub listed-refused : (f : Refusal) → r ≡ RefusedPlain f → printed (listed image message n []) ≡ refusalLine f
+  unfolding listed _>>=_
+  listed-refused f e = go (readPlain message) done
+    where
+      go : (a : Answer Concept) → PlainOutcome A a r → printed (a >>= λ _. good (degreeHead ++ degreeRows image message n)) ≡ refusalLine f
+      go (good t) o = let z : GoodPlain (nodes t) ≡ RefusedPlain f = sym (o .answer) ∙ e in let y : _≡_ {A = ℕ} 0 1 = cc in absurd (omega arith)
+      go (refused q) o = let z : RefusedPlain q ≡ RefusedPlain f = sym o ∙ e in let y : q ≡ f = cc in ap refusalLine y
 
 pub listed-members : (image message : List ℕ) (n : ℕ) (p : Part) (ps : List Part) → printed (listed image message n (p ∷ ps)) ≡ memberHead ++ memberRows image message n
 unfolding listed

@@ -1,12 +1,13 @@
--- A refusal's line never stands inside a list. Once a register and a requirement are read, and the first item's degree is not refused (of a requirement
--- with thresholds nothing more is asked), no item's call is refused (`degree-rows`, `member-rows`); so what is printed is one line for a refusal, or a
--- list whose every row is an item's (`printed-rows`), and so is the whole listing (`listing-rows`).
+-- A refusal's line never stands inside a list. Once a register and a requirement are read, and a plain requirement is not too large (of one with
+-- thresholds nothing more is asked), each row is its item's own: `withdrawn` exactly where the item has name 63 (`degree-withdrawn`, `member-withdrawn`),
+-- and otherwise its degree or decision (`degree-rows`, `member-rows`). So what is printed is one line for a refusal, or a list of such rows
+-- (`printed-rows`), and so is the whole listing (`listing-rows`).
 -- Assumes nothing.
-use mathlib.Core.Path.{_≡_, refl, sym, ap, ap₂, subst, _∙_}
-use mathlib.Core.Logic.{_⊎_, inl, inr}
+use mathlib.Core.Path.{_≡_, refl, sym, ap, subst, _∙_}
+use mathlib.Core.Logic.{_⊎_, inl, inr, _↔_}
 use mathlib.Core.Bool.{Bool, true, false, cond}
 use mathlib.Core.List.{List, [], _∷_, _++_}
-use Prim.Native.Nat.{ℕ, zero, suc, _+_, _≤_, _<_}
+use Prim.Native.Nat.{ℕ, _+_, _≤_, _<_}
 use native.Mathlib.Omega.{arith}
 use lib.Dec.{ltb, ltb→lt}
 use lib.ListN.{length, take, drop}
@@ -17,79 +18,95 @@ use Rattle.meaning.specs.Bounds.{mostNodes}
 use Rattle.meaning.specs.Bytes.{Bytes}
 use Rattle.meaning.specs.Tree.{Concept, nodes}
 use Rattle.meaning.specs.Degree.{answered}
-use Rattle.meaning.specs.Shown.{degreeMap, yesMap}
-use Rattle.meaning.specs.Register.{Register, judged, readRegister}
-use Rattle.meaning.specs.Requirement.{Requirement, bare, member}
+use Rattle.meaning.specs.Shown.{degreeMap}
+use Rattle.meaning.specs.Register.{Register, withdrawn, judged, readRegister}
+use Rattle.meaning.specs.Requirement.{Requirement, bare}
 use Rattle.meaning.specs.Message.{Part, readRequirement, soundLabel}
-use Rattle.meaning.specs.Calls.{readPlain, Found, degreeCall, Decision, decide, memberCall}
-use Rattle.meaning.proofs.Tests.{holds}
-use Rattle.meaning.proofs.Reading.{good-inj, took, taken, gone, pass, passed, not-below, not-le, le-of-not-below}
+use Rattle.meaning.specs.Calls.{readPlain, degreeCall, memberCall}
+use Rattle.meaning.proofs.Tests.{holds, true-false}
+use Rattle.meaning.proofs.Reading.{good-inj, taken, gone, passed, le-of-not-below}
 use Rattle.meaning.proofs.MessageLabel.{bounded-open}
 use Rattle.meaning.proofs.Message.{read-back, sound-open}
-use Rattle.lines.specs.Lines.{degreeLine, refusalLine}
+use Rattle.requirement.proofs.Whole.{bare-nodes}
+use Rattle.lines.specs.Lines.{degreeLine, withdrawnLine, refusalLine}
+use Rattle.lines.proofs.Entries.{itsDegree, itsDecision, degree-out, degree-in, member-out, member-in, degree-apart, decision-apart}
 use Rattle.listing.specs.Listing.{lines, degreeRow, memberRow, degreeHead, memberHead}
 use Rattle.listing.specs.Listing.{degreeRows, memberRows, listed, listedItems, listingOf, printed, registerEnd, tooLong, mostInput, listing}
 use Rattle.listing.proofs.Items.{same-lines}
 
--- ---- what is shown of an item
+-- ---- an item's row
 
-abbrev pub itsDegree : Register → Requirement → ℕ → Found
-itsDegree g q i = record { degree = answered (judged g) (bare q) i; map = degreeMap (judged g) (bare q) i }
+-- "withdrawn" of a withdrawn item, and of any other its own line
+abbrev entry : Register → ℕ → List ℕ → List ℕ
+entry g i own = cond (withdrawn g i) (withdrawnLine i) own
 
-abbrev pub itsDecision : Register → Requirement → ℕ → Decision
-itsDecision g q i = decide (member (judged g) q i) (yesMap (judged g) q i)
+abbrev pub degreeEntry : Register → Requirement → ℕ → List ℕ
+degreeEntry g q i = entry g i (degreeLine i (answered (judged g) (bare q) i) (degreeMap (judged g) (bare q) i))
 
--- a plain requirement with what its reading tested
-pub record Plain (message : List ℕ) (q : Requirement) : Type 0 where
-  pub read : readPlain message ≡ good (bare q)
-  pub fits : nodes (bare q) ≤ mostNodes
+abbrev pub memberEntry : Register → Requirement → ℕ → List ℕ
+memberEntry g q i = entry g i (memberRow i (good (itsDecision g q i)))
 
-module _ (image message : List ℕ) (g : Register) (read : readRegister image ≡ good g) where
-  -- what the first item's call tested, it tested of them all
-  first-tests : (q : Requirement) (ps : List Part) → readRequirement message ≡ good (q, ps) → (a : Found) → degreeCall image message 0 mostNodes ≡ good a → Plain message q
-  unfolding degreeCall readPlain
-  first-tests q ps written a e =
-      let x = taken (readRegister image) _ e in
-      let y = taken (readPlain message) _ (x .2) in
-      let t = y .0 in
-      let room = passed _ _ _ (passed _ _ _ (y .2) .1) .0 in
-      let z = taken (readRequirement message) _ (y .1) in
+entry-says : (g : Register) (i : ℕ) (own : List ℕ) → (own ≡ withdrawnLine i → ⊥) → (entry g i own ≡ withdrawnLine i) ↔ (withdrawn g i ≡ true)
+entry-says g i own apart = go (withdrawn g i)
+  where
+    go : (b : Bool) → (cond b (withdrawnLine i) own ≡ withdrawnLine i) ↔ (b ≡ true)
+    go true = (λ _. refl, λ _. refl)
+    go false = (λ e. absurd (apart e), λ e. absurd (true-false e refl))
+
+-- a row says `withdrawn` exactly where its item has name 63
+pub degree-withdrawn : (g : Register) (q : Requirement) (i : ℕ) → (degreeEntry g q i ≡ withdrawnLine i) ↔ (withdrawn g i ≡ true)
+degree-withdrawn g q i = entry-says g i _ (degree-apart i (answered (judged g) (bare q) i) (degreeMap (judged g) (bare q) i))
+
+pub member-withdrawn : (g : Register) (q : Requirement) (i : ℕ) → (memberEntry g q i ≡ withdrawnLine i) ↔ (withdrawn g i ≡ true)
+member-withdrawn g q i = entry-says g i _ (decision-apart i (itsDecision g q i))
+
+module _ (image message : List ℕ) (g : Register) (read : readRegister image ≡ good g) (b : Bytes message)
+    (q : Requirement) (ps : List Part) (written : readRequirement message ≡ good (q, ps)) where
+  few : nodes q ≤ mostNodes
+  few = bounded-open soundLabel q (sound-open q (read-back message (q, ps) b written .sound) .0) .2
+
+  -- where the requirement is taken as plain, it is this one's tree
+  plain-tree : (t : Concept) → readPlain message ≡ good t → t ≡ bare q
+  unfolding readPlain
+  plain-tree t e =
+      let z = taken (readRequirement message) _ e in
       let same : z .0 ≡ (q, ps) = good-inj (sym (z .1) ∙ written) in
       let its : bare (z .0 .0) ≡ t = good-inj (passed _ _ _ (gone _ _ (z .2) .1) .1) in
-      let is : t ≡ bare q = sym its ∙ ap (λ (w : Requirement × List Part). bare (w .0)) same in
-      record {
-        read = y .1 ∙ ap good is;
-        fits = subst (λ (w : Concept). nodes w ≤ mostNodes) is (le-of-not-below mostNodes (nodes t) room);
-      }
+      sym its ∙ ap (λ (w : Requirement × List Part). bare (w .0)) same
 
-  -- no item's degree is refused, if the first one's is not
-  pub degree-rows : (q : Requirement) (ps : List Part) → readRequirement message ≡ good (q, ps) → (a : Found) → degreeCall image message 0 mostNodes ≡ good a
-      → (i : ℕ) → i < length (g .names) → degreeCall image message i mostNodes ≡ good (itsDegree g q i)
-  unfolding degreeCall
-  degree-rows q ps written a e i l =
-      let p = first-tests q ps written a e in
-      took (readRegister image) _ g read ∙ took (readPlain message) _ (bare q) (p .read) ∙ pass _ _ _ (not-le (length (g .names)) i l)
-      ∙ pass _ _ _ (not-below mostNodes (nodes (bare q)) (p .fits))
+  -- each item's row is its entry, if the requirement is taken as plain
+  pub degree-rows : (t : Concept) → readPlain message ≡ good t → (i : ℕ) → i < length (g .names)
+      → degreeRow i (degreeCall image message i mostNodes) ≡ degreeEntry g q i
+  degree-rows t e i l = go (withdrawn g i) refl
+    where
+      wanted : readPlain message ≡ good (bare q)
+      wanted = e ∙ ap good (plain-tree t e)
 
-  -- no item's yes or no is refused, if register and requirement are read
-  pub member-rows : Bytes message → (q : Requirement) (ps : List Part) → readRequirement message ≡ good (q, ps)
-      → (i : ℕ) → i < length (g .names) → memberCall image message i mostNodes ≡ good (itsDecision g q i)
-  unfolding memberCall
-  member-rows b q ps written i l =
-      let few : nodes q ≤ mostNodes = bounded-open soundLabel q (sound-open q (read-back message (q, ps) b written .sound) .0) .2 in
-      took (readRegister image) _ g read ∙ took (readRequirement message) _ (q, ps) written ∙ pass _ _ _ (not-le (length (g .names)) i l)
-      ∙ pass _ _ _ (not-below mostNodes (nodes q) few)
+      go : (w : Bool) → withdrawn g i ≡ w
+          → degreeRow i (degreeCall image message i mostNodes) ≡ cond w (withdrawnLine i) (degreeRow i (good (itsDegree g (bare q) i)))
+      go true d = ap (degreeRow i) (degree-out image message g read i (bare q) wanted l d)
+      go false d =
+          ap (degreeRow i) (degree-in image message g read i (bare q) wanted (record { inside = l; serves = d }) (omega (arith, few, bare-nodes q)))
+
+  -- and if register and requirement are read, where it has thresholds
+  pub member-rows : (i : ℕ) → i < length (g .names) → memberRow i (memberCall image message i mostNodes) ≡ memberEntry g q i
+  member-rows i l = go (withdrawn g i) refl
+    where
+      go : (w : Bool) → withdrawn g i ≡ w
+          → memberRow i (memberCall image message i mostNodes) ≡ cond w (withdrawnLine i) (memberRow i (good (itsDecision g q i)))
+      go true d = ap (memberRow i) (member-out image message g read i q ps written l d)
+      go false d = ap (memberRow i) (member-in image message g read i q ps written (record { inside = l; serves = d }) few)
 
 -- ---- the rows of a list
 
--- What is printed of a register and a requirement: one line for a refusal; or a head and a row for each item, with its degree, or with yes or no.
+-- What is printed of a register and a requirement: one line for a refusal; or a head and a row for each item, with its degree or with yes or no, or
+-- with `withdrawn`.
 pub data Prints (image message text : List ℕ) : Type 0 where
   refusal : (f : Refusal) → listingOf image message ≡ refused f → text ≡ refusalLine f → Prints image message text
   degrees : (g : Register) (q : Requirement) → readRegister image ≡ good g → readRequirement message ≡ good (q, [])
-      → text ≡ degreeHead ++ lines (λ i. degreeLine i (answered (judged g) (bare q) i) (degreeMap (judged g) (bare q) i)) (length (g .names))
-      → Prints image message text
+      → text ≡ degreeHead ++ lines (degreeEntry g q) (length (g .names)) → Prints image message text
   decisions : (g : Register) (q : Requirement) (p : Part) (ps : List Part) → readRegister image ≡ good g → readRequirement message ≡ good (q, p ∷ ps)
-      → text ≡ memberHead ++ lines (λ i. memberRow i (good (itsDecision g q i))) (length (g .names)) → Prints image message text
+      → text ≡ memberHead ++ lines (memberEntry g q) (length (g .names)) → Prints image message text
 
 module _ (image message : List ℕ) (b : Bytes message) where
   abbrev Shown : Answer (List ℕ) → Type 0
@@ -99,23 +116,23 @@ module _ (image message : List ℕ) (b : Bytes message) where
   refused-prints f e = refusal f e refl
 
   degrees-print : (g : Register) (q : Requirement) → readRegister image ≡ good g → readRequirement message ≡ good (q, [])
-      → (D : Answer Found) → degreeCall image message 0 mostNodes ≡ D → Shown (D >>= λ _. good (degreeHead ++ degreeRows image message (length (g .names))))
+      → (D : Answer Concept) → readPlain message ≡ D → Shown (D >>= λ _. good (degreeHead ++ degreeRows image message (length (g .names))))
   unfolding _>>=_
-  degrees-print g q read written (good a) first e =
-      degrees g q read written (ap (λ (z : List ℕ). degreeHead ++ z) (same-lines _ _ (length (g .names)) (λ i l.
-      ap (degreeRow i) (degree-rows image message g read q [] written a first i l))))
-  degrees-print g q read written (refused f) first e = refused-prints f e
+  degrees-print g q read written (good t) plain e =
+      degrees g q read written
+      (ap (λ (z : List ℕ). degreeHead ++ z) (same-lines _ _ (length (g .names)) (degree-rows image message g read b q [] written t plain)))
+  degrees-print g q read written (refused f) plain e = refused-prints f e
 
   decisions-print : (g : Register) (q : Requirement) (p : Part) (ps : List Part) → readRegister image ≡ good g → readRequirement message ≡ good (q, p ∷ ps)
       → Prints image message (memberHead ++ memberRows image message (length (g .names)))
   decisions-print g q p ps read written =
-      decisions g q p ps read written (ap (λ (z : List ℕ). memberHead ++ z) (same-lines _ _ (length (g .names)) (λ i l.
-      ap (memberRow i) (member-rows image message g read b q (p ∷ ps) written i l))))
+      decisions g q p ps read written
+      (ap (λ (z : List ℕ). memberHead ++ z) (same-lines _ _ (length (g .names)) (member-rows image message g read b q (p ∷ ps) written)))
 
   written-prints : (g : Register) → readRegister image ≡ good g → (a : Answer (Requirement × List Part)) → readRequirement message ≡ a
       → Shown (a >>= λ x. listed image message (length (g .names)) (x .1))
   unfolding listed _>>=_
-  written-prints g read (good (q, [])) written e = degrees-print g q read written (degreeCall image message 0 mostNodes) refl e
+  written-prints g read (good (q, [])) written e = degrees-print g q read written (readPlain message) refl e
   written-prints g read (good (q, p ∷ ps)) written e = decisions-print g q p ps read written
   written-prints g read (refused f) written e = refused-prints f e
 
@@ -124,7 +141,7 @@ module _ (image message : List ℕ) (b : Bytes message) where
   read-prints (good g) read e = written-prints g read (readRequirement message) refl e
   read-prints (refused f) read e = refused-prints f e
 
-  -- each row of a list is a row, and no refusal
+  -- each row of a list is its item's, and no refusal
   pub printed-rows : Prints image message (printed (listingOf image message))
   unfolding listingOf
   printed-rows = read-prints (readRegister image) refl refl

@@ -1,4 +1,4 @@
--- What the listing program prints, as document 01 has it at the end of "Sheet of examples".
+-- What the listing program prints, as document 01 has it at the end of "Sheet of examples"; of a withdrawn item (document 02, §5) its row says so.
 -- Assumes nothing.
 use mathlib.Core.Bool.{true, false, cond}
 use mathlib.Core.List.{List, [], _∷_, _++_}
@@ -9,8 +9,7 @@ use Rattle.meaning.specs.Refusal.{Answer, good, refused, _>>=_}
 use Rattle.meaning.specs.Bytes.{number}
 use Rattle.meaning.specs.Register.{readRegister}
 use Rattle.meaning.specs.Message.{Part, readRequirement}
-use Rattle.meaning.specs.Calls.{degreeCall}
-use Rattle.meaning.specs.Bounds.{mostNodes}
+use Rattle.meaning.specs.Calls.{readPlain}
 use Rattle.lines.specs.Lines.{refusalLine}
 pub use Rattle.lines.specs.Entries.{degreeRow, memberRow, rowOf}
 
@@ -43,10 +42,10 @@ degreeRows image message n = lines (rowOf true image message) n
 abbrev pub memberRows : List ℕ → List ℕ → ℕ → List ℕ
 memberRows image message n = lines (rowOf false image message) n
 
--- A register of so many items and a requirement that were read: the degrees where it has no threshold. What the degree call still refuses, it
--- refuses for the first item as for each (14): no row is a refusal (proofs/NoRefusals.antt).
+-- A register of so many items and a requirement that were read: the degrees where it has no threshold, unless it is too large for them (14). Each
+-- row is then its item's own, and none is a refusal (proofs/NoRefusals.antt).
 unfoldable pub listed : List ℕ → List ℕ → ℕ → List Part → Answer (List ℕ)
-listed image message n [] = degreeCall image message 0 mostNodes >>= λ _. good (degreeHead ++ degreeRows image message n)
+listed image message n [] = readPlain message >>= λ _. good (degreeHead ++ degreeRows image message n)
 listed image message n (p ∷ ps) = good (memberHead ++ memberRows image message n)
 
 -- a register of so many items that was read

@@ -1,11 +1,10 @@
 // The listing of a register against a requirement, piece by piece: what comes first, planned here, and then a row for each item that is to be listed
-// (the crate `entries`). Each piece is text at the front of a lent buffer. Put one after the other they are the listing (specs/Pieces.antt).
-use asking::Answered;
+// (the crates `ratings` and `verdicts`). Each piece is text at the front of a lent buffer. Put one after the other they are the listing (specs/Pieces.antt).
 use fields;
 use lines;
 use lines::text::put_word;
-use meaning;
 use meaning::Refusal;
+use plain::Plain;
 use register::Reading;
 use requirement::Message;
 ghost use mathlib.Core.Path.{_≡_};
@@ -42,19 +41,18 @@ fn only(line: &mut [u8], end: usize, refusal: Refusal) -> Outline
     }
 }
 
-// The degrees, or what the degree call refuses for the first item.
+// The degrees, unless the requirement is too large for them: so it is read once more, into the rows that its reduced size is worked out of.
 fn plan_degrees(line: &mut [u8], image: &[u8], message: &[u8], items: usize) -> Outline
     requires { ⌜ (lineRoom ≤ length (now line)) × (items ≤ mostItems) ⌝ }
     ensures { λ r. ⌜ Opens (now (image .entry)) (now (message .entry)) (printed (listed (now (image .entry)) (now (message .entry)) items [])) (now (line .exit)) r ⌝ }
 {
-    let mut map = [0u16; meaning::MOST_NODES];
-    let a = asking::degree_of(image, message, 0, &mut map);
-    match a {
-        Answered::Good {
-            num: _,
-            den: _,
-            nodes: _,
-        } => {
+    let mut names = [0u64; 64];
+    let mut roles = [0u8; 64];
+    let mut ends = [0u8; 64];
+    let mut marks = [0u8; 64];
+    let p = plain::read_plain(message, &mut names, &mut roles, &mut ends, &mut marks);
+    match p {
+        Plain::Good { nodes: _ } => {
             let first = put_word(line, 0, b"item degree map\n");
             Outline {
                 first,
@@ -63,7 +61,7 @@ fn plan_degrees(line: &mut [u8], image: &[u8], message: &[u8], items: usize) -> 
                 degrees: true,
             }
         }
-        Answered::Refused { refusal } => only(line, image.len(), refusal),
+        Plain::Refused { refusal } => only(line, image.len(), refusal),
     }
 }
 

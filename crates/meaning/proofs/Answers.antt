@@ -9,7 +9,7 @@ use mathlib.Core.Option.{some}
 use Prim.Native.Nat.{ℕ, _≤_, _<_}
 use native.Mathlib.Nat.{zero-add}
 use native.Mathlib.Omega.{arith}
-use lib.Dec.{T, ltb, leb}
+use lib.Dec.{T, ltb}
 use lib.IntN.{ℤ}
 use lib.ListN.{length, drop, length-map}
 use lib.Seq.{sets, sets-eq}
@@ -17,15 +17,16 @@ use Rattle.meaning.specs.Refusal.{Answer, good, _>>=_, _>>_}
 use Rattle.meaning.specs.Tree.{Concept, nodes}
 use Rattle.meaning.specs.Graph.{Graph}
 use Rattle.meaning.specs.Fraction.{Frac, _//_, lawful, fraction, Lowest, margin, marginOver}
-use Rattle.meaning.specs.Register.{Register, judged, readRegister}
+use Rattle.meaning.specs.Register.{Register, withdrawn, judged, readRegister}
 use Rattle.meaning.specs.Partial.{IsDegree}
 use Rattle.meaning.specs.Degree.{degreeOf, answered}
 use Rattle.meaning.specs.Requirement.{Requirement, fulfils, member, RespectingMap}
 use Rattle.meaning.specs.Message.{Part, readRequirement}
 use Rattle.meaning.specs.Shown.{shown, markNumber, degreeMap, yesMap}
-use Rattle.meaning.specs.Calls.{readPlain, inRange, Found, degreeCall, afterDegree, Against, marginCall, Decision, met, unmet, decide, memberCall, afterMember}
+use Rattle.meaning.specs.Calls.{readPlain, askedFor, Found, degreeCall, afterDegree, Against, marginCall, Decision, met, unmet, decide, memberCall, afterMember}
 use Rattle.meaning.proofs.Tests.{of-not}
-use Rattle.meaning.proofs.Reading.{good-inj, passed, taken, le-of-not-below, lt-of-not-le}
+use Rattle.meaning.proofs.Reading.{good-inj, passed, taken, le-of-not-below}
+use Rattle.meaning.proofs.Asked.{asks-went}
 use Rattle.meaning.proofs.Degree.{answered-is, answered-lowest}
 use Rattle.meaning.proofs.Member.{member-map}
 use Rattle.meaning.proofs.Shown.{degree-shows}
@@ -35,7 +36,7 @@ use Rattle.meaning.proofs.YesShown.{yes-shows}
 pub lent : (old m : List ℕ) → length m ≤ length old → sets old 0 m ≡ m ++ drop (length m) old
 lent old m h = sets-eq m old 0 (omega arith) ∙ ap (λ (k : ℕ). m ++ drop k old) (zero-add (length m))
 
--- ---- what was read, of the degree and the margin: a register, a plain requirement, and an item of the register
+-- ---- what was read, of the degree and the margin: a register, a plain requirement, and an item of the register that is in service
 
 pub record Read (image message : List ℕ) (item : ℕ) : Type 0 where
   pub register : Register
@@ -43,20 +44,22 @@ pub record Read (image message : List ℕ) (item : ℕ) : Type 0 where
   pub image-is : readRegister image ≡ good register
   pub message-is : readPlain message ≡ good tree
   pub inside : item < length (register .names)
+  pub serves : withdrawn register item ≡ false
 
 module _ {C : Type 0} (image message : List ℕ) (item : ℕ) (next : Register → Concept → Answer C) (c : C) where
-  read-both : (readRegister image >>= λ g. (readPlain message >>= λ t. (inRange g item >> next g t))) ≡ good c
+  read-both : (readRegister image >>= λ g. (readPlain message >>= λ t. (askedFor g item >> next g t))) ≡ good c
       → (x : Read image message item) × (next (x .register) (x .tree) ≡ good c)
   read-both h =
       let q = taken (readRegister image) _ h in
       let r = taken (readPlain message) _ (q .2) in
-      let i = passed (leb (length (q .0 .names)) item) _ _ (r .2) in (
+      let i = asks-went (q .0) item _ (r .2) in (
         record {
           register = q .0;
           tree = r .0;
           image-is = q .1;
           message-is = r .1;
-          inside = lt-of-not-le (length (q .0 .names)) item (i .0);
+          inside = i .0 .inside;
+          serves = i .0 .serves;
         },
         i .1,
       )
@@ -131,6 +134,7 @@ pub record MemberRead (image message : List ℕ) (item : ℕ) : Type 0 where
   pub image-is : readRegister image ≡ good register
   pub message-is : readRequirement message ≡ good (tree, parts)
   pub inside : item < length (register .names)
+  pub serves : withdrawn register item ≡ false
 
 module _ (image message old : List ℕ) (item : ℕ) where
   pub record YesAnswers (m : List ℕ) : Type 0 where
@@ -169,7 +173,7 @@ module _ (image message old : List ℕ) (item : ℕ) where
   member-answers d h =
       let q = taken (readRegister image) _ h in
       let r = taken (readRequirement message) _ (q .2) in
-      let i = passed (leb (length (q .0 .names)) item) _ _ (r .2) in
+      let i = asks-went (q .0) item _ (r .2) in
       let f = passed (ltb (length old) (nodes (r .0 .0))) _ _ (i .1) in
       let x : MemberRead image message item = record {
         register = q .0;
@@ -177,7 +181,8 @@ module _ (image message old : List ℕ) (item : ℕ) where
         parts = r .0 .1;
         image-is = q .1;
         message-is = r .1;
-        inside = lt-of-not-le (length (q .0 .names)) item (i .0);
+        inside = i .0 .inside;
+        serves = i .0 .serves;
       } in
       let few = le-of-not-below (length old) (nodes (x .tree)) (f .0) in
       subst DecisionAnswers (good-inj (f .1)) (decided x (member (judged (x .register)) (x .tree) item) refl few)

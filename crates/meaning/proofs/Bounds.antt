@@ -19,7 +19,7 @@ use Rattle.meaning.specs.Names.{isSet}
 use Rattle.meaning.specs.Tree.{node, Forest, none, more, Concept, count, under, nodes, levels, levelsF, nodesF, each, eachF, written, writtenF, relabel}
 use Rattle.meaning.specs.Fraction.{_//_, gcd, gcdIn, lowest, wrongWith, lawful, atLeast}
 use Rattle.meaning.specs.Register.{Link, Register, rises, above, allSets, linksOf, wellFormed, readRegister}
-use Rattle.meaning.specs.Register.{encode as image, itemsBytes, linksBytes, targets, readItems, readLink, readLinks, readBody, readRegisterBy}
+use Rattle.meaning.specs.Register.{encode as image, itemsBytes, linksBytes, targets, except, readItems, readLink, readLinks, readBody, readRegisterBy}
 use Rattle.meaning.specs.Whole.{any, meetsBy}
 use Rattle.meaning.specs.Reduce.{dropped, keptOf, reduce, size, scale}
 use Rattle.meaning.specs.Degree.{best, degree}
@@ -29,7 +29,7 @@ use Rattle.meaning.specs.Message.{readChildren, readNode, noThresholds, 
 use Rattle.meaning.specs.Message.{encode as message}
 use Rattle.meaning.specs.Bounds.{mostItems, mostLinks, mostThresholds}
 use Rattle.meaning.specs.Session.{link}
-use Rattle.meaning.specs.Calls.{readPlain, marginCall}
+use Rattle.meaning.specs.Calls.{askedFor, readPlain, marginCall}
 use Rattle.meaning.specs.Sheet.{R1, Q1, leaf, allTrue}
 use Rattle.meaning.proofs.Tests.{both-and, or-left, or-right, holds}
 use Rattle.meaning.proofs.Reading.{total, le-of-not-below}
@@ -279,9 +279,9 @@ rows =
 small : T (allTrue rows)
 unfolding
     rows is sameSide root asked repeat empty chain fan oneItem linkBytes accepted limit sized broom R1 Q1 allTrue
-    marginCall readPlain readRequirement readRegisterBy readBody readItems readLink readLinks readHead number bytes fields headed
+    askedFor marginCall readPlain readRequirement readRegisterBy readBody readItems readLink readLinks readHead number bytes fields headed
     image message nodeBytes thresholdsBytes itemsBytes linksBytes readNode readChildren noThresholds readThreshold readThresholds withThresholds
-    degree best lowest gcd gcdIn wrongWith reduce keptOf dropped size scale meetsBy any every targets count under nodes relabel ones refuseIf _>>=_ _>>_
+    degree best lowest gcd gcdIn wrongWith reduce keptOf dropped size scale meetsBy any every targets except count under nodes relabel ones refuseIf _>>=_ _>>_
 small = tt
 
 -- ---- the table

@@ -6,7 +6,7 @@
 use mathlib.Core.Path.{_≡_, refl, sym, ap, _∙_, subst}
 use mathlib.Core.Bool.{Bool, true, false, _&&_, _||_, not, cond}
 use mathlib.Core.List.{List, [], _∷_, _++_}
-use Prim.Native.Nat.{ℕ, _+_, _-_, _≤_}
+use Prim.Native.Nat.{ℕ, _+_, _-_, _≤_, _<_}
 use native.Mathlib.Omega.{arith}
 use lib.Dec.{T, ltb, leb, eqb, eqb→eq}
 use lib.ListN.{length}
@@ -17,7 +17,7 @@ use Rattle.meaning.specs.Refusal.{Answer, good, _>>=_, _>>_}
 use Rattle.meaning.specs.Bytes.{Bytes}
 use Rattle.meaning.specs.Tree.{nodes}
 use Rattle.meaning.specs.Register.{Register, isFact, anyLink, wellFormed, encode, readRegister, readBuffer}
-use Rattle.meaning.specs.Bounds.{mostLinks}
+use Rattle.meaning.specs.Bounds.{mostLinks, withdrawnName}
 use Rattle.meaning.specs.Message.{readRequirement, lawful}
 use Rattle.meaning.specs.Calls.{readPlain, degreeCall, marginCall, memberCall}
 use Rattle.meaning.specs.Session.{Facts, link, Edit, edited, insert, without, setFact, cleared, imageOf, room, outOfRange, roleAbove, noPlace, Changed, openCall, undoCall}
@@ -26,6 +26,7 @@ use Rattle.meaning.specs.Session.{answer, buffer, log, countAfter, next,
 use Rattle.meaning.specs.Demand3.{Shows}
 use Rattle.meaning.proofs.Tests.{is-true, is-false, neither}
 use Rattle.meaning.proofs.Reading.{pass, took, not-below, not-le}
+use Rattle.meaning.proofs.Asked.{Asks, asks-goes}
 use Rattle.meaning.proofs.Image.{image-length, image-read, one-register, read-buffer, fits}
 use Rattle.meaning.proofs.SessionFacts.{fact-same, same-rising, same-register, Sounds, set-items, set-facts, set-rises, set-grows, set-same, Grows}
 use Rattle.meaning.proofs.SessionCalls.{alone, alone-length, alone-image}
@@ -36,12 +37,14 @@ use Rattle.meaning.proofs.History.{edit-undone, edited-agree, Logged, H
 module _ (n long : ℕ) (opened : Facts) where
   -- the buffer shows the facts
   shows : (w : Standing) (s : Session) → Held n long opened w s → Shows n (standingFacts w opened) (s .buffer)
-  unfolding degreeCall marginCall memberCall
+  unfolding degreeCall marginCall memberCall isFact
   shows w s h =
       let g = h .has .register in
       let o = h .has .of in
       let im : imageOf (s .buffer) ≡ encode g = ap imageOf (h .filled) ∙ alone-image long g (o .well) in
       let rd : readRegister (imageOf (s .buffer)) ≡ good g = ap readRegister im ∙ image-read g (o .well) in
+      let asks : (item : ℕ) → item < n → standingFacts w opened (nameOn item withdrawnName) ≡ false → Asks g item =
+      λ item i out. record { inside = omega (arith, o .items); serves = o .has (nameOn item withdrawnName) ∙ out } in
       let long′ : length (s .buffer) ≡ long = ap length (h .filled) ∙ alone-length long g (h .has .small) in
       record {
         register = g;
@@ -49,17 +52,17 @@ module _ (n long : ℕ) (opened : Facts) where
         image = im;
         only = λ k q. same-register k g (q .well) (o .well) (q .items ∙ sym (o .items)) (λ f. q .has f ∙ sym (o .has f));
         behind = h .filled ∙ ap (λ (z : ℕ). alone z g) (sym long′);
-        degree = λ message t item room e i r.
+        degree = λ message t item room e i w r.
             took (readRegister (imageOf (s .buffer))) _ g rd ∙ took (readPlain message) _ t e
-            ∙ pass (leb (length (g .names)) item) _ _ (not-le (length (g .names)) item (omega (arith, o .items)))
+            ∙ asks-goes g item _ (asks item i w)
             ∙ pass (ltb room (nodes t)) _ _ (not-below room (nodes t) r);
-        against = λ message t item p q e i l.
+        against = λ message t item p q e i w l.
             took (readRegister (imageOf (s .buffer))) _ g rd ∙ took (readPlain message) _ t e
-            ∙ pass (leb (length (g .names)) item) _ _ (not-le (length (g .names)) item (omega (arith, o .items)))
+            ∙ asks-goes g item _ (asks item i w)
             ∙ pass (not (lawful p q)) _ _ (ap not (is-true (lawful p q) l));
-        decision = λ message q parts item room e i r.
+        decision = λ message q parts item room e i w r.
             took (readRegister (imageOf (s .buffer))) _ g rd ∙ took (readRequirement message) _ (q, parts) e
-            ∙ pass (leb (length (g .names)) item) _ _ (not-le (length (g .names)) item (omega (arith, o .items)))
+            ∙ asks-goes g item _ (asks item i w)
             ∙ pass (ltb room (nodes q)) _ _ (not-below room (nodes q) r);
       }
 

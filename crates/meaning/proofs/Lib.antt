@@ -1,5 +1,6 @@
 -- Laws that the others use
 pub mod Tests
+pub mod Same
 pub mod Names
 pub mod Rising
 pub mod Stores
@@ -7,6 +8,7 @@ pub mod Stores
 pub mod Reading
 pub mod Decided
 pub mod ListRows
+pub mod Asked
 pub mod Head
 pub mod Image
 pub mod FractionRows
@@ -46,6 +48,8 @@ pub mod InPlace
 pub mod Rows
 -- Registers as graphs, membership, and the maps shown
 pub mod Links
+pub mod Judged
+pub mod Agreeing
 pub mod Member
 pub mod Places
 pub mod Picked

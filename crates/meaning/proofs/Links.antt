@@ -1,7 +1,6 @@
--- The successors in a register are the ends of its links, its facts are those of the graph that is judged, and in a well-formed register
--- the successors rise.
+-- The ends of links, the facts that are links, the links without some of them; and in a well-formed register the successors rise that are judged.
 -- Assumes nothing.
-use mathlib.Core.Path.{_≡_, refl, sym, ap, subst}
+use mathlib.Core.Path.{_≡_, refl, sym, ap, subst, _∙_}
 use mathlib.Core.Logic.{_⊎_, inl, inr, _↔_}
 use mathlib.Core.Bool.{Bool, true, false, _&&_, _||_, cond}
 use mathlib.Core.List.{List, [], _∷_, List·Memᴰ, List·Memᴰ·head, List·Memᴰ·tail, List·Memᴰ·cases-cons}
@@ -12,13 +11,12 @@ use native.Mathlib.Nat.{le-of-eq}
 use native.Mathlib.Omega.{arith}
 use lib.Dec.{T, eqb, ltb, leb, eqb→eq, eqb-refl, ltb→lt}
 use lib.ListN.{length}
-use Rattle.meaning.specs.declared.Fact.the-variants.{Name as nameOn, Link as linkOf}
-use Rattle.meaning.specs.Register.{Link, Register, sameLink, anyLink, isFact, targets, judged}
+use Rattle.meaning.specs.declared.Fact.the-variants.{Link as linkOf}
+use Rattle.meaning.specs.Register.{Link, Register, sameLink, anyLink, isFact, targets, idle, except, judged}
 use Rattle.meaning.specs.Register.{rises, above, allSets, linksOf, wellFormed}
 use Rattle.meaning.specs.Bounds.{mostItems, mostLinks}
-use Rattle.meaning.specs.Names.{has}
 use Rattle.meaning.specs.Whole.{any}
-use Rattle.meaning.proofs.Tests.{holds, and-both, both-and, or-cases, any-found, found-any}
+use Rattle.meaning.proofs.Tests.{holds, true-false, and-both, both-and, or-cases, any-found, found-any}
 use Rattle.meaning.proofs.Rising.{Rising, flat, up}
 
 abbrev pub link : ℕ → ℕ → ℕ → Link
@@ -89,9 +87,30 @@ fact-link g a r b = rw (any-link (sameLink (link a r b)) (g .links)) (
   λ m. found-any (sameLink (link a r b)) m (link-same (link a r b)),
 )
 
-pub fact-name : (g : Register) (i k : ℕ) → isFact g (nameOn i k) ≡ has (judged g .names i) k
-unfolding isFact
-fact-name g i k = refl
+-- ---- those of which p does not hold
+
+module _ {A : Type 0} (p : A → Bool) where
+  pub except-in : (xs : List A) (y : A) → List·Memᴰ y (except p xs) ↔ (List·Memᴰ y xs × (p y ≡ false))
+  unfolding except
+  except-in [] y = (λ m. elim m [ ], λ m. m .0)
+  except-in (x ∷ xs) y = go (p x) refl (except-in xs y)
+    where
+      go : (b : Bool) → p x ≡ b → List·Memᴰ y (except p xs) ↔ (List·Memᴰ y xs × (p y ≡ false))
+          → List·Memᴰ y (cond b (except p xs) (x ∷ except p xs)) ↔ (List·Memᴰ y (x ∷ xs) × (p y ≡ false))
+      go true e h = (λ m. (List·Memᴰ·tail (h .0 m .0), h .0 m .1), λ m. h .1 (past (List·Memᴰ·cases-cons (m .0)) (m .1), m .1))
+        where
+          past : (y ≡ x) ⊎ List·Memᴰ y xs → p y ≡ false → List·Memᴰ y xs
+          past (inl d) f = absurd (true-false e (ap p (sym d) ∙ f))
+          past (inr m) f = m
+      go false e h = (λ m. gone (List·Memᴰ·cases-cons m), λ m. kept (List·Memᴰ·cases-cons (m .0)) (m .1))
+        where
+          gone : (y ≡ x) ⊎ List·Memᴰ y (except p xs) → List·Memᴰ y (x ∷ xs) × (p y ≡ false)
+          gone (inl d) = (List·Memᴰ·head d, ap p d ∙ e)
+          gone (inr m) = (List·Memᴰ·tail (h .0 m .0), h .0 m .1)
+
+          kept : (y ≡ x) ⊎ List·Memᴰ y xs → p y ≡ false → List·Memᴰ y (x ∷ except p xs)
+          kept (inl d) f = List·Memᴰ·head d
+          kept (inr m) f = List·Memᴰ·tail (h .1 (m, f))
 
 -- ---- in a well-formed register they rise
 
@@ -145,21 +164,28 @@ all-below n l (k ∷ ks) t m d =
     go b (inl e) h = subst (Below l) (sym e) b
     go b (inr c) h = h c
 
-pub targets-rise : (n : ℕ) (before : Option Link) (ls : List Link) (i r : ℕ) → T (linksOf n before ls) → Rising (targets ls i r)
-unfolding targets
-targets-rise n before [] i r t = flat
-targets-rise n before (l ∷ ls) i r t = let p = rest n before l ls t in go (leaves i r l) refl (p .1) (targets-rise n (some l) ls i r (p .1))
+-- also without some of the links
+targets-rise : (n : ℕ) (before : Option Link) (p : Link → Bool) (ls : List Link) (i r : ℕ) → T (linksOf n before ls) → Rising (targets (except p ls) i r)
+unfolding targets except
+targets-rise n before p [] i r t = flat
+targets-rise n before p (l ∷ ls) i r t =
+    let q = rest n before l ls t in drops (p l) (leaves i r l) refl (q .1) (targets-rise n (some l) p ls i r (q .1))
   where
-    go : (b : Bool) → leaves i r l ≡ b → T (linksOf n (some l) ls) → Rising (targets ls i r)
-        → Rising (cond b (l .to ∷ targets ls i r) (targets ls i r))
+    go : (b : Bool) → leaves i r l ≡ b → T (linksOf n (some l) ls) → Rising (targets (except p ls) i r)
+        → Rising (cond b (l .to ∷ targets (except p ls) i r) (targets (except p ls) i r))
     go true e t h =
         let q = leaves-link i r l (holds e) in
-        up (λ y m. all-below n l ls t (link i r y) (target-link ls i r y m) .to-lt (q .0) (q .1)) h
+        up (λ y m. all-below n l ls t (link i r y) (except-in p ls (link i r y) .0 (target-link (except p ls) i r y m) .0) .to-lt (q .0) (q .1)) h
     go false e t h = h
+
+    drops : (d b : Bool) → leaves i r l ≡ b → T (linksOf n (some l) ls) → Rising (targets (except p ls) i r)
+        → Rising (targets (cond d (except p ls) (l ∷ except p ls)) i r)
+    drops true b e t h = h
+    drops false b e t h = rw e (go b e t h)
 
 pub next-rises : (g : Register) (i r : ℕ) → T (wellFormed g) → Rising (judged g .next i r)
 unfolding wellFormed
 next-rises g i r t =
     let n = length (g .names) in
     let own = leb 1 n && leb n mostItems && allSets (g .names) && leb (length (g .links)) mostLinks in
-    targets-rise n nowhere (g .links) i r (and-both own (linksOf n nowhere (g .links)) t .1)
+    targets-rise n nowhere (idle g) (g .links) i r (and-both own (linksOf n nowhere (g .links)) t .1)

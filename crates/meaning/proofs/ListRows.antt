@@ -11,7 +11,7 @@ use Rattle.meaning.specs.declared.Side.the-variants.{Requirement as requ
 use Rattle.meaning.specs.declared.Refusal.{Refusal}
 use Rattle.meaning.specs.Refusal.{Answer, good, refused, at, onCall, refuseIf, Exactly, _>>=_, _>>_}
 use Rattle.meaning.specs.Tree.{Concept, nodes}
-use Rattle.meaning.specs.Register.{Register, judged, readRegister}
+use Rattle.meaning.specs.Register.{Register, withdrawn, judged, readRegister}
 use Rattle.meaning.specs.Reduce.{reduce, size, scale}
 use Rattle.meaning.specs.Bounds.{mostSize}
 use Rattle.meaning.specs.Requirement.{Requirement, bare}
@@ -88,7 +88,7 @@ module _ (image message : List ℕ) where
 -- ---- the list
 
 abbrev tabled : Register → Concept → Tabled
-tabled g t = record { items = length (g .names); nodes = nodes t; scale = scale (reduce t); table = table (judged g) (length (g .names)) t }
+tabled g t = record { items = length (g .names); nodes = nodes t; scale = scale (reduce t); table = table (judged g) (withdrawn g) (length (g .names)) t }
 
 abbrev pub listThen : ℕ → Register → Concept → Answer Tabled
 listThen room g t = refuseIf (ltb room (nodes t * length (g .names))) (onCall 16) >> good (tabled g t)

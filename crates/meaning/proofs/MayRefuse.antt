@@ -19,7 +19,7 @@ use Rattle.meaning.specs.Tree.{Tree}
 use Rattle.meaning.specs.Message.{Spot, Part, faultAt, readChildren, readNode, noThresholds, readThreshold, readThresholds, withThresholds, readRequirement}
 use Rattle.meaning.specs.Lists.{Listed, Limit}
 use Rattle.meaning.specs.Writing.{nodeFits, nodesFit, limitFits, ownFit, listsFit, writeCall}
-use Rattle.meaning.specs.Calls.{firstPart, readPlain, degreeCall, marginCall, memberCall}
+use Rattle.meaning.specs.Calls.{firstPart, readPlain, askedFor, degreeCall, marginCall, memberCall}
 use Rattle.meaning.specs.Table.{listCall}
 use Rattle.meaning.specs.MayRefuse.{sameSide, oneOf, among, Gives, ofRegister, ofRequirement, ofQuestion, ofDegree, ofMargin, ofMember, ofList, ofWriting}
 use Rattle.meaning.proofs.Tests.{and-both, or-cases, or-left, or-right}
@@ -194,10 +194,14 @@ asks ns image r h k =
     gives-next (ofQuestion ns) _ (wider _ (λ f t. or-left (ofRegister f) _ t) (register-gives _ image)) (λ g.
     gives-next (ofQuestion ns) r (wider r (λ f t. or-right (ofRegister f) _ (or-left (ofRequirement f) _ t)) h) (k g))
 
+asked-gives : (may : Refusal → Bool) (g : Register) (item : ℕ) → T (may (onCall 15)) → T (may (onCall 26)) → Gives may (askedFor g item)
+unfolding askedFor
+asked-gives may g item a b = gives-then may _ (gives-test may _ _ a) (gives-test may _ _ b)
+
 pub degree-gives : (image message : List ℕ) (item room : ℕ) → Gives ofDegree (degreeCall image message item room)
 unfolding degreeCall ofQuestion among oneOf sameSide
 degree-gives image message item room =
-    asks (15 ∷ 16 ∷ []) image (readPlain message) (plain-gives message) (λ g t. gives-then _ _ (gives-test _ _ _ tt) (gives-then _ _ (gives-test _ _ _ tt) (gives-good _ _)))
+    asks (15 ∷ 26 ∷ 16 ∷ []) image (readPlain message) (plain-gives message) (λ g t. gives-then _ _ (asked-gives _ g item tt tt) (gives-then _ _ (gives-test _ _ _ tt) (gives-good _ _)))
 
 pub list-gives : (image message : List ℕ) (room : ℕ) → Gives ofList (listCall image message room)
 unfolding listCall ofQuestion among oneOf sameSide
@@ -208,14 +212,14 @@ list-gives image message room =
 pub margin-gives : (image message : List ℕ) (item p q : ℕ) → Gives ofMargin (marginCall image message item p q)
 unfolding marginCall ofQuestion among oneOf sameSide
 margin-gives image message item p q =
-    asks (15 ∷ 23 ∷ 24 ∷ 25 ∷ []) image (readPlain message) (plain-gives message) (λ g t.
-    gives-then _ _ (gives-test _ _ _ tt) (gives-then _ _ (gives-fraction _ onCall p q tt tt tt) (gives-good _ _)))
+    asks (15 ∷ 26 ∷ 23 ∷ 24 ∷ 25 ∷ []) image (readPlain message) (plain-gives message) (λ g t.
+    gives-then _ _ (asked-gives _ g item tt tt) (gives-then _ _ (gives-fraction _ onCall p q tt tt tt) (gives-good _ _)))
 
 pub member-gives : (image message : List ℕ) (item room : ℕ) → Gives ofMember (memberCall image message item room)
 unfolding memberCall ofQuestion among oneOf sameSide
 member-gives image message item room =
-    asks (15 ∷ 16 ∷ []) image (readRequirement message) (requirement-gives message) (λ g x.
-    gives-then _ _ (gives-test _ _ _ tt) (gives-then _ _ (gives-test _ _ _ tt) (gives-good _ _)))
+    asks (15 ∷ 26 ∷ 16 ∷ []) image (readRequirement message) (requirement-gives message) (λ g x.
+    gives-then _ _ (asked-gives _ g item tt tt) (gives-then _ _ (gives-test _ _ _ tt) (gives-good _ _)))
 
 -- ---- writing
 

@@ -11,8 +11,8 @@ use Rattle.meaning.specs.declared.Side.the-variants.{Register as registe
 use Rattle.meaning.specs.Refusal.{Answer, good, refused, refuseIf, _>>=_, _>>_}
 use Rattle.meaning.specs.Bytes.{number, bytes, fields, readHead, headed}
 use Rattle.meaning.specs.Tree.{node, Forest, none, more, Concept, count, under, nodes, relabel}
-use Rattle.meaning.specs.Fraction.{gcd, lowest, wrongWith}
-use Rattle.meaning.specs.Register.{targets, itemsBytes, linksBytes, readItems, readLink, readLinks, readBody, readRegisterBy, readRegister, readBuffer}
+use Rattle.meaning.specs.Fraction.{_//_, gcd, lowest, wrongWith}
+use Rattle.meaning.specs.Register.{Link, targets, except, itemsBytes, linksBytes, readItems, readLink, readLinks, readBody, readRegisterBy, readRegister, readBuffer}
 use Rattle.meaning.specs.Register.{encode as image}
 use Rattle.meaning.specs.Whole.{any, meetsBy}
 use Rattle.meaning.specs.Reduce.{dropped, keptOf, kept, reduce, size, scale}
@@ -21,9 +21,9 @@ use Rattle.meaning.specs.Requirement.{every, plain}
 use Rattle.meaning.specs.Message.{conceptBytes, nodeBytes, thresholdsBytes, readChildren, readNode, noThresholds, readThreshold, readThresholds, withThresholds, readRequirement}
 use Rattle.meaning.specs.Message.{encode as message}
 use Rattle.meaning.specs.Shown.{shown, yesBy}
-use Rattle.meaning.specs.Calls.{readPlain, degreeCall, marginCall, memberCall}
+use Rattle.meaning.specs.Calls.{readPlain, askedFor, degreeCall, marginCall, memberCall}
 use Rattle.meaning.specs.Table.{trees, upTo, rowsOf, Tabled, listCall}
-use Rattle.meaning.specs.Sheet.{R1, Q1, leaf, two, sameList, allTrue}
+use Rattle.meaning.specs.Sheet.{R1, Q1, leaf, two, link, sameList, allTrue, isFound, saysNo}
 unfoldable pub use Rattle.meaning.specs.MayRefuse.{sameSide}
 
 unfoldable pub is : {A : Type 0} → Side → ℕ → ℕ → Answer A → Bool
@@ -170,8 +170,16 @@ unfoldable pub isTabled : ℕ → ℕ → ℕ → List ℕ → Answer Tabled →
 isTabled n k d l (good a) = eqb (a .items) n && eqb (a .nodes) k && eqb (a .scale) d && sameList (a .table) l
 isTabled n k d l (refused r) = false
 
+-- three items of which the middle one is withdrawn: a link from it, one to it, and one past it
+besides : List Link → List ℕ
+besides past = image (record { names = 10 ∷ 9223372036854775810 ∷ 4 ∷ []; links = link 0 0 1 ∷ past ++ (link 1 0 2 ∷ []) })
+
+-- some successor, whatever it is
+someOne : List ℕ
+someOne = message (plain (node 0 (more 0 (leaf 0) none)))
+
 pub calls : List Bool
-unfolding is isTabled root wide wideAsked
+unfolding is isTabled root wide wideAsked besides someOne
 calls =
     -- the register, the requirement, 11, 14, 15, 16
     is register 1 0 (degreeCall [] [] 9 0)
@@ -204,12 +212,22 @@ calls =
     ∷ isTabled 3 3 2 (1 ∷ 0 ∷ 0 ∷ 0 ∷ 0 ∷ 0 ∷ 1 ∷ 1 ∷ 1 ∷ []) (listCall R1 (message (plain (two 0 (leaf 2) 0 (leaf 6)))) 9)
     ∷ isTabled 3 5 2 (1 ∷ 0 ∷ 0 ∷ 0 ∷ 0 ∷ 0 ∷ 0 ∷ 0 ∷ 0 ∷ 2 ∷ 1 ∷ 0 ∷ 1 ∷ 1 ∷ 1 ∷ [])
     (listCall R1 (message (plain (two 0 (node 0 (more 1 (leaf 0) none)) 0 (node 2 (more 1 (leaf 0) none))))) 16)
+    -- document 02, §5: 26 directly after 15; a successor that is withdrawn is none, and a withdrawn item has 0 in each row, also of the empty child
+    ∷ is call 15 0 (degreeCall (besides []) Q1 3 1)
+    ∷ is call 26 0 (degreeCall (besides []) Q1 1 1)
+    ∷ is call 26 0 (marginCall (besides []) Q1 1 1 0)
+    ∷ is call 26 0 (memberCall (besides []) Q1 1 0)
+    ∷ isFound (0 // 1) (0 ∷ 65535 ∷ []) (degreeCall (besides []) someOne 0 2)
+    ∷ isFound (1 // 1) (0 ∷ 2 ∷ []) (degreeCall (besides (link 0 0 2 ∷ [])) someOne 0 2)
+    ∷ saysNo (memberCall (besides []) someOne 0 2)
+    ∷ isTabled 3 2 1 (0 ∷ 0 ∷ 0 ∷ 1 ∷ 0 ∷ 1 ∷ []) (listCall (besides []) someOne 6)
+    ∷ isTabled 3 2 1 (1 ∷ 0 ∷ 0 ∷ 1 ∷ 0 ∷ 1 ∷ []) (listCall (besides (link 0 0 2 ∷ [])) someOne 6)
     ∷ []
 
 pub orders : T (allTrue (registers ++ messages ++ calls))
 unfolding
-    registers messages calls is isTabled sameSide root asked limited repeat empty chain fan wide wideAsked oneItem linkBytes R1 Q1
-    allTrue sameList degreeCall marginCall memberCall listCall rowsOf upTo trees kept readPlain readRequirement readRegisterBy readBody readItems readLink readLinks readHead number bytes fields headed
+    registers messages calls is isTabled sameSide besides someOne root asked limited repeat empty chain fan wide wideAsked oneItem linkBytes R1 Q1
+    allTrue sameList askedFor degreeCall marginCall memberCall listCall rowsOf upTo trees kept readPlain readRequirement readRegisterBy readBody readItems readLink readLinks readHead number bytes fields headed
     image message nodeBytes thresholdsBytes itemsBytes linksBytes readNode readChildren noThresholds readThreshold readThresholds withThresholds shown yesBy degree best lowest gcd wrongWith
-    reduce keptOf dropped size scale meetsBy any every targets count under nodes relabel ones refuseIf _>>=_ _>>_
+    reduce keptOf dropped size scale meetsBy any every targets except count under nodes relabel ones refuseIf _>>=_ _>>_
 orders = tt

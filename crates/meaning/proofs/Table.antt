@@ -1,5 +1,5 @@
 -- The table of a list (document 02, §3): how long it is, what stands in each place of it, that its first row over the scale is the degree call's
--- answer for each item, and that it is what is worked out over the tree as it is written.
+-- answer for each item in service and 0 for one that is withdrawn, and that it is what is worked out over the tree as it is written.
 -- Assumes nothing.
 use mathlib.Core.Path.{_≡_, refl, sym, ap, ap₂, subst, _∙_}
 use mathlib.Core.Bool.{Bool, true, false, cond}
@@ -8,24 +8,25 @@ use Prim.Native.Nat.{ℕ, zero, suc, _+_, _*_, _≤_, _<_}
 use native.Mathlib.Nat.{zero-add}
 use native.Mathlib.Omega.{arith}
 use native.Mathlib.Decide.{decLt}
-use lib.Dec.{ltb, leb}
+use lib.Dec.{ltb}
 use lib.ListN.{length, getD, drop, length-append, replicate, length-replicate, replicate-append-replicate, List·getD-append}
 use lib.Seq.{getD-append-add, getD-append-seam, sets-eq}
 use Rattle.meaning.specs.Refusal.{Answer, good, onCall, refuseIf, _>>_}
 use Rattle.meaning.specs.Tree.{node, Forest, none, more, Concept, under, nodes, nodesF}
 use Rattle.meaning.specs.Graph.{Graph}
-use Rattle.meaning.specs.Register.{Register, judged}
+use Rattle.meaning.specs.Register.{Register, withdrawn, judged, readRegister}
 use Rattle.meaning.specs.Reduce.{dropped, reduce, kept, keptF, scale}
 use Rattle.meaning.specs.Requirement.{bare}
 use Rattle.meaning.specs.Fraction.{_//_, lowest}
 use Rattle.meaning.specs.Partial.{IsDegree}
 use Rattle.meaning.specs.Degree.{degree, answered}
 use Rattle.meaning.specs.Shown.{degreeMap}
-use Rattle.meaning.specs.Calls.{inRange, Found, degreeCall}
-use Rattle.meaning.specs.InPlace.{degreeIn, tableIn, tableInF}
-use Rattle.meaning.specs.Table.{trees, treesF, upTo, rowsOf, table, Tabled, listCall, afterList}
+use Rattle.meaning.specs.Calls.{askedFor, Found, degreeCall}
+use Rattle.meaning.specs.InPlace.{placedIn, tableIn, tableInF}
+use Rattle.meaning.specs.Table.{trees, treesF, upTo, placed, rowsOf, table, Tabled, listCall, afterList}
 use Rattle.meaning.specs.ListRows.{ListTakes}
-use Rattle.meaning.proofs.Reading.{pass, not-below, not-le}
+use Rattle.meaning.proofs.Reading.{pass, not-below}
+use Rattle.meaning.proofs.Asked.{asks-goes}
 use Rattle.meaning.proofs.ListRows.{readable-goes, list-taken, list-exactly}
 use Rattle.meaning.proofs.Degree.{answered-is}
 use Rattle.meaning.proofs.Written.{kept-written}
@@ -76,20 +77,20 @@ mutual
   treesF-length none = refl
   treesF-length (more r t f) = length-append (trees t) (treesF f) ∙ ap₂ _+_ (trees-length t) (treesF-length f)
 
-module _ (G : Graph ℕ) (items : ℕ) where
+module _ (G : Graph ℕ) (out : ℕ → Bool) (items : ℕ) where
   -- ---- the rows of nodes, one after the other
 
   rows-append : (ks ls : List Bool) (ts us : List Concept) → length ks ≡ length ts
-      → rowsOf G items (ks ++ ls) (ts ++ us) ≡ rowsOf G items ks ts ++ rowsOf G items ls us
+      → rowsOf G out items (ks ++ ls) (ts ++ us) ≡ rowsOf G out items ks ts ++ rowsOf G out items ls us
   unfolding rowsOf
   rows-append [] ls [] us e = refl
   rows-append [] ls (t ∷ ts) us e = absurd (omega arith)
   rows-append (k ∷ ks) ls [] us e = absurd (omega arith)
   rows-append (k ∷ ks) ls (t ∷ ts) us e =
-      ap (λ (z : List ℕ). upTo items (λ x. cond k (degree G (reduce t) x) 0) ++ z) (rows-append ks ls ts us (omega arith))
-      ∙ sym (append-assoc (upTo items (λ x. cond k (degree G (reduce t) x) 0)) (rowsOf G items ks ts) (rowsOf G items ls us))
+      ap (λ (z : List ℕ). upTo items (λ x. cond k (placed G out items t x) 0) ++ z) (rows-append ks ls ts us (omega arith))
+      ∙ sym (append-assoc (upTo items (λ x. cond k (placed G out items t x) 0)) (rowsOf G out items ks ts) (rowsOf G out items ls us))
 
-  rows-dropped : (n : ℕ) (ts : List Concept) → length ts ≡ n → rowsOf G items (replicate n false) ts ≡ replicate (n * items) 0
+  rows-dropped : (n : ℕ) (ts : List Concept) → length ts ≡ n → rowsOf G out items (replicate n false) ts ≡ replicate (n * items) 0
   unfolding rowsOf
   rows-dropped zero [] e = let z : 0 ≡ 0 * items = omega arith in ap (λ (k : ℕ). replicate k 0) z
   rows-dropped zero (t ∷ ts) e = absurd (omega arith)
@@ -99,35 +100,35 @@ module _ (G : Graph ℕ) (items : ℕ) where
       ap₂ {C = List ℕ} _++_ (upTo-none items) (rows-dropped n ts (omega arith)) ∙ replicate-append-replicate items (n * items) 0
       ∙ ap (λ (k : ℕ). replicate k 0) all
 
-  rows-long : (ks : List Bool) (ts : List Concept) → length ks ≡ length ts → length (rowsOf G items ks ts) ≡ length ts * items
+  rows-long : (ks : List Bool) (ts : List Concept) → length ks ≡ length ts → length (rowsOf G out items ks ts) ≡ length ts * items
   unfolding rowsOf
   rows-long [] [] e = omega arith
   rows-long [] (t ∷ ts) e = absurd (omega arith)
   rows-long (k ∷ ks) [] e = absurd (omega arith)
   rows-long (k ∷ ks) (t ∷ ts) e =
-      length-append (upTo items (λ x. cond k (degree G (reduce t) x) 0)) _
-      ∙ omega (arith, upTo-long items (λ x. cond k (degree G (reduce t) x) 0), rows-long ks ts (omega arith))
+      length-append (upTo items (λ x. cond k (placed G out items t x) 0)) _
+      ∙ omega (arith, upTo-long items (λ x. cond k (placed G out items t x) 0), rows-long ks ts (omega arith))
 
   -- the place of the n-th node at an item
   rows-at : (ks : List Bool) (ts : List Concept) (n x : ℕ) (k₀ : Bool) (t₀ : Concept) → length ks ≡ length ts → n < length ts → x < items
-      → getD (rowsOf G items ks ts) (n * items + x) 0 ≡ cond (getD ks n k₀) (degree G (reduce (getD ts n t₀)) x) 0
+      → getD (rowsOf G out items ks ts) (n * items + x) 0 ≡ cond (getD ks n k₀) (placed G out items (getD ts n t₀) x) 0
   unfolding rowsOf
   rows-at [] [] n x k₀ t₀ e l m = absurd (omega arith)
   rows-at [] (t ∷ ts) n x k₀ t₀ e l m = absurd (omega arith)
   rows-at (k ∷ ks) [] n x k₀ t₀ e l m = absurd (omega arith)
   rows-at (k ∷ ks) (t ∷ ts) zero x k₀ t₀ e l m =
-      let here : List ℕ = upTo items (λ y. cond k (degree G (reduce t) y) 0) in
+      let here : List ℕ = upTo items (λ y. cond k (placed G out items t y) 0) in
       let at : zero * items + x ≡ x = omega arith in
-      let long : length here ≡ items = upTo-long items (λ y. cond k (degree G (reduce t) y) 0) in
-      ap (λ (z : ℕ). getD (here ++ rowsOf G items ks ts) z 0) at
-      ∙ List·getD-append here (rowsOf G items ks ts) 0 x (rw long m)
-      ∙ upTo-at items (λ y. cond k (degree G (reduce t) y) 0) x m
+      let long : length here ≡ items = upTo-long items (λ y. cond k (placed G out items t y) 0) in
+      ap (λ (z : ℕ). getD (here ++ rowsOf G out items ks ts) z 0) at
+      ∙ List·getD-append here (rowsOf G out items ks ts) 0 x (rw long m)
+      ∙ upTo-at items (λ y. cond k (placed G out items t y) 0) x m
   rows-at (k ∷ ks) (t ∷ ts) (suc n) x k₀ t₀ e l m =
-      let here : List ℕ = upTo items (λ y. cond k (degree G (reduce t) y) 0) in
-      let long : length here ≡ items = upTo-long items (λ y. cond k (degree G (reduce t) y) 0) in
+      let here : List ℕ = upTo items (λ y. cond k (placed G out items t y) 0) in
+      let long : length here ≡ items = upTo-long items (λ y. cond k (placed G out items t y) 0) in
       let at : suc n * items + x ≡ length here + (n * items + x) = omega (arith, long) in
-      ap (λ (z : ℕ). getD (here ++ rowsOf G items ks ts) z 0) at
-      ∙ getD-append-add here (rowsOf G items ks ts) (n * items + x) 0
+      ap (λ (z : ℕ). getD (here ++ rowsOf G out items ks ts) z 0) at
+      ∙ getD-append-add here (rowsOf G out items ks ts) (n * items + x) 0
       ∙ rows-at ks ts n x k₀ t₀ (omega arith) (omega arith) m
 
   -- ---- the table
@@ -135,40 +136,40 @@ module _ (G : Graph ℕ) (items : ℕ) where
   same-length : (t : Concept) → length (kept t) ≡ length (trees t)
   same-length t = kept-length t ∙ sym (trees-length t)
 
-  pub table-long : (t : Concept) → length (table G items t) ≡ nodes t * items
+  pub table-long : (t : Concept) → length (table G out items t) ≡ nodes t * items
   table-long t = rows-long (kept t) (trees t) (same-length t) ∙ ap (λ (k : ℕ). k * items) (trees-length t)
 
   -- "the whole number over its scale that is a kept node's degree, 0 for a dropped node": of the n-th written node at item x
   pub table-at : (t : Concept) (n x : ℕ) → n < nodes t → x < items
-      → getD (table G items t) (n * items + x) 0 ≡ cond (getD (kept t) n false) (degree G (reduce (getD (trees t) n t)) x) 0
+      → getD (table G out items t) (n * items + x) 0 ≡ cond (getD (kept t) n false) (placed G out items (getD (trees t) n t) x) 0
   table-at t n x l m = rows-at (kept t) (trees t) n x false t (same-length t) (rw (trees-length t) l) m
 
   -- the first row is the root's
-  pub table-first : (t : Concept) (x : ℕ) → x < items → getD (table G items t) x 0 ≡ degree G (reduce t) x
+  pub table-first : (t : Concept) (x : ℕ) → x < items → getD (table G out items t) x 0 ≡ placed G out items t x
   unfolding kept trees rowsOf
   table-first (node a f) x m =
-      List·getD-append (upTo items (λ y. degree G (reduce (node a f)) y)) _ 0 x (rw (upTo-long items (λ y. degree G (reduce (node a f)) y)) m)
-      ∙ upTo-at items (λ y. degree G (reduce (node a f)) y) x m
+      List·getD-append (upTo items (λ y. placed G out items (node a f) y)) _ 0 x (rw (upTo-long items (λ y. placed G out items (node a f) y)) m)
+      ∙ upTo-at items (λ y. placed G out items (node a f) y) x m
 
   -- ---- over the tree as it is written
 
   mutual
     unfolding tableIn kept trees rowsOf nodes
 
-    pub table-in : (t : Concept) → table G items t ≡ tableIn G items t
+    pub table-in : (t : Concept) → table G out items t ≡ tableIn G out items t
     table-in (node a f) =
-        ap₂ {C = List ℕ} _++_ (upTo-same items (λ y. degree G (reduce (node a f)) y) (λ y. degreeIn G (node a f) y) (λ y l. degree-in G (node a f) y))
+        ap₂ {C = List ℕ} _++_ (upTo-same items (λ y. placed G out items (node a f) y) (λ y. placedIn G out items (node a f) y) (λ y l. ap (λ (n : ℕ). cond (out y) 0 n) (degree-in G (node a f) y)))
         (tableF-in f none)
 
-    tableF-in : (f b : Forest ℕ) → rowsOf G items (keptF f b) (treesF f) ≡ tableInF G items f b
+    tableF-in : (f b : Forest ℕ) → rowsOf G out items (keptF f b) (treesF f) ≡ tableInF G out items f b
     tableF-in none b = refl
     tableF-in (more r t f) b =
-        ap (λ (ks : List Bool). rowsOf G items ks (trees t ++ treesF f)) (kept-written r t f b)
+        ap (λ (ks : List Bool). rowsOf G out items ks (trees t ++ treesF f)) (kept-written r t f b)
         ∙ go (dropped (under r b) t (under r f)) (table-in t) (tableF-in f (more r t b))
       where
-        go : (d : Bool) → table G items t ≡ tableIn G items t → rowsOf G items (keptF f (more r t b)) (treesF f) ≡ tableInF G items f (more r t b)
-            → rowsOf G items (cond d (replicate (nodes t) false) (kept t) ++ keptF f (more r t b)) (trees t ++ treesF f)
-            ≡ cond d (replicate (nodes t * items) 0) (tableIn G items t) ++ tableInF G items f (more r t b)
+        go : (d : Bool) → table G out items t ≡ tableIn G out items t → rowsOf G out items (keptF f (more r t b)) (treesF f) ≡ tableInF G out items f (more r t b)
+            → rowsOf G out items (cond d (replicate (nodes t) false) (kept t) ++ keptF f (more r t b)) (trees t ++ treesF f)
+            ≡ cond d (replicate (nodes t * items) 0) (tableIn G out items t) ++ tableInF G out items f (more r t b)
         go true h e =
             rows-append (replicate (nodes t) false) (keptF f (more r t b)) (trees t) (treesF f) (length-replicate (nodes t) false ∙ sym (trees-length t))
             ∙ ap₂ {C = List ℕ} _++_ (rows-dropped (nodes t) (trees t) (trees-length t)) e
@@ -177,57 +178,87 @@ module _ (G : Graph ℕ) (items : ℕ) where
   -- ---- a node's degree
 
   -- each kept node's row is that node's degree: of the n-th written node at item x, over the scale of the tree at that node
-  pub kept-degree : (t : Concept) (n x : ℕ) → n < nodes t → x < items → getD (kept t) n false ≡ true
-      → IsDegree G (getD (trees t) n t) x (lowest (getD (table G items t) (n * items + x) 0 // scale (reduce (getD (trees t) n t))))
-  kept-degree t n x l m k =
+  pub kept-degree : (t : Concept) (n x : ℕ) → n < nodes t → x < items → getD (kept t) n false ≡ true → out x ≡ false
+      → IsDegree G (getD (trees t) n t) x (lowest (getD (table G out items t) (n * items + x) 0 // scale (reduce (getD (trees t) n t))))
+  kept-degree t n x l m k o =
       let u = getD (trees t) n t in
-      let number : getD (table G items t) (n * items + x) 0 ≡ degree G (reduce u) x =
-      table-at t n x l m ∙ ap (λ (b : Bool). cond b (degree G (reduce u) x) 0) k in
+      let number : getD (table G out items t) (n * items + x) 0 ≡ degree G (reduce u) x =
+      table-at t n x l m ∙ ap₂ (λ (b c : Bool). cond b (cond c 0 (degree G (reduce u) x)) 0) k o in
       rw number (answered-is G u x)
+
+  -- document 02, §5: in every row 0 stands at an item that is out
+  pub table-out : (t : Concept) (n x : ℕ) → n < nodes t → x < items → out x ≡ true → getD (table G out items t) (n * items + x) 0 ≡ 0
+  table-out t n x l m o =
+      table-at t n x l m ∙ ap (λ (c : Bool). cond (getD (kept t) n false) (cond c 0 (degree G (reduce (getD (trees t) n t)) x)) 0) o
+      ∙ go (getD (kept t) n false)
+    where
+      go : (b : Bool) → _≡_ {A = ℕ} (cond b 0 0) 0
+      go true = refl
+      go false = refl
 
 -- ---- the list and the single calls
 
 good-inj : {A : Type 0} {a b : A} → good a ≡ good b → a ≡ b
 good-inj e = cc
 
--- "Its degrees equal the single calls' for each item": the first row over the scale, in lowest terms, is the degree call's answer
-pub list-degree : (image message : List ℕ) (room : ℕ) (a : Tabled) → listCall image message room ≡ good a → (item places : ℕ) → item < a .items → a .nodes ≤ places
-    → (m : List ℕ) × (degreeCall image message item places ≡ good (record { degree = lowest (getD (a .table) item 0 // a .scale); map = m }))
-unfolding degreeCall
-list-degree image message room a e item places l m = (degreeMap G t item, call ∙ ap good answer)
-  where
-    x : ListTakes image message room
-    x = list-exactly image message room .takes .0 (a, e)
+module _ (image message : List ℕ) (room : ℕ) (a : Tabled) (e : listCall image message room ≡ good a) (item : ℕ) (inside : item < a .items) where
+  x : ListTakes image message room
+  x = list-exactly image message room .takes .0 (a, e)
 
-    G : Graph ℕ
-    G = judged (x .readable .register)
+  abbrev g : Register
+  g = x .readable .register
 
-    t : Concept
-    t = bare (x .readable .tree)
+  abbrev G : Graph ℕ
+  G = judged g
 
-    same : a ≡ record { items = length (x .readable .register .names); nodes = nodes t; scale = scale (reduce t); table = table G (length (x .readable .register .names)) t }
-    same = good-inj (sym e ∙ list-taken image message room x)
+  abbrev t : Concept
+  t = bare (x .readable .tree)
 
-    inside : item < length (x .readable .register .names)
-    inside = subst (λ (z : ℕ). item < z) (ap (λ (z : Tabled). z .items) same) l
+  same : a ≡ record { items = length (g .names); nodes = nodes t; scale = scale (reduce t); table = table G (withdrawn g) (length (g .names)) t }
+  same = good-inj (sym e ∙ list-taken image message room x)
 
-    fits : nodes t ≤ places
-    fits = subst (λ (z : ℕ). z ≤ places) (ap (λ (z : Tabled). z .nodes) same) m
+  among : item < length (g .names)
+  among = subst (λ (z : ℕ). item < z) (ap (λ (z : Tabled). z .items) same) inside
 
-    next : Register → Concept → Answer Found
-    next g u = inRange g item >> (refuseIf (ltb places (nodes u)) (onCall 16) >> good (record { degree = answered (judged g) u item; map = degreeMap (judged g) u item }))
+  module _ (h : Register) (read : readRegister image ≡ good h) where
+    is : h ≡ g
+    is = good-inj (sym read ∙ x .readable .read)
 
-    call : degreeCall image message item places ≡ good (record { degree = answered G t item; map = degreeMap G t item })
-    call =
-        readable-goes image message next (x .readable) ∙ pass (leb (length (x .readable .register .names)) item) _ _ (not-le _ item inside)
-        ∙ pass (ltb places (nodes t)) _ _ (not-below places (nodes t) fits)
+    -- "Its degrees equal the single calls' for each item" in service: the first row over the scale, in lowest terms, is the degree call's answer
+    pub list-degree : withdrawn h item ≡ false → (places : ℕ) → a .nodes ≤ places
+        → (m : List ℕ) × (degreeCall image message item places ≡ good (record { degree = lowest (getD (a .table) item 0 // a .scale); map = m }))
+    unfolding degreeCall
+    list-degree w places m = (degreeMap G t item, call ∙ ap good answer)
+      where
+        serves : withdrawn g item ≡ false
+        serves = ap (λ (z : Register). withdrawn z item) (sym is) ∙ w
 
-    number : getD (a .table) item 0 ≡ degree G (reduce t) item
-    number = ap (λ (z : Tabled). getD (z .table) item 0) same ∙ table-first G (length (x .readable .register .names)) t item inside
+        fits : nodes t ≤ places
+        fits = subst (λ (z : ℕ). z ≤ places) (ap (λ (z : Tabled). z .nodes) same) m
 
-    answer : _≡_ {A = Found} (record { degree = answered G t item; map = degreeMap G t item })
-        (record { degree = lowest (getD (a .table) item 0 // a .scale); map = degreeMap G t item })
-    answer = ap₂ (λ (n d : ℕ). record { degree = lowest (n // d); map = degreeMap G t item }) (sym number) (sym (ap (λ (z : Tabled). z .scale) same))
+        next : Register → Concept → Answer Found
+        next k u = askedFor k item >> (refuseIf (ltb places (nodes u)) (onCall 16) >> good (record { degree = answered (judged k) u item; map = degreeMap (judged k) u item }))
+
+        call : degreeCall image message item places ≡ good (record { degree = answered G t item; map = degreeMap G t item })
+        call =
+            readable-goes image message next (x .readable) ∙ asks-goes g item _ (record { inside = among; serves = serves })
+            ∙ pass (ltb places (nodes t)) _ _ (not-below places (nodes t) fits)
+
+        number : getD (a .table) item 0 ≡ degree G (reduce t) item
+        number =
+            ap (λ (z : Tabled). getD (z .table) item 0) same ∙ table-first G (withdrawn g) (length (g .names)) t item among
+            ∙ ap (λ (b : Bool). cond b 0 (degree G (reduce t) item)) serves
+
+        answer : _≡_ {A = Found} (record { degree = answered G t item; map = degreeMap G t item })
+            (record { degree = lowest (getD (a .table) item 0 // a .scale); map = degreeMap G t item })
+        answer = ap₂ (λ (n d : ℕ). record { degree = lowest (n // d); map = degreeMap G t item }) (sym number) (sym (ap (λ (z : Tabled). z .scale) same))
+
+    -- and where the degree call would refuse a withdrawn item with 26, each row of the table holds 0
+    pub list-withdrawn : withdrawn h item ≡ true → (n : ℕ) → n < a .nodes → getD (a .table) (n * a .items + item) 0 ≡ 0
+    list-withdrawn w n l =
+        ap (λ (z : Tabled). getD (z .table) (n * z .items + item) 0) same
+        ∙ table-out G (withdrawn g) (length (g .names)) t n item (subst (λ (z : ℕ). n < z) (ap (λ (z : Tabled). z .nodes) same) l) among
+        (ap (λ (z : Register). withdrawn z item) (sym is) ∙ w)
 
 -- after a good call the table stands at the front, and "places behind stay"
 pub list-leaves : (image message old : List ℕ) (a : Tabled) → listCall image message (length old) ≡ good a
@@ -241,4 +272,4 @@ list-leaves image message old a e =
     long : length (a .table) ≡ nodes (bare (x .readable .tree)) * length (x .readable .register .names)
     long =
         ap (λ (z : Tabled). length (z .table)) (good-inj (sym e ∙ list-taken image message (length old) x))
-        ∙ table-long (judged (x .readable .register)) (length (x .readable .register .names)) (bare (x .readable .tree))
+        ∙ table-long (judged (x .readable .register)) (withdrawn (x .readable .register)) (length (x .readable .register .names)) (bare (x .readable .tree))

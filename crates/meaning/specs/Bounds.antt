@@ -16,6 +16,10 @@ mostName = 63
 abbrev pub mostRole : ℕ
 mostRole = 31
 
+-- document 02, §5: "Name 63 now means withdrawn."
+abbrev pub withdrawnName : ℕ
+withdrawnName = 63
+
 -- "Root depth is 0 .. depth at most 16", so a tree has at most 17 levels; "At most 64 nodes", "16 thresholds"
 abbrev pub mostLevels : ℕ
 mostLevels = 17

@@ -1,6 +1,6 @@
 -- The answer of each public call as a function of what is handed in, in the document's order of tests:
 -- "A degree or yes/no reads the register, the requirement, then 11 and 14 (degree and margin only), 15, 13 (margin only), 16 (no margin)."
--- Of the margin's 13, document 02, §2 makes 23, 24 and 25.
+-- Of the margin's 13, document 02, §2 makes 23, 24 and 25; its §5 puts 26 "directly after 15".
 -- Assumes nothing.
 use mathlib.Core.Bool.{Bool, true, false}
 use mathlib.Core.List.{List, [], _∷_}
@@ -13,7 +13,7 @@ use Rattle.meaning.specs.declared.Side.the-variants.{Requirement as requ
 use Rattle.meaning.specs.Refusal.{Answer, good, refused, at, onCall, refuseIf, _>>=_, _>>_}
 use Rattle.meaning.specs.Tree.{Concept, nodes}
 use Rattle.meaning.specs.Fraction.{Frac, _//_, fraction, margin, marginOver}
-use Rattle.meaning.specs.Register.{Register, judged, readRegister}
+use Rattle.meaning.specs.Register.{Register, withdrawn, judged, readRegister}
 use Rattle.meaning.specs.Reduce.{reduce, size}
 use Rattle.meaning.specs.Bounds.{mostSize}
 use Rattle.meaning.specs.Degree.{answered}
@@ -33,8 +33,11 @@ readPlain message = do
   refuseIf (ltb mostSize (size (reduce (bare q)))) (at requirement 14 3)
   good (bare q)
 
-abbrev pub inRange : Register → ℕ → Answer (Unit {0})
-inRange g item = refuseIf (leb (length (g .names)) item) (onCall 15)
+-- the item that is asked for: 15, and "26 when the asked item is withdrawn, directly after 15"
+unfoldable pub askedFor : Register → ℕ → Answer (Unit {0})
+askedFor g item = do
+  refuseIf (leb (length (g .names)) item) (onCall 15)
+  refuseIf (withdrawn g item) (onCall 26)
 
 -- ---- the degree, in lowest terms, with its map
 
@@ -46,7 +49,7 @@ unfoldable pub degreeCall : List ℕ → List ℕ → ℕ → ℕ → Answer Fou
 degreeCall image message item room = do
   g ← readRegister image
   t ← readPlain message
-  inRange g item
+  askedFor g item
   refuseIf (ltb room (nodes t)) (onCall 16)
   good (record { degree = answered (judged g) t item; map = degreeMap (judged g) t item })
 
@@ -65,7 +68,7 @@ unfoldable pub marginCall : List ℕ → List ℕ → ℕ → ℕ → ℕ → An
 marginCall image message item p q = do
   g ← readRegister image
   t ← readPlain message
-  inRange g item
+  askedFor g item
   fraction onCall p q
   let d = answered (judged g) t item
   good (record { margin = margin d (p // q); over = marginOver d (p // q) })
@@ -84,7 +87,7 @@ unfoldable pub memberCall : List ℕ → List ℕ → ℕ → ℕ → Answer Dec
 memberCall image message item room = do
   g ← readRegister image
   (q, parts) ← readRequirement message
-  inRange g item
+  askedFor g item
   refuseIf (ltb room (nodes q)) (onCall 16)
   good (decide (member (judged g) q item) (yesMap (judged g) q item))
 

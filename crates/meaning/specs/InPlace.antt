@@ -1,7 +1,7 @@
 -- The degree in the reduced tree, worked out over the tree as it is written: a dropped child is passed over. This is what code computes;
 -- that it is the degree of Degree.antt is a theorem (proofs/InPlace.antt).
 -- Assumes nothing.
-use mathlib.Core.Bool.{cond}
+use mathlib.Core.Bool.{Bool, cond}
 use mathlib.Core.List.{List, [], _++_}
 use Prim.Native.Nat.{ℕ, _+_, _*_, max}
 use lib.ListN.{replicate}
@@ -51,13 +51,16 @@ module _ {N : Type 0} (G : Graph N) where
         cond (dropped (under r b) t (under r f)) (degreeInF f (more r t b) x)
         (best (λ y. degreeIn t y) (G .next x r) * scaleInF f (more r t b) + scaleIn t * degreeInF f (more r t b) x)
 
--- the table of a list (document 02, §3), over the tree as it is written
-module _ (G : Graph ℕ) (items : ℕ) where
+-- the table of a list (document 02, §3), over the tree as it is written, with 0 at the items that are out
+module _ (G : Graph ℕ) (out : ℕ → Bool) (items : ℕ) where
+  abbrev pub placedIn : Concept → ℕ → ℕ
+  placedIn t x = cond (out x) 0 (degreeIn G t x)
+
   unfoldable mutual
     unfolding dropped under nodes upTo
 
     pub tableIn : Concept → List ℕ
-    tableIn (node a f) = upTo items (λ x. degreeIn G (node a f) x) ++ tableInF f none
+    tableIn (node a f) = upTo items (λ x. placedIn (node a f) x) ++ tableInF f none
 
     pub tableInF : Forest ℕ → Forest ℕ → List ℕ
     tableInF none b = []

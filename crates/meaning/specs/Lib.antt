@@ -5,6 +5,7 @@ pub mod Names
 pub mod Tree
 pub mod Graph
 pub mod Register
+pub mod Judged
 pub mod Whole
 pub mod Reduce
 pub mod Fraction

@@ -44,18 +44,18 @@ ofRegister = among register (1 ∷ 2 ∷ 3 ∷ 4 ∷ 5 ∷ 6 ∷ 7 ∷ 8 ∷ [])
 abbrev pub ofRequirement : Refusal → Bool
 ofRequirement = among requirement (1 ∷ 2 ∷ 3 ∷ 7 ∷ 8 ∷ 9 ∷ 10 ∷ 11 ∷ 12 ∷ 13 ∷ 14 ∷ 23 ∷ 24 ∷ 25 ∷ [])
 
--- a question: of its register, of its requirement, or one of these numbers on the call's side
+-- a question: of its register, of its requirement, or one of these numbers on the call's side; 26 is document 02's, §5
 unfoldable pub ofQuestion : List ℕ → Refusal → Bool
 ofQuestion ns f = ofRegister f || (ofRequirement f || among call ns f)
 
 abbrev pub ofDegree : Refusal → Bool
-ofDegree = ofQuestion (15 ∷ 16 ∷ [])
+ofDegree = ofQuestion (15 ∷ 26 ∷ 16 ∷ [])
 
 abbrev pub ofMargin : Refusal → Bool
-ofMargin = ofQuestion (15 ∷ 23 ∷ 24 ∷ 25 ∷ [])
+ofMargin = ofQuestion (15 ∷ 26 ∷ 23 ∷ 24 ∷ 25 ∷ [])
 
 abbrev pub ofMember : Refusal → Bool
-ofMember = ofQuestion (15 ∷ 16 ∷ [])
+ofMember = ofQuestion (15 ∷ 26 ∷ 16 ∷ [])
 
 -- document 02, §3: "The call takes no item"
 abbrev pub ofList : Refusal → Bool

@@ -1,4 +1,4 @@
--- Document 01, "Register image": a register, its facts, the graph that is judged, its image, and the reading of an image.
+-- Document 01, "Register image": a register, its facts, the graph that is judged (document 02, §5), its image, and the reading of an image.
 -- Assumes nothing.
 use mathlib.Core.Bool.{Bool, true, false, _&&_, _||_, not, cond}
 use mathlib.Core.List.{List, [], _∷_, _++_}
@@ -10,7 +10,7 @@ use lib.ListN.{length, getD}
 use Rattle.meaning.specs.declared.Side.the-variants.{Register as register}
 use Rattle.meaning.specs.declared.Fact.{Fact}
 use Rattle.meaning.specs.declared.Fact.the-variants.{Name as nameOn, Link as linkOf}
-use Rattle.meaning.specs.Bounds.{mostItems, mostLinks, mostRole}
+use Rattle.meaning.specs.Bounds.{mostItems, mostLinks, mostRole, withdrawnName}
 use Rattle.meaning.specs.Refusal.{Answer, good, at, refuseIf, _>>=_, _>>_}
 use Rattle.meaning.specs.Bytes.{number, bytes, fields, readHead, unequal, moreThan, headed}
 use Rattle.meaning.specs.Names.{has, isSet}
@@ -47,8 +47,21 @@ unfoldable pub targets : List Link → ℕ → ℕ → List ℕ
 targets [] i r = []
 targets (l ∷ ls) i r = cond (eqb (l .from) i && eqb (l .role) r) (l .to ∷ targets ls i r) (targets ls i r)
 
+abbrev pub withdrawn : Register → ℕ → Bool
+withdrawn g i = has (getD (g .names) i 0) withdrawnName
+
+-- a link at a withdrawn item: from it or to it
+abbrev pub idle : Register → Link → Bool
+idle g l = withdrawn g (l .from) || withdrawn g (l .to)
+
+-- those of a list of which p does not hold
+unfoldable pub except : {A : Type 0} → (A → Bool) → List A → List A
+except p [] = []
+except p (x ∷ xs) = cond (p x) (except p xs) (x ∷ except p xs)
+
+-- "The graph that is judged is the register without withdrawn items and the links at them": a withdrawn item has no names and no links there
 abbrev pub judged : Register → Graph ℕ
-judged g = record { names = λ i. getD (g .names) i 0; next = targets (g .links) }
+judged g = record { names = λ i. cond (withdrawn g i) 0 (getD (g .names) i 0); next = targets (except (idle g) (g .links)) }
 
 -- ---- which registers there are
 

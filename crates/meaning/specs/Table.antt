@@ -1,4 +1,4 @@
--- Document 02, §3, "The whole list sooner": the table of a list, and the call that fills it.
+-- Document 02, §3, "The whole list sooner": the table of a list, and the call that fills it; with §5's withdrawn items.
 -- Assumes nothing.
 use mathlib.Core.Bool.{Bool, cond}
 use mathlib.Core.List.{List, [], _∷_, _++_}
@@ -9,7 +9,7 @@ use lib.Seq.{sets}
 use Rattle.meaning.specs.Refusal.{Answer, good, refused, onCall, refuseIf, _>>=_, _>>_}
 use Rattle.meaning.specs.Tree.{node, Forest, none, more, Concept, nodes}
 use Rattle.meaning.specs.Graph.{Graph}
-use Rattle.meaning.specs.Register.{judged, readRegister}
+use Rattle.meaning.specs.Register.{withdrawn, judged, readRegister}
 use Rattle.meaning.specs.Reduce.{reduce, kept, scale}
 use Rattle.meaning.specs.Degree.{degree}
 use Rattle.meaning.specs.Calls.{readPlain}
@@ -28,10 +28,14 @@ unfoldable pub upTo : ℕ → (ℕ → ℕ) → List ℕ
 upTo zero f = []
 upTo (suc n) f = upTo n f ++ (f n ∷ [])
 
-module _ (G : Graph ℕ) (items : ℕ) where
-  -- "the whole number over its scale that is a kept node's degree, 0 for a dropped node": of the tree t at a node, for each item
+module _ (G : Graph ℕ) (out : ℕ → Bool) (items : ℕ) where
+  -- "the whole number over its scale that is a kept node's degree", and document 02, §5: "whose table holds 0 at a withdrawn item"
+  abbrev pub placed : Concept → ℕ → ℕ
+  placed t x = cond (out x) 0 (degree G (reduce t) x)
+
+  -- "0 for a dropped node": of the tree t at a node, for each item
   abbrev pub row : Bool → Concept → List ℕ
-  row isKept t = upTo items (λ x. cond isKept (degree G (reduce t) x) 0)
+  row isKept t = upTo items (λ x. cond isKept (placed t x) 0)
 
   -- the rows of some nodes, of which it is said which are kept
   unfoldable pub rowsOf : List Bool → List Concept → List ℕ
@@ -59,7 +63,7 @@ listCall image message room = do
   g ← readRegister image
   t ← readPlain message
   refuseIf (ltb room (nodes t * length (g .names))) (onCall 16)
-  good (record { items = length (g .names); nodes = nodes t; scale = scale (reduce t); table = table (judged g) (length (g .names)) t })
+  good (record { items = length (g .names); nodes = nodes t; scale = scale (reduce t); table = table (judged g) (withdrawn g) (length (g .names)) t })
 
 -- the lent table afterwards: "places behind stay", and a refusal changes none
 abbrev pub afterList : List ℕ → Answer Tabled → List ℕ

@@ -10,6 +10,9 @@ pub const MOST_NAME: usize = 63;
 
 pub const MOST_ROLE: usize = 31;
 
+// Document 02, §5: the name that means withdrawn.
+pub const WITHDRAWN: usize = 63;
+
 pub const MOST_LEVELS: usize = 17;
 
 pub const MOST_NODES: usize = 64;

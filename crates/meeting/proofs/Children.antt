@@ -16,7 +16,7 @@ use Rattle.meaning.specs.Rows.{Holds, HoldsF}
 use Rattle.meaning.proofs.Rows.{opened}
 use Rattle.meaning.proofs.Tests.{true-false}
 use Rattle.graph.specs.Sets.{inSet, Closed}
-use Rattle.graph.proofs.Same.{any-same}
+use Rattle.meaning.proofs.Same.{any-same}
 use Rattle.screening.specs.Sifting.{Sifted}
 use Rattle.trails.specs.Cells.{cell, Right, RightF}
 use Rattle.screening.specs.Standing.{ruledAt, Ruled, RuledF}

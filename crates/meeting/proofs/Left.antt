@@ -8,7 +8,7 @@ use native.Mathlib.Omega.{arith}
 use lib.ListN.{length, getD}
 use Rattle.meaning.specs.Names.{within}
 use Rattle.meaning.specs.Graph.{Graph}
-use Rattle.meaning.specs.Register.{judged}
+use Rattle.graph.specs.Walked.{walked}
 use Rattle.meaning.specs.Whole.{any}
 use Rattle.register.specs.Image.{Asked}
 use Rattle.graph.specs.Judged.{Judged}
@@ -24,7 +24,7 @@ use Rattle.meeting.proofs.Children.{Rest, Child, rest-start, rest-child
 module _ {s : List ℕ} {items : ℕ} {index message names roles ends owners firsts : List ℕ} {parts node left : ℕ}
     (k : Required s items index message names roles ends owners firsts parts node left) where
   abbrev G : Graph ℕ
-  G = judged (k .posed .graph .register)
+  G = walked (k .posed .graph .register)
 
   -- the children from row c on are left
   abbrev pub Left : List ℕ → List ℕ → List ℕ → ℕ → Type 0

@@ -10,7 +10,7 @@ use lib.ListN.{length, length-replicate}
 use lib.Seq.{sets}
 use borrow.Author.Tests.{not-true, not-false, eq-eqb, eqb-true}
 use Rattle.meaning.specs.Graph.{Graph}
-use Rattle.meaning.specs.Register.{judged}
+use Rattle.graph.specs.Walked.{walked}
 use Rattle.meaning.specs.Requirement.{member}
 use Rattle.meaning.specs.Shown.{yesMap}
 use Rattle.meaning.proofs.Tests.{true-false}
@@ -33,9 +33,9 @@ module _ (item : ℕ) (set : List ℕ) (w : With (zeros 8) item set) where
 
 module _ {s : List ℕ} {items : ℕ} {index message names roles ends owners firsts : List ℕ} {parts node left : ℕ}
     (k : Required s items index message names roles ends owners firsts parts node left) (set left′ m₀ m : List ℕ) (item : ℕ) (b : Bool)
-    (d : Done ends (judged (k .posed .graph .register)) (k .tree) node set left′ m₀ m) (i : inSet set item ≡ true) (e : b ≡ inSet left′ item) where
+    (d : Done ends (walked (k .posed .graph .register)) (k .tree) node set left′ m₀ m) (i : inSet set item ≡ true) (e : b ≡ inSet left′ item) where
   abbrev G : Graph ℕ
-  G = judged (k .posed .graph .register)
+  G = walked (k .posed .graph .register)
 
   pub says : b ≡ member G (k .tree) item
   says = e ∙ d .sifted .each item ∙ ap (λ (c : Bool). c && member G (k .tree) item) i

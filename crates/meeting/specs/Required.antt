@@ -8,7 +8,8 @@ use lib.ListN.{getD}
 use lib.Seq.{sets}
 use Rattle.meaning.specs.Bounds.{mostThresholds}
 use Rattle.meaning.specs.Graph.{Graph}
-use Rattle.meaning.specs.Register.{Register, judged}
+use Rattle.meaning.specs.Register.{Register}
+use Rattle.graph.specs.Walked.{walked}
 use Rattle.meaning.specs.Requirement.{Requirement, bare, member}
 use Rattle.meaning.specs.Shown.{yesMap}
 use Rattle.graph.specs.Judged.{Judged}
@@ -24,7 +25,7 @@ pub record Required (s : List ℕ) (items : ℕ) (index message names roles ends
   pub posed : Posed (Judged s items index) names roles ends (bare tree) node left
   pub stand : AllStand message firsts parts
   pub most : parts ≤ mostThresholds
-  pub ruled : Ruled (judged (posed .graph .register)) owners (stand .thresholds) ends parts tree node
+  pub ruled : Ruled (walked (posed .graph .register)) owners (stand .thresholds) ends parts tree node
 
 -- the row to go on with: the next one, or the end where nothing stays
 pub data GoesOn (set : List ℕ) (next end r : ℕ) : Type 0 where
@@ -40,5 +41,5 @@ pub record Done (ends : List ℕ) (G : Graph ℕ) (t : Requirement) (node : ℕ)
 
 -- whether an item meets the requirement; a yes writes the map from the first place on, a no writes nothing
 pub record Settled (g : Register) (t : Requirement) (item : ℕ) (old new : List ℕ) (r : Bool) : Type 0 where
-  pub answer : r ≡ member (judged g) t item
-  pub map : new ≡ cond r (sets old 0 (yesMap (judged g) t item)) old
+  pub answer : r ≡ member (walked g) t item
+  pub map : new ≡ cond r (sets old 0 (yesMap (walked g) t item)) old

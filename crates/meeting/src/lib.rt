@@ -4,7 +4,7 @@ use graph::sets;
 ghost use mathlib.Core.Path.{_≡_};
 ghost use Prim.Native.Nat.{_≤_, _<_};
 ghost use lib.ListN.{length, getD};
-ghost use Rattle.meaning.specs.Register.{judged};
+ghost use Rattle.graph.specs.Walked.{walked};
 ghost use Rattle.graph.specs.Sets.{Among};
 ghost use Rattle.meeting.specs.Required.{Required, GoesOn, Done, Settled};
 
@@ -40,7 +40,7 @@ pub fn meet(
     requires { ⌜ (length (now set) ≡ 8) × Among items (now set) × (length (now met) ≡ 512) ⌝ }
     ensures { λ _. ⌜ ((k : Required (now (s .entry)) items (now (index .entry)) (now (message .entry)) (now (names .entry)) (now (roles .entry)) (now (ends .entry))
         (now (owners .entry)) (now (firsts .entry)) parts node left)
-        → Done (now (ends .entry)) (judged (k .posed .graph .register)) (k .tree) node (now (set .entry)) (now (set .exit)) (now (met .entry)) (now (met .exit))) ⌝ }
+        → Done (now (ends .entry)) (walked (k .posed .graph .register)) (k .tree) node (now (set .entry)) (now (set .exit)) (now (met .entry)) (now (met .exit))) ⌝ }
 {
     trails::hold(s, names, node, set);
     screening::screen(s, items, index, message, owners, firsts, parts, node, set);

@@ -80,7 +80,7 @@ fn print_judged(
     let ends = rows::ends(packed);
     let owners = rows::owners(packed);
     let firsts = rows::firsts(packed);
-    let mut index = [0u16; 513];
+    let mut index = [0u16; graph::INDEX];
     graph::fill_index(image, items, links, &mut index);
     let mut met = [0u64; 512];
     verdicts::judge(

@@ -1,5 +1,5 @@
 // The degrees of all items in a plain requirement, worked out at once: each kept node once at every item, and noted along which links it goes. An item's
-// row of the listing is then read off the numbers and the notes.
+// row of the listing is then read off the numbers and the notes; of a withdrawn one it says so.
 use graph::sets;
 use lines;
 use meaning;
@@ -70,6 +70,9 @@ pub fn row(
     ensures { λ r. ⌜ ((m : List ℕ) → Rated (now (image .entry)) m items (now (index .entry)) (now (ends .entry)) (now (marks .entry)) scale (now (notes .entry)) (now (numbers .entry))
         → Begins (now (line .exit)) (degreeRow item (degreeCall (now (image .entry)) m item mostNodes)) r) ⌝ }
 {
+    if graph::is_out(image, item) {
+        return lines::put_withdrawn_line(line, item);
+    }
     let mut map = [0u16; meaning::MOST_NODES];
     shown::show(
         image,

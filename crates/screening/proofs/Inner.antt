@@ -10,7 +10,8 @@ use lib.ListN.{length, getD, replicate, length-replicate}
 use Rattle.meaning.specs.Bytes.{number}
 use Rattle.meaning.specs.Bounds.{mostSize, mostScale}
 use Rattle.meaning.specs.Tree.{Concept, nodes}
-use Rattle.meaning.specs.Register.{Register, judged}
+use Rattle.meaning.specs.Register.{Register}
+use Rattle.graph.specs.Walked.{walked}
 use Rattle.meaning.specs.Fraction.{_//_, Frac, Comparison, compares}
 use Rattle.meaning.specs.Reduce.{reduce, size}
 use Rattle.meaning.specs.InPlace.{scaleIn}
@@ -82,19 +83,19 @@ module _ (s : List ℕ) (p : ℕ) (h : Threshold) (c : StandsAt s p h) (len : �
 module _ (g : Register) (h : Threshold) (s : List ℕ) (p : ℕ) (c : StandsAt s p h) (set : List ℕ) (scale : ℕ) (numbers : List ℕ)
     (w : Worked g (h .inner) (Member set) 512 scale numbers) where
   pub sifted-passes : (num den : ℕ) → num ≡ number s (p + 1) 2 → den ≡ number s (p + 3) 2
-      → (new : List ℕ) → Sifted (λ x. compares (comparison (getD s p 0)) (rowAt numbers 512 x // scale) (num // den)) set new → Sifted (λ x. passes (judged g) h x) set new
+      → (new : List ℕ) → Sifted (λ x. compares (comparison (getD s p 0)) (rowAt numbers 512 x // scale) (num // den)) set new → Sifted (λ x. passes (walked g) h x) set new
   sifted-passes num den en ed new q = record { each = λ x. q .each x ∙ go x (inSet set x) refl }
     where
-      same : (x : ℕ) → inSet set x ≡ true → compares (comparison (getD s p 0)) (rowAt numbers 512 x // scale) (num // den) ≡ passes (judged g) h x
+      same : (x : ℕ) → inSet set x ≡ true → compares (comparison (getD s p 0)) (rowAt numbers 512 x // scale) (num // den) ≡ passes (walked g) h x
       same x l =
-          let value : rowAt numbers 512 x // scale ≡ degreeOf (judged g) (h .inner) x =
-          ap₂ (λ (n m : ℕ). n // m) (w .each x l ∙ sym (degree-in (judged g) (h .inner) x)) (w .scaled ∙ sym (scale-in (h .inner))) in
+          let value : rowAt numbers 512 x // scale ≡ degreeOf (walked g) (h .inner) x =
+          ap₂ (λ (n m : ℕ). n // m) (w .each x l ∙ sym (degree-in (walked g) (h .inner) x)) (w .scaled ∙ sym (scale-in (h .inner))) in
           let limit : num // den ≡ h .limit = ap₂ (λ (n m : ℕ). n // m) (en ∙ c .num) (ed ∙ c .den) in
           ap (λ (how : Comparison). compares how (rowAt numbers 512 x // scale) (num // den)) (c .how)
           ∙ ap₂ (λ (d t : Frac). compares (h .how) d t) value limit
 
       go : (x : ℕ) (b : Bool) → inSet set x ≡ b
-          → (b && compares (comparison (getD s p 0)) (rowAt numbers 512 x // scale) (num // den)) ≡ (b && passes (judged g) h x)
+          → (b && compares (comparison (getD s p 0)) (rowAt numbers 512 x // scale) (num // den)) ≡ (b && passes (walked g) h x)
       go x true l = same x l
       go x false l = refl
 

@@ -8,7 +8,7 @@ ghost use lib.ListN.{length};
 ghost use Rattle.meaning.specs.Bounds.{mostItems, mostThresholds, mostQ};
 ghost use Rattle.meaning.specs.Fraction.{_//_, compares};
 ghost use Rattle.meaning.specs.Message.{comparison};
-ghost use Rattle.meaning.specs.Register.{judged};
+ghost use Rattle.graph.specs.Walked.{walked};
 ghost use Rattle.meaning.specs.Requirement.{Threshold, passes};
 ghost use Rattle.graph.specs.Judged.{Judged};
 ghost use Rattle.graph.specs.Sets.{inSet, Among};
@@ -45,7 +45,7 @@ pub fn screen(
     requires { ⌜ AllStand (now message) (now firsts) parts ⌝ }
     requires { ⌜ (parts ≤ mostThresholds) × (length (now set) ≡ 8) × Among items (now set) ⌝ }
     ensures { λ _. ⌜ ((j : Judged (now (s .entry)) items (now (index .entry))) (a : AllStand (now (message .entry)) (now (firsts .entry)) parts)
-        → Sifted (λ x. ruledAt (judged (j .register)) (now (owners .entry)) (a .thresholds) parts node x) (now (set .entry)) (now (set .exit))) ⌝ }
+        → Sifted (λ x. ruledAt (walked (j .register)) (now (owners .entry)) (a .thresholds) parts node x) (now (set .entry)) (now (set .exit))) ⌝ }
 {
     let mut k = 0;
     while k < parts {
@@ -64,7 +64,7 @@ fn judge(s: &[u8], items: usize, index: &[u16], message: &[u8], first: usize, se
     requires { ⌜ OneStands (now message) first ⌝ }
     requires { ⌜ (length (now set) ≡ 8) × Among items (now set) ⌝ }
     ensures { λ _. ⌜ ((j : Judged (now (s .entry)) items (now (index .entry))) (h : Threshold) → StandsAt (now (message .entry)) first h
-        → Sifted (λ x. passes (judged (j .register)) h x) (now (set .entry)) (now (set .exit))) ⌝ }
+        → Sifted (λ x. passes (walked (j .register)) h x) (now (set .entry)) (now (set .exit))) ⌝ }
 {
     if meaning::MOST_ITEMS <= sets::next_in(set, 0) {
         return;

@@ -7,7 +7,8 @@ use lib.ListN.{length, getD}
 use Rattle.meaning.specs.Bounds.{mostNodes, mostSize, mostScale}
 use Rattle.meaning.specs.Refusal.{good}
 use Rattle.meaning.specs.Tree.{Concept}
-use Rattle.meaning.specs.Register.{Register, readBuffer, judged}
+use Rattle.meaning.specs.Register.{Register, readBuffer}
+use Rattle.graph.specs.Walked.{walked}
 use Rattle.meaning.specs.Fraction.{_//_, lowest}
 use Rattle.meaning.specs.Reduce.{reduce}
 use Rattle.meaning.specs.Degree.{answered}
@@ -37,8 +38,8 @@ gradable-of g t h ei el held marked few small = record {
 
 -- the degree is at most 1, its scale positive, and in lowest terms it is the answer
 pub graded-fits : (g : Register) (t : Concept) (x : ℕ) (d : Degree) → Graded g t x d → (0 < d .scale) × (d .number ≤ d .scale)
-graded-fits g t x d h = rw (h .number, h .scale) (scale-in-pos t, degree-in-le (judged g) t x)
+graded-fits g t x d h = rw (h .number, h .scale) (scale-in-pos t, degree-in-le (walked g) t x)
 
-pub graded-answer : (g : Register) (t : Concept) (x : ℕ) (d : Degree) → Graded g t x d → lowest (d .number // d .scale) ≡ answered (judged g) t x
+pub graded-answer : (g : Register) (t : Concept) (x : ℕ) (d : Degree) → Graded g t x d → lowest (d .number // d .scale) ≡ answered (walked g) t x
 graded-answer g t x d h =
-    ap₂ (λ (n m : ℕ). lowest (n // m)) (h .number ∙ sym (degree-in (judged g) t x)) (h .scale ∙ sym (scale-in t))
+    ap₂ (λ (n m : ℕ). lowest (n // m)) (h .number ∙ sym (degree-in (walked g) t x)) (h .scale ∙ sym (scale-in t))

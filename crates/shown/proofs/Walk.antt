@@ -15,7 +15,8 @@ use lib.Seq.{sets}
 use Rattle.meaning.specs.Bytes.{Bytes}
 use Rattle.meaning.specs.Tree.{node, Forest, none, more, Concept, children, under, nodes}
 use Rattle.meaning.specs.Graph.{Graph}
-use Rattle.meaning.specs.Register.{Register, judged}
+use Rattle.meaning.specs.Register.{Register}
+use Rattle.graph.specs.Walked.{walked}
 use Rattle.meaning.specs.Reduce.{dropped, reduce, reduceF}
 use Rattle.meaning.specs.InPlace.{degreeIn}
 use Rattle.meaning.specs.Shown.{pick, Mark, out, goesTo, shown, shownF, markNumber}
@@ -61,20 +62,20 @@ module _ (names roles ends marks : List ℕ) (g : Register) (notes : List ℕ) (
     pub held : HoldsF names roles ends rest left c e
     pub marked : MarkedF ends marks rest before c
     pub noted : (x : ℕ) → o ≡ some x → NotedF ends marks g notes rest c x
-    pub same : sets m c (map markNumber (shownF (judged g) rest before o)) ≡ final
+    pub same : sets m c (map markNumber (shownF (walked g) rest before o)) ≡ final
 
   -- the child at row c, which is kept
   pub record Child (c : ℕ) (m : List ℕ) : Type 0 where
     pub tree : Concept
     pub held : Holds names roles ends tree left c (getD ends c 0)
     pub marked : Marked ends marks tree c
-    pub noted : (x : ℕ) → o ≡ some x → Note g notes c x (pick (λ y. degreeIn (judged g) tree y) (judged g .next x (getD roles c 0)))
-        × ((y : ℕ) → List·Memᴰ y (judged g .next x (getD roles c 0)) → Noted ends marks g notes tree c y)
-    pub then : (j : ℕ) → j ≡ getD ends c 0 → Drawn j (sets m c (map markNumber (shown (judged g) tree (goesTo (judged g) o (getD roles c 0) tree))))
+    pub noted : (x : ℕ) → o ≡ some x → Note g notes c x (pick (λ y. degreeIn (walked g) tree y) (walked g .next x (getD roles c 0)))
+        × ((y : ℕ) → List·Memᴰ y (walked g .next x (getD roles c 0)) → Noted ends marks g notes tree c y)
+    pub then : (j : ℕ) → j ≡ getD ends c 0 → Drawn j (sets m c (map markNumber (shown (walked g) tree (goesTo (walked g) o (getD roles c 0) tree))))
 
 noted-next : (r : ℕ) (t : Concept) (f : Forest ℕ) (ends marks : List ℕ) (g : Register) (notes : List ℕ) (c x : ℕ) → NotedF ends marks g notes (more r t f) c x
-    → ((getD marks c 0 ≡ 0 → ⊥) → Note g notes c x (pick (λ y. degreeIn (judged g) t y) (judged g .next x r))
-    × ((y : ℕ) → List·Memᴰ y (judged g .next x r) → Noted ends marks g notes t c y))
+    → ((getD marks c 0 ≡ 0 → ⊥) → Note g notes c x (pick (λ y. degreeIn (walked g) t y) (walked g .next x r))
+    × ((y : ℕ) → List·Memᴰ y (walked g .next x r) → Noted ends marks g notes t c y))
     × NotedF ends marks g notes f (getD ends c 0) x
 unfolding Noted
 noted-next r t f ends marks g notes c x n = n
@@ -93,14 +94,14 @@ module _ {names roles ends marks : List ℕ} {g : Register} {notes : List ℕ} {
   drawn-skip l z j ej = go (w .rest) (w .before) (w .held) (w .marked) (w .noted) (w .same)
     where
       go : (f b : Forest ℕ) → HoldsF names roles ends f left c e → MarkedF ends marks f b c → ((x : ℕ) → o ≡ some x → NotedF ends marks g notes f c x)
-          → sets m c (map markNumber (shownF (judged g) f b o)) ≡ final → Drawn names roles ends marks g notes left e o final j (sets m c (replicate (j - c) 65534))
+          → sets m c (map markNumber (shownF (walked g) f b o)) ≡ final → Drawn names roles ends marks g notes left e o final j (sets m c (replicate (j - c) 65534))
       go none b h k s q = absurd (let y : c ≡ e = h in omega arith)
       go (more r u f) b h k s q =
           let d : dropped (under r b) u (under r f) ≡ true = mark-zero _ (sym (k .0) ∙ z) in
           let d′ : dropped (under r (reduceF b)) (reduce u) (under r (reduceF f)) ≡ true = dropped-written r b u f ∙ d in
           let rows : c + nodes u ≡ getD ends c 0 = holds-nodes names roles ends u left c (getD ends c 0) (h .2) in
           let size : nodes u ≡ j - c = omega arith in
-          let past : sets m c (map markNumber (replicate (nodes u) out ++ shownF (judged g) f (more r u b) o)) ≡ final = rw d′ at q in
+          let past : sets m c (map markNumber (replicate (nodes u) out ++ shownF (walked g) f (more r u b) o)) ≡ final = rw d′ at q in
           record {
             rest = f;
             before = more r u b;
@@ -108,8 +109,8 @@ module _ {names roles ends marks : List ℕ} {g : Register} {notes : List ℕ} {
             marked = rw ej (k .2);
             noted = λ x q. rw ej (noted-next r u f ends marks g notes c x (s x q) .1);
             same =
-                ap (λ (z : List ℕ). sets (sets m c z) j (map markNumber (shownF (judged g) f (more r u b) o))) (sym (outs (nodes u) ∙ ap (λ (z : ℕ). replicate z 65534) size))
-                ∙ sym (sets-marks m c j (replicate (nodes u) out) (shownF (judged g) f (more r u b) o) (omega (arith, length-replicate {A = Mark ℕ} (nodes u) out)))
+                ap (λ (z : List ℕ). sets (sets m c z) j (map markNumber (shownF (walked g) f (more r u b) o))) (sym (outs (nodes u) ∙ ap (λ (z : ℕ). replicate z 65534) size))
+                ∙ sym (sets-marks m c j (replicate (nodes u) out) (shownF (walked g) f (more r u b) o) (omega (arith, length-replicate {A = Mark ℕ} (nodes u) out)))
                 ∙ past;
           }
 
@@ -118,12 +119,12 @@ module _ {names roles ends marks : List ℕ} {g : Register} {notes : List ℕ} {
   drawn-child l z = go (w .rest) (w .before) (w .held) (w .marked) (w .noted) (w .same)
     where
       go : (f b : Forest ℕ) → HoldsF names roles ends f left c e → MarkedF ends marks f b c → ((x : ℕ) → o ≡ some x → NotedF ends marks g notes f c x)
-          → sets m c (map markNumber (shownF (judged g) f b o)) ≡ final → Child names roles ends marks g notes left e o final c m
+          → sets m c (map markNumber (shownF (walked g) f b o)) ≡ final → Child names roles ends marks g notes left e o final c m
       go none b h k s q = absurd (let y : c ≡ e = h in omega arith)
       go (more r u f) b h k s q =
           let d : dropped (under r b) u (under r f) ≡ false = mark-other _ (λ y. z (k .0 ∙ y)) in
           let d′ : dropped (under r (reduceF b)) (reduce u) (under r (reduceF f)) ≡ false = dropped-written r b u f ∙ d in
-          let past : sets m c (map markNumber (shown (judged g) u (goesTo (judged g) o r u) ++ shownF (judged g) f (more r u b) o)) ≡ final = rw d′ at q in
+          let past : sets m c (map markNumber (shown (walked g) u (goesTo (walked g) o r u) ++ shownF (walked g) f (more r u b) o)) ≡ final = rw d′ at q in
           record {
             tree = u;
             held = h .2;
@@ -135,8 +136,8 @@ module _ {names roles ends marks : List ℕ} {g : Register} {notes : List ℕ} {
               held = rw ej (h .3);
               marked = rw ej (k .2);
               noted = λ x q. rw ej (noted-next r u f ends marks g notes c x (s x q) .1);
-              same = rw (h .0) (sym (sets-marks m c j (shown (judged g) u (goesTo (judged g) o r u)) (shownF (judged g) f (more r u b) o)
-                  (omega (arith, ej, holds-nodes names roles ends u left c (getD ends c 0) (h .2), shown-length (judged g) u (goesTo (judged g) o r u)))) ∙ past);
+              same = rw (h .0) (sym (sets-marks m c j (shown (walked g) u (goesTo (walked g) o r u)) (shownF (walked g) f (more r u b) o)
+                  (omega (arith, ej, holds-nodes names roles ends u left c (getD ends c 0) (h .2), shown-length (walked g) u (goesTo (walked g) o r u)))) ∙ past);
             };
           }
 
@@ -144,7 +145,7 @@ module _ {names roles ends marks : List ℕ} {g : Register} {notes : List ℕ} {
   unfolding shown
   drawn-end l =
       let z = ran-out names roles ends (w .rest) left c e (w .held) l in
-      let q : sets m c (map markNumber (shownF (judged g) none (w .before) o)) ≡ final = rw z at (w .same) in
+      let q : sets m c (map markNumber (shownF (walked g) none (w .before) o)) ≡ final = rw z at (w .same) in
       q
 
 -- ---- where it goes
@@ -159,7 +160,7 @@ children-drawn G t i o m = sets m (i + 1) (map markNumber (shownF G (children t)
 
 start : (names roles ends marks : List ℕ) (g : Register) (notes : List ℕ) (t : Concept) (left i e : ℕ) (o : Option ℕ) (m : List ℕ)
     → Holds names roles ends t left i e → Marked ends marks t i → ((x : ℕ) → o ≡ some x → Noted ends marks g notes t i x)
-    → Drawn names roles ends marks g notes (left - 1) e o (children-drawn (judged g) t i o m) (i + 1) m
+    → Drawn names roles ends marks g notes (left - 1) e o (children-drawn (walked g) t i o m) (i + 1) m
 unfolding Holds Marked Noted
 start names roles ends marks g notes (node a f) left i e o m h k s =
     record { rest = f; before = none; held = h .4; marked = k; noted = s; same = refl }
@@ -191,7 +192,7 @@ module _ {s : List ℕ} {items : ℕ} {index ends marks notes : List ℕ} {node 
   abbrev pub Traced : List ℕ → ℕ → List ℕ → Type 0
   Traced old c new =
       Drawn (k .names) (k .roles) ends marks (k .posed .graph .register) notes (left - 1) (getD ends node 0) (k .to)
-      (children-drawn (judged (k .posed .graph .register)) (k .tree) node (k .to) old) c new
+      (children-drawn (walked (k .posed .graph .register)) (k .tree) node (k .to) old) c new
 
   pub trace-start : (m : List ℕ) → Traced m (node + 1) m
   trace-start m =
@@ -199,7 +200,7 @@ module _ {s : List ℕ} {items : ℕ} {index ends marks notes : List ℕ} {node 
 
   pub trace-end : (m : List ℕ) (v c : ℕ) (new : List ℕ) → v ≡ item → Traced (set m node v) c new → getD ends node 0 ≤ c
       → new ≡ drawn (k .posed .graph .register) (k .tree) node (k .to) m
-  trace-end m v c new e w l = drawn-end w l ∙ root-drawn (judged (k .posed .graph .register)) (k .tree) node (k .to) m v (e ∙ k .same)
+  trace-end m v c new e w l = drawn-end w l ∙ root-drawn (walked (k .posed .graph .register)) (k .tree) node (k .to) m v (e ∙ k .same)
 
 -- ---- all children, one after the other
 
@@ -256,7 +257,7 @@ module _ {s : List ℕ} {items : ℕ} {index ends marks notes : List ℕ} {node 
         (onward : (j : Judged s items index) (o : Option ℕ) → (item ≡ 65535 → o ≡ nowhere) → ((item ≡ 65535 → ⊥) → Note (j .register) notes c item o) → place ≡ placeOf o) where
       module _ (k : Drawing s items index ends marks notes node left item) where
         abbrev pub child : Child (k .names) (k .roles) ends marks (k .posed .graph .register) notes (left - 1) (getD ends node 0) (k .to)
-            (children-drawn (judged (k .posed .graph .register)) (k .tree) node (k .to) old) c new
+            (children-drawn (walked (k .posed .graph .register)) (k .tree) node (k .to) old) c new
         child = drawn-child (w .each k) below m
 
         -- where it goes, and what is known there
@@ -266,7 +267,7 @@ module _ {s : List ℕ} {items : ℕ} {index ends marks notes : List ℕ} {node 
           pub note : (item ≡ 65535 → ⊥) → Note (k .posed .graph .register) notes c item o
           pub noted : (y : ℕ) → o ≡ some y → Noted ends marks (k .posed .graph .register) notes (child .tree) c y
 
-        from : (p : Option ℕ) → Inside items p → item ≡ placeOf p → k .to ≡ p → Going (goesTo (judged (k .posed .graph .register)) p (getD (k .roles) c 0) (child .tree))
+        from : (p : Option ℕ) → Inside items p → item ≡ placeOf p → k .to ≡ p → Going (goesTo (walked (k .posed .graph .register)) p (getD (k .roles) c 0) (child .tree))
         unfolding goesTo
         from nowhere i e q = record {
           inside = tt;
@@ -275,7 +276,7 @@ module _ {s : List ℕ} {items : ℕ} {index ends marks notes : List ℕ} {node 
           noted = λ y z. absurd (let x : _≡_ {A = ℕ} 0 1 = cc in omega arith);
         }
         from (some x) i e q =
-            rw (goes-some (judged (k .posed .graph .register)) x (getD (k .roles) c 0) (child .tree)) (record {
+            rw (goes-some (walked (k .posed .graph .register)) x (getD (k .roles) c 0) (child .tree)) (record {
               inside = stays (pick v ys) refl;
               lost = λ z. absurd (let y : item ≡ 65535 = z in let r = k .posed .graph .most in omega arith);
               note = λ z. subst (λ (y : ℕ). Note (k .posed .graph .register) notes c y (pick v ys)) (sym e) (child .noted x q .0);
@@ -283,16 +284,16 @@ module _ {s : List ℕ} {items : ℕ} {index ends marks notes : List ℕ} {node 
             })
           where
             v : ℕ → ℕ
-            v y = degreeIn (judged (k .posed .graph .register)) (child .tree) y
+            v y = degreeIn (walked (k .posed .graph .register)) (child .tree) y
 
             ys : List ℕ
-            ys = judged (k .posed .graph .register) .next x (getD (k .roles) c 0)
+            ys = walked (k .posed .graph .register) .next x (getD (k .roles) c 0)
 
             stays : (p : Option ℕ) → pick v ys ≡ p → Inside items p
             stays nowhere z = tt
             stays (some y) z = next-inside (k .posed .graph) (w .bytes) x (getD (k .roles) c 0) y (pick-some v ys y z .0)
 
-        pub going : Going (goesTo (judged (k .posed .graph .register)) (k .to) (getD (k .roles) c 0) (child .tree))
+        pub going : Going (goesTo (walked (k .posed .graph .register)) (k .to) (getD (k .roles) c 0) (child .tree))
         going = from (k .to) (k .inside) (k .same) refl
 
         abbrev pub child-of : Drawing s items index ends marks notes c (left - 1) place
@@ -303,7 +304,7 @@ module _ {s : List ℕ} {items : ℕ} {index ends marks notes : List ℕ} {node 
           posed = record { graph = k .posed .graph; held = child .held; few = le-trans (inside .1) (k .posed .few) };
           marked = child .marked;
           places = k .places;
-          to = goesTo (judged (k .posed .graph .register)) (k .to) (getD (k .roles) c 0) (child .tree);
+          to = goesTo (walked (k .posed .graph .register)) (k .to) (getD (k .roles) c 0) (child .tree);
           inside = going .inside;
           same = onward (k .posed .graph) _ (going .lost) (going .note);
           noted = going .noted;

@@ -8,7 +8,8 @@ use Prim.Native.Nat.{ℕ, _≤_, _<_}
 use lib.ListN.{length}
 use lib.Seq.{sets}
 use Rattle.meaning.specs.Tree.{Concept}
-use Rattle.meaning.specs.Register.{Register, judged}
+use Rattle.meaning.specs.Register.{Register}
+use Rattle.graph.specs.Walked.{walked}
 use Rattle.meaning.specs.InPlace.{scaleIn, degreeIn}
 use Rattle.meaning.specs.Rows.{Marked}
 use Rattle.meaning.specs.Shown.{shown, markNumber}
@@ -24,11 +25,11 @@ Inside items (some x) = x < items
 
 -- the map with what is shown for a tree from a row on, whose root goes to o
 abbrev pub drawn : Register → Concept → ℕ → Option ℕ → List ℕ → List ℕ
-drawn g t row o m = sets m row (map markNumber (shown (judged g) t o))
+drawn g t row o m = sets m row (map markNumber (shown (walked g) t o))
 
 -- the degree of item x
 pub record Graded (g : Register) (t : Concept) (x : ℕ) (d : Degree) : Type 0 where
-  pub number : d .number ≡ degreeIn (judged g) t x
+  pub number : d .number ≡ degreeIn (walked g) t x
   pub scale : d .scale ≡ scaleIn t
 
 -- What is to be drawn: rows that hold a tree, whose root goes to an item or nowhere, and notes for all links that say where its kept nodes go.

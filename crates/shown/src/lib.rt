@@ -157,13 +157,13 @@ pub fn degree_at(
     ensures { λ r. ⌜ ((k : Gradable (OfSize (now (s .entry)) items links) (now (names .entry)) (now (roles .entry)) (now (ends .entry)) (now (marks .entry)) node left)
         → Graded (k .posed .graph .register) (k .tree) item r) ⌝ }
 {
-    let mut index = [0u16; 513];
-    graph::fill_index(s, items, links, &mut index[..513]);
+    let mut index = [0u16; graph::INDEX];
+    graph::fill_index(s, items, links, &mut index[..graph::INDEX]);
     let mut notes = [0u64; 1];
     graded(
         s,
         items,
-        &index[..513],
+        &index[..graph::INDEX],
         names,
         roles,
         ends,
@@ -196,12 +196,12 @@ fn drawn_with(
     ensures { λ r. ⌜ ((k : Gradable (OfSize (now (s .entry)) items links) (now (names .entry)) (now (roles .entry)) (now (ends .entry)) (now (marks .entry)) node left)
         → Graded (k .posed .graph .register) (k .tree) item r × (now (map .exit) ≡ drawn (k .posed .graph .register) (k .tree) node (some item) (now (map .entry)))) ⌝ }
 {
-    let mut index = [0u16; 513];
-    graph::fill_index(s, items, links, &mut index[..513]);
+    let mut index = [0u16; graph::INDEX];
+    graph::fill_index(s, items, links, &mut index[..graph::INDEX]);
     let d = graded(
         s,
         items,
-        &index[..513],
+        &index[..graph::INDEX],
         names,
         roles,
         ends,
@@ -214,7 +214,7 @@ fn drawn_with(
     show(
         s,
         items,
-        &index[..513],
+        &index[..graph::INDEX],
         ends,
         marks,
         notes,

@@ -1,4 +1,5 @@
 pub mod Stored
 pub mod Sofar
 pub mod Filling
+pub mod Judging
 pub mod Sorting

@@ -9,13 +9,15 @@ use lib.Dec.{T}
 use lib.ListN.{length, getD}
 use lib.Seq.{sets}
 use Rattle.meaning.specs.Refusal.{good}
-use Rattle.meaning.specs.Register.{Register, linksOf, judged}
+use Rattle.meaning.specs.Register.{Register, withdrawn, linksOf}
 use Rattle.meaning.specs.InPlace.{tableIn}
 use Rattle.register.specs.Image.{Asked, OfSize}
+use Rattle.graph.specs.Walked.{walked}
 use Rattle.graph.specs.Judged.{spanned}
 use Rattle.sorted.specs.Order.{run, Sorted}
 use Rattle.degrees.specs.Gradable.{Gradable}
 use Rattle.tables.specs.Rows.{Worked, Whole}
+use Rattle.tables.proofs.Judging.{table-judged}
 
 pub asked-items : {s : List ℕ} {items links : ℕ} {names roles ends marks : List ℕ} {left : ℕ} → Gradable (OfSize s items links) names roles ends marks 0 left
     → Asked s (λ g. items ≡ length (g .names))
@@ -51,5 +53,6 @@ module _ {s : List ℕ} {items links : ℕ} {names roles ends marks : List ℕ} 
       let at : 0 * items ≡ 0 = omega arith in
       record {
         scaled = w with-order .scaled;
-        filled = w with-order .filled ∙ ap (λ (z : ℕ). sets old z (tableIn (judged g) items (k .tree))) at;
+        filled = w with-order .filled ∙ ap (λ (z : ℕ). sets old z (tableIn (walked g) (withdrawn g) items (k .tree))) at
+            ∙ ap (sets old 0) (table-judged g items (k .tree));
       }

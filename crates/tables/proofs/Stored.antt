@@ -1,22 +1,24 @@
--- A loop that stores f of 0, of 1 .. one after the other, from a place on; and where f is a child folded in.
+-- A loop that stores f of 0, of 1 .. one after the other, from a place on; where f is a child folded in, and where it is what stands there.
 -- Assumes nothing.
 use mathlib.Core.Path.{_≡_, refl, sym, ap, ap₂, _∙_}
 use mathlib.Core.Logic.{inr}
+use mathlib.Core.Bool.{Bool, false, cond}
 use mathlib.Core.List.{List, [], _∷_, _++_, append-nil}
-use Prim.Native.Nat.{ℕ, suc, _+_, _*_, _≤_, _<_}
+use Prim.Native.Nat.{ℕ, zero, suc, _+_, _*_, _≤_, _<_}
 use native.Mathlib.Decide.{ℕ-discrete}
 use native.Mathlib.Omega.{arith}
 use lib.Count.{ones}
 use lib.ListN.{length, getD, set, take, drop, take-append-drop}
-use lib.Seq.{sets, length-take-le, getD-set-same, getD-set-other}
+use lib.Seq.{sets, length-take-le, set-getD, getD-set-same, getD-set-other}
 use Rattle.meaning.specs.Names.{common}
-use Rattle.meaning.specs.Register.{judged}
+use Rattle.graph.specs.Walked.{walked}
+use Rattle.meaning.specs.Degree.{orOne}
 use Rattle.meaning.specs.Table.{upTo}
 use Rattle.meaning.proofs.Stores.{sets-append, sets-beyond, sets-over}
 use Rattle.meaning.proofs.Table.{upTo-long, upTo-same}
 use Rattle.register.specs.Image.{Image}
 use Rattle.sorted.specs.Order.{Sorted}
-use Rattle.tables.specs.Rows.{Names, rowAt, rowTops, folded, Folding}
+use Rattle.tables.specs.Rows.{Names, rowAt, rowTops, folded, closed, Folding}
 
 -- so many are stored
 abbrev pub Stored : (ℕ → ℕ) → ℕ → List ℕ → List ℕ → ℕ → Type 0
@@ -83,10 +85,47 @@ sets-again m i xs ys l =
     (ap (λ (z : List ℕ). sets (sets m i z) i a) (sym (append-nil xs)) ∙ sets-over m i xs a [] (sym long) ∙ ap (sets m i) (append-nil a))
     ∙ sym (sets-append m i (i + length a) a b refl) ∙ ap (sets m i) whole
 
+-- ---- what stands there is stored again
+
+pub stored-kept : (f : ℕ → ℕ) (at n : ℕ) (m : List ℕ) → ((x : ℕ) → x < n → f x ≡ getD m (at + x) 0) → Stored f at m m n
+unfolding upTo
+stored-kept f at zero m h = refl
+stored-kept f at (suc n) m h =
+    let place : at + n ≡ at + length (upTo n f) = omega (arith, upTo-long n f) in
+    let so : m ≡ sets m at (upTo n f) = stored-kept f at n m (λ x l. h x (omega arith)) in
+    sym (sets-append m at (at + n) (upTo n f) (f n ∷ []) place ∙ ap₂ (λ (z : List ℕ) (y : ℕ). set z (at + n) y) (sym so) (h n (omega arith)) ∙ set-getD m (at + n) 0)
+
+-- where something is counted, the number stands
+some-counted : (n v : ℕ) → (n ≡ 0 → ⊥) → v ≡ orOne n v
+some-counted zero v z = absurd (z refl)
+some-counted (suc n) v z = refl
+
+pub closed-none : (b : Bool) (n v : ℕ) → b ≡ false → (n ≡ 0 → ⊥) → v ≡ cond b 0 (orOne n v)
+closed-none b n v e z = rw e (some-counted n v z)
+
+-- and so does the row
+pub counted-kept : (n at k : ℕ) (table : List ℕ) → (n ≡ 0 → ⊥) → Stored (λ x. orOne n (rowAt table at x)) at table table k
+counted-kept n at k table z = stored-kept (λ x. orOne n (rowAt table at x)) at k table (λ x l. sym (some-counted n (rowAt table at x) z))
+
+-- where nothing is, it becomes a row of ones
+pub counted-none : (n at k : ℕ) (table new : List ℕ) → n ≡ 0 → Stored (λ x. 1) at table new k → Stored (λ x. orOne n (rowAt table at x)) at table new k
+counted-none n at k table new z w = w ∙ ap (sets table at) (upTo-same k (λ x. 1) (λ x. orOne n (rowAt table at x)) (λ x l. rw z refl))
+
+-- where all items are in service, no more is to be done
+pub closed-served : (out : ℕ → Bool) (n at items k : ℕ) (table new : List ℕ) → ((x : ℕ) → x < items → out x ≡ false) → k ≡ items
+    → Stored (λ x. orOne n (rowAt table at x)) at table new k → Stored (closed out n table at) at table new items
+closed-served out n at items k table new serve e w =
+    w ∙ ap (λ (j : ℕ). sets table at (upTo j (λ x. orOne n (rowAt table at x)))) e
+    ∙ ap (sets table at) (upTo-same items _ (closed out n table at) (λ x l. ap (λ (b : Bool). cond b 0 (orOne n (rowAt table at x))) (sym (serve x l))))
+
+-- what is stored next
+pub closed-here : (r n v u : ℕ) (b c : Bool) → r ≡ cond b 0 (orOne n v) → b ≡ c → v ≡ u → r ≡ cond c 0 (orOne n u)
+closed-here r n v u b c e o h = e ∙ ap₂ (λ (d : Bool) (z : ℕ). cond d 0 (orOne n z)) o h
+
 -- ---- names that are read once
 
 pub own-names : {s : List ℕ} {items : ℕ} {held : List ℕ} → Names s items held → (names at : ℕ) (old new : List ℕ) → Stored (λ x. common names (getD held x 0)) at old new items
-    → Image s (λ g. Stored (λ x. common names (judged g .names x)) at old new items)
+    → Image s (λ g. Stored (λ x. common names (walked g .names x)) at old new items)
 own-names {items = items} w names at old new is g h = is ∙ ap (sets old at) (upTo-same items _ _ (λ x l. ap (common names) (w .each g h x l)))
 
 pub noted-more : (f : ℕ → ℕ) (held : List ℕ) (x v : ℕ) → x < length held → ((y : ℕ) → y < x → getD held y 0 ≡ f y) → v ≡ f x

@@ -1,17 +1,20 @@
 // The table of a list: for each written node of a concept tree that is held as rows, its number at each item of a register image that was read.
 // Each kept node is worked out at each item once: a child's row gives, along the links of its role, its part of its parent's row. A recursion over
-// the tree; the rows of a dropped node, and of all below it, are zeros.
+// the tree; the rows of a dropped node, and of all below it, are zeros. At a withdrawn item each row holds 0 before it is used: so no link to it counts.
 ghost use mathlib.Core.Path.{_≡_};
+ghost use mathlib.Core.Bool.{cond};
 ghost use mathlib.Core.List.{List};
-ghost use Prim.Native.Nat.{ℕ, _+_, _-_, _*_, _≤_, _<_};
+ghost use Prim.Native.Nat.{ℕ, _+_, _-_, _*_, _≤_, _<_, max};
 ghost use lib.ListN.{length, getD};
 ghost use lib.Seq.{sets};
 ghost use Rattle.meaning.specs.Names.{common};
+ghost use Rattle.meaning.specs.Register.{withdrawn};
+ghost use Rattle.meaning.specs.Degree.{orOne};
 ghost use Rattle.meaning.specs.Table.{upTo};
-ghost use Rattle.register.specs.Image.{Asked, OfSize};
+ghost use Rattle.register.specs.Image.{Asked, OfSize, Image};
 ghost use Rattle.sorted.specs.Order.{Sorted};
 ghost use Rattle.degrees.specs.Gradable.{Gradable};
-ghost use Rattle.tables.specs.Rows.{Names, Folding, rowTops, folded, Worked, Whole};
+ghost use Rattle.tables.specs.Rows.{Names, Served, rowAt, Folding, rowTops, folded, closed, Worked, Whole};
 
 // One number from one place up to another.
 fn put(from: usize, to: usize, value: u32, table: &mut [u32])
@@ -75,7 +78,7 @@ fn fold(items: usize, at: usize, scale: u32, product: u32, tops: &[u32], table: 
     }
 }
 
-// Folds the child whose row stands from `from` on into the row from `at` on: of each item's successors under the role the greatest number counts.
+// Folds the child whose row stands from `from` on into the row from `at` on: of the items that an item's links of the role lead to, the greatest number counts.
 fn take(
     items: usize,
     begins: &[u16],
@@ -96,10 +99,61 @@ fn take(
     fold(items, at, scale, product, &tops[..512], table);
 }
 
+// What stands at an item once a node's children are folded in, where n names and children are counted: 0 if the item is withdrawn, 1 at a node without any.
+fn last(out: bool, n: u32, number: u32) -> u32
+    ensures { λ r. ⌜ r ≡ cond out 0 (orOne n number) ⌝ }
+{
+    if out {
+        return 0;
+    }
+    if n == 0 {
+        return 1;
+    }
+    number
+}
+
+// The same where no item is withdrawn, from one place up to another: only a node without names and children is to be changed.
+fn fill_empty(n: u32, from: usize, to: usize, table: &mut [u32])
+    requires { ⌜ (from ≤ to) × (to ≤ length (now table)) ⌝ }
+    ensures { λ _. ⌜ now (table .exit) ≡ sets (now (table .entry)) from (upTo (to - from) (λ x. orOne n (rowAt (now (table .entry)) from x))) ⌝ }
+{
+    if n != 0 {
+        return;
+    }
+    put(from, to, 1, table);
+}
+
+// Closes the row from place `at` on so. `served`: all items are in service, so none is looked at.
+fn close(s: &[u8], items: usize, served: bool, n: u32, at: usize, table: &mut [u32])
+    requires { ⌜ Asked (now s) (λ g. items ≡ length (g .names)) ⌝ }
+    requires { ⌜ Served (now s) items served × (at + items ≤ length (now table)) ⌝ }
+    ensures { λ _. ⌜ Image (now (s .entry)) (λ g. now (table .exit) ≡ sets (now (table .entry)) at (upTo items (closed (withdrawn g) n (now (table .entry)) at))) ⌝ }
+{
+    if served {
+        fill_empty(n, at, at + items, table);
+        return;
+    }
+    let mut x = 0;
+    while x < items {
+        table[at + x] = last(graph::is_out(s, x), n, table[at + x]);
+        x += 1;
+    }
+}
+
+fn at_least_one(n: u32) -> u32
+    ensures { λ r. ⌜ r ≡ max 1 n ⌝ }
+{
+    if 0 < n {
+        return n;
+    }
+    1
+}
+
 // Fills the rows of the tree at a node; its scale is answered. The rows may hold a tree of at most `left` levels: that falls.
 pub fn fill(
     s: &[u8],
     items: usize,
+    served: bool,
     begins: &[u16],
     order: &[u32],
     held: &[u64],
@@ -112,7 +166,7 @@ pub fn fill(
     table: &mut [u32],
 ) -> u32
     requires { ⌜ Gradable (Sorted (now s) items (now begins) (now order)) (now names) (now roles) (now ends) (now marks) node left ⌝ }
-    requires { ⌜ Names (now s) items (now held) × (getD (now ends) node 0 * items ≤ length (now table)) ⌝ }
+    requires { ⌜ Names (now s) items (now held) × Served (now s) items served × (getD (now ends) node 0 * items ≤ length (now table)) ⌝ }
     ensures { λ r. ⌜ ((k : Gradable (Sorted (now (s .entry)) items (now (begins .entry)) (now (order .entry)))
         (now (names .entry)) (now (roles .entry)) (now (ends .entry)) (now (marks .entry)) node left)
         → Worked k r (now (table .entry)) (now (table .exit))) ⌝ }
@@ -134,6 +188,7 @@ pub fn fill(
         let scale = fill(
             s,
             items,
+            served,
             begins,
             order,
             held,
@@ -150,14 +205,11 @@ pub fn fill(
         product = product * scale;
         n += 1;
     }
-    if n == 0 {
-        put(at, at + items, 1, table);
-        return product;
-    }
-    n * product
+    close(s, items, served, n, at, table);
+    at_least_one(n) * product
 }
 
-// Fills the whole table of the tree at row 0: the links are sorted once. The tree's scale is answered.
+// Fills the whole table of the tree at row 0: the links are sorted once, and it is seen once whether all items are in service. The tree's scale is answered.
 pub fn whole(
     s: &[u8],
     items: usize,
@@ -178,9 +230,11 @@ pub fn whole(
     sorted::sort(s, items, links, &mut begins[..257], &mut order[..4096]);
     let mut held = [0u64; 512];
     hold(s, items, &mut held[..512]);
+    let served = graph::none_out(s, items);
     fill(
         s,
         items,
+        served,
         &begins[..257],
         &order[..4096],
         &held[..512],

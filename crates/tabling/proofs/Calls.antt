@@ -11,13 +11,12 @@ use lib.Seq.{sets}
 use Rattle.meaning.specs.declared.Refusal.{Refusal}
 use Rattle.meaning.specs.Refusal.{good, refused, _>>=_}
 use Rattle.meaning.specs.Tree.{nodes}
-use Rattle.meaning.specs.Register.{judged}
+use Rattle.meaning.specs.Register.{withdrawn, judged}
 use Rattle.meaning.specs.Reduce.{reduce, scale}
 use Rattle.meaning.specs.Table.{table, Tabled, listCall, afterList}
 use Rattle.meaning.proofs.Reading.{took, stopped, pass, stop, below, not-below}
 use Rattle.meaning.proofs.Image.{whole-buffer}
 use Rattle.meaning.proofs.InPlace.{scale-in}
-use Rattle.meaning.proofs.Table.{table-in}
 use Rattle.meaning.proofs.ListRows.{listThen}
 use Rattle.register.specs.Image.{OfSize}
 use Rattle.degrees.specs.Gradable.{Gradable}
@@ -81,7 +80,7 @@ module _ {image message : List ℕ} {A : Rows} {b : Both} {done : BothDone image
   list-answer old new l d h =
       let g = w .register in
       let t = w .tree in
-      let rows = table (judged g) (length (g .names)) t in
+      let rows = table (judged g) (withdrawn g) (length (g .names)) t in
       let answer : Tabled = record { items = length (g .names); nodes = nodes t; scale = scale (reduce t); table = rows } in
       let call : listCall image message (length old) ≡ good answer =
       list-then (length old) ∙ pass (ltb (length old) (nodes t * length (g .names))) _ _ (not-below (length old) _ (omega (arith, places))) in
@@ -89,5 +88,5 @@ module _ {image message : List ℕ} {A : Rows} {b : Both} {done : BothDone image
       ap (λ (z : ℕ). record { items = z; nodes = k; scale = d }) (w .items)
       ∙ ap₂ (λ (y z : ℕ). record { items = length (g .names); nodes = y; scale = z }) (w .written) (h .scaled ∙ sym (scale-in t)) in
       let filled : new ≡ sets old 0 rows =
-      h .filled ∙ ap (sets old 0) (sym (table-in (judged g) n t) ∙ ap (λ (z : ℕ). table (judged g) z t) (w .items)) in
+      h .filled ∙ ap (λ (z : ℕ). sets old 0 (table (judged g) (withdrawn g) z t)) (w .items) in
       (ap good said ∙ sym (ap told call), filled ∙ sym (ap (afterList old) call))

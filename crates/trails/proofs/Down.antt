@@ -9,7 +9,7 @@ use lib.Seq.{sets}
 use Rattle.meaning.specs.Bytes.{Bytes}
 use Rattle.meaning.specs.Tree.{Concept, children}
 use Rattle.meaning.specs.Graph.{Graph}
-use Rattle.meaning.specs.Register.{judged}
+use Rattle.graph.specs.Walked.{walked}
 use Rattle.meaning.specs.Requirement.{fulfils}
 use Rattle.meaning.specs.Rows.{Holds}
 use Rattle.meaning.specs.Shown.{first, yesByF, yesMap}
@@ -34,7 +34,7 @@ module _ {R : Type 0} {names roles ends : List ℕ} {t : Concept} {node left : �
 module _ {s : List ℕ} {items : ℕ} {index names roles ends met : List ℕ} {node left item : ℕ}
     (k : Charted s items index names roles ends met node left item) where
   abbrev G : Graph ℕ
-  G = judged (k .posed .graph .register)
+  G = walked (k .posed .graph .register)
 
   -- the children from row c on are left
   abbrev pub Ahead : List ℕ → ℕ → List ℕ → Type 0

@@ -22,7 +22,7 @@ use Rattle.meaning.proofs.Rows.{holds-nodes as concept-nodes}
 use Rattle.meaning.proofs.Stores.{sets-append}
 use Rattle.meaning.proofs.YesShown.{yes-shows}
 use Rattle.requirement.proofs.Whole.{bare-nodes}
-use Rattle.graph.proofs.Same.{first-same}
+use Rattle.meaning.proofs.Same.{first-same}
 use Rattle.trails.specs.Cells.{cell, Right, RightF}
 
 -- a requirement's children without their thresholds

@@ -6,7 +6,7 @@ ghost use Prim.Native.Nat.{_≤_, _<_};
 ghost use lib.ListN.{length, getD};
 ghost use lib.Seq.{sets};
 ghost use Rattle.meaning.specs.Names.{within};
-ghost use Rattle.meaning.specs.Register.{judged};
+ghost use Rattle.graph.specs.Walked.{walked};
 ghost use Rattle.meaning.specs.Shown.{first, yesMap};
 ghost use Rattle.meaning.specs.Whole.{any};
 ghost use Rattle.register.specs.Image.{Asked, Image};
@@ -21,7 +21,7 @@ ghost use Rattle.trails.specs.Charted.{Charted};
 pub fn hold(s: &[u8], names: &[u64; 64], node: usize, set: &mut [u64])
     requires { ⌜ Asked (now s) (λ g. Among (length (g .names)) (now set)) ⌝ }
     requires { ⌜ (node < 64) × (length (now set) ≡ 8) ⌝ }
-    ensures { λ _. ⌜ Image (now (s .entry)) (λ g. Sifted (λ x. within (getD (now (names .entry)) node 0) (judged g .names x)) (now (set .entry)) (now (set .exit))) ⌝ }
+    ensures { λ _. ⌜ Image (now (s .entry)) (λ g. Sifted (λ x. within (getD (now (names .entry)) node 0) (walked g .names x)) (now (set .entry)) (now (set .exit))) ⌝ }
 {
     let wanted = names[node];
     let mut x = sets::next_in(set, 0);
@@ -31,22 +31,26 @@ pub fn hold(s: &[u8], names: &[u64; 64], node: usize, set: &mut [u64])
     }
 }
 
-// The first successor of an item under a role that is in a set, or 65535.
+// The first successor of an item under a role that is in a set, or 65535. The set may have withdrawn items too: they are no successors.
 pub fn seek(s: &[u8], items: usize, index: &[u16], item: usize, role: usize, set: &[u64]) -> usize
     requires { ⌜ Judged (now s) items (now index) ⌝ }
     requires { ⌜ (item < items) × (length (now set) ≡ 8) ⌝ }
     ensures { λ r. ⌜ ((j : Judged (now (s .entry)) items (now (index .entry)))
-        → r ≡ placeOf (first (λ y. inSet (now (set .entry)) y) (judged (j .register) .next item role))) ⌝ }
+        → r ≡ placeOf (first (λ y. inSet (now (set .entry)) y) (walked (j .register) .next item role))) ⌝ }
 {
     let r = graph::run(s, items, index, item, role);
     let end = r.end;
     let mut k = r.first;
     while k < end {
         let to = graph::end_of(s, items, k);
-        if sets::contains(set, to) {
-            return to;
-        }
         k += 1;
+        if !sets::contains(set, to) {
+            continue;
+        }
+        if graph::is_out(s, to) {
+            continue;
+        }
+        return to;
     }
     meaning::NOWHERE
 }
@@ -56,7 +60,7 @@ pub fn fold(s: &[u8], items: usize, index: &[u16], role: usize, child: &[u64], s
     requires { ⌜ Judged (now s) items (now index) ⌝ }
     requires { ⌜ (length (now child) ≡ 8) × (length (now set) ≡ 8) × Among items (now set) ⌝ }
     ensures { λ _. ⌜ ((j : Judged (now (s .entry)) items (now (index .entry)))
-        → Sifted (λ x. any (λ y. inSet (now (child .entry)) y) (judged (j .register) .next x role)) (now (set .entry)) (now (set .exit))) ⌝ }
+        → Sifted (λ x. any (λ y. inSet (now (child .entry)) y) (walked (j .register) .next x role)) (now (set .entry)) (now (set .exit))) ⌝ }
 {
     let mut x = sets::next_in(set, 0);
     while x < meaning::MOST_ITEMS {
@@ -103,7 +107,7 @@ pub fn walk(
     requires { ⌜ Charted (now s) items (now index) (now names) (now roles) (now ends) (now met) node left item ⌝ }
     requires { ⌜ (getD (now ends) node 0 ≤ length (now map)) × (length (now met) ≡ 512) ⌝ }
     ensures { λ _. ⌜ ((k : Charted (now (s .entry)) items (now (index .entry)) (now (names .entry)) (now (roles .entry)) (now (ends .entry)) (now (met .entry)) node left item)
-        → now (map .exit) ≡ sets (now (map .entry)) node (yesMap (judged (k .posed .graph .register)) (k .tree) item)) ⌝ }
+        → now (map .exit) ≡ sets (now (map .entry)) node (yesMap (walked (k .posed .graph .register)) (k .tree) item)) ⌝ }
 {
     map[node] = item as u16;
     let e = entry(ends, node);

@@ -1,5 +1,5 @@
 // Which items meet a requirement, for all items at once: each node and each threshold is judged once, and an item's row of the listing is then
-// read off the table of what was found.
+// read off the table of what was found; of a withdrawn one it says so.
 use graph::sets;
 use lines;
 use meaning;
@@ -8,8 +8,8 @@ ghost use mathlib.Core.List.{List};
 ghost use Prim.Native.Nat.{ℕ, _≤_, _<_};
 ghost use lib.ListN.{length};
 ghost use Rattle.meaning.specs.Bounds.{mostNodes};
-ghost use Rattle.meaning.specs.Register.{judged};
 ghost use Rattle.meaning.specs.Calls.{memberCall};
+ghost use Rattle.graph.specs.Walked.{walked};
 ghost use Rattle.meeting.specs.Required.{Required};
 ghost use Rattle.lines.specs.Lines.{lineRoom};
 ghost use Rattle.lines.specs.Entries.{memberRow, Begins};
@@ -33,7 +33,7 @@ pub fn judge(
     requires { ⌜ length (now met) ≡ 512 ⌝ }
     ensures { λ _. ⌜ ((k : Required (now (image .entry)) items (now (index .entry)) (now (message .entry)) (now (names .entry)) (now (roles .entry)) (now (ends .entry))
         (now (owners .entry)) (now (firsts .entry)) parts 0 17)
-        → Tabled (judged (k .posed .graph .register)) (k .tree) items (now (ends .entry)) (now (met .exit))) ⌝ }
+        → Tabled (walked (k .posed .graph .register)) (k .tree) items (now (ends .entry)) (now (met .exit))) ⌝ }
 {
     let mut set = [0u64; 8];
     sets::include_all(items, &mut set);
@@ -72,6 +72,9 @@ pub fn row(
     ensures { λ r. ⌜ ((m : List ℕ) → Told (now (image .entry)) m items (now (index .entry)) (now (names .entry)) (now (roles .entry)) (now (ends .entry)) (now (met .entry))
         → Begins (now (line .exit)) (memberRow item (memberCall (now (image .entry)) m item mostNodes)) r) ⌝ }
 {
+    if graph::is_out(image, item) {
+        return lines::put_withdrawn_line(line, item);
+    }
     if !sets::contains(&met[..8], item) {
         return lines::put_no_line(line, item);
     }

@@ -9,6 +9,7 @@ use second::gen::{
     largest_register, medium_register, plain_within_size, register_edges, requirement_edges,
     small_plain, small_register, Palette, Rng,
 };
+use second::judged::Judged;
 use second::reduce::reduce;
 use second::register::{self, Register};
 use second::requirement::{self, Comparison, Node};
@@ -22,10 +23,11 @@ use crate::sheet::{self, asking, threshold};
 use crate::small;
 use crate::worst::{
     all_linked, broom, bushy, chain, comb, deep_halves, fans, halves, late, late_halves,
+    with_withdrawn,
 };
 
-const DEGREE: &str = "degree";
-const MARGIN: &str = "margin";
+pub(crate) const DEGREE: &str = "degree";
+pub(crate) const MARGIN: &str = "margin";
 
 const READING: (Side, &[u64]) = (Side::Register, &[1, 2, 3, 4, 5, 6, 7, 8]);
 
@@ -35,7 +37,7 @@ pub const PART: Part = Part {
         Call {
             name: DEGREE,
             kinds: &[GOOD],
-            refusals: &[READING, requirements::READING, (Side::Call, &[15, 16])],
+            refusals: &[READING, requirements::READING, (Side::Call, &[15, 16, 26])],
         },
         Call {
             name: MARGIN,
@@ -43,7 +45,7 @@ pub const PART: Part = Part {
             refusals: &[
                 READING,
                 requirements::READING,
-                (Side::Call, &[15, 23, 24, 25]),
+                (Side::Call, &[15, 23, 24, 25, 26]),
             ],
         },
     ],
@@ -66,10 +68,10 @@ fn run(seen: &mut Seen, seed: u64) -> Result<(), Difference> {
 
 /// One question: an image, a message and an item.
 #[derive(Clone, Copy)]
-struct Question<'a> {
-    image: &'a [u8],
-    message: &'a [u8],
-    item: u64,
+pub(crate) struct Question<'a> {
+    pub image: &'a [u8],
+    pub message: &'a [u8],
+    pub item: u64,
 }
 
 impl Question<'_> {
@@ -81,7 +83,7 @@ impl Question<'_> {
         ]
     }
 
-    fn degree(&self, map: &[u16]) -> Outcome<Vec<u16>> {
+    pub fn degree(&self, map: &[u16]) -> Outcome<Vec<u16>> {
         let mut lent = map.to_vec();
         let answer = fence::shown(0, self.image, |image| {
             fence::shown(1, self.message, |message| {
@@ -93,7 +95,7 @@ impl Question<'_> {
         Outcome { answer, lent }
     }
 
-    fn margin(&self, p: u64, q: u64) -> Outcome<()> {
+    pub fn margin(&self, p: u64, q: u64) -> Outcome<()> {
         let answer = fence::shown(0, self.image, |image| {
             fence::shown(1, self.message, |message| {
                 library::margin(image, message, self.item, p, q)
@@ -126,7 +128,7 @@ fn margin_outcome(worked_out: Result<(i64, u64), Refusal>) -> Outcome<()> {
 }
 
 /// The library's degree against one that was worked out elsewhere.
-fn degree_against(
+pub(crate) fn degree_against(
     seen: &mut Seen,
     question: Question,
     map: &[u16],
@@ -141,7 +143,7 @@ fn degree_against(
     })
 }
 
-fn margin_against(
+pub(crate) fn margin_against(
     seen: &mut Seen,
     question: Question,
     (p, q): (u64, u64),
@@ -156,7 +158,7 @@ fn margin_against(
     })
 }
 
-fn degree(seen: &mut Seen, question: Question, map: &[u16]) -> Result<(), Difference> {
+pub(crate) fn degree(seen: &mut Seen, question: Question, map: &[u16]) -> Result<(), Difference> {
     let Question {
         image,
         message,
@@ -166,7 +168,11 @@ fn degree(seen: &mut Seen, question: Question, map: &[u16]) -> Result<(), Differ
     degree_against(seen, question, map, second)
 }
 
-fn margin(seen: &mut Seen, question: Question, fraction: (u64, u64)) -> Result<(), Difference> {
+pub(crate) fn margin(
+    seen: &mut Seen,
+    question: Question,
+    fraction: (u64, u64),
+) -> Result<(), Difference> {
     let Question {
         image,
         message,
@@ -177,7 +183,7 @@ fn margin(seen: &mut Seen, question: Question, fraction: (u64, u64)) -> Result<(
 }
 
 /// What the places of a lent map hold before a call: no two the same.
-fn before(places: usize) -> Vec<u16> {
+pub(crate) fn before(places: usize) -> Vec<u16> {
     (0..places).map(|place| 40_000 + place as u16).collect()
 }
 
@@ -276,10 +282,11 @@ fn fractions(seen: &mut Seen) -> Result<(), Difference> {
 
 /// The degree that is greatest over all partial maps, each of them tried, with
 /// the second program's map.
-fn by_every_map(register: &Register, root: &Node, item: u16) -> sheet::Degree {
+pub(crate) fn by_every_map(judged: &Judged, root: &Node, item: u16) -> sheet::Degree {
+    let item = judged.asked(item.into())?;
     let concept = reduce(root);
-    let Fraction { num, den } = brute::degree_at(register, &concept.root, item);
-    let mut degrees = Degrees::of(register, &concept).expect("small");
+    let Fraction { num, den } = brute::degree_at(judged, &concept.root, item);
+    let mut degrees = Degrees::of(judged, &concept).expect("small");
     Ok((num as u64, den as u64, degrees.map(item)))
 }
 
@@ -291,13 +298,14 @@ fn every_small_one(seen: &mut Seen) -> Result<(), Difference> {
         let message = requirement::encode(&root);
         let map = before(requirement::written(&root).len());
         for (register, image) in &registers {
+            let judged = Judged::of(register);
             for item in 0..2 {
                 let question = Question {
                     image,
                     message: &message,
                     item: item.into(),
                 };
-                degree_against(seen, question, &map, by_every_map(register, &root, item))?;
+                degree_against(seen, question, &map, by_every_map(&judged, &root, item))?;
             }
         }
     }
@@ -311,6 +319,7 @@ fn every_map_tried(seen: &mut Seen, rng: &mut Rng) -> Result<(), Difference> {
         let register = small_register(rng, &palette);
         let root = small_plain(rng, &palette);
         let (image, message) = (register::encode(&register), requirement::encode(&root));
+        let judged = Judged::of(&register);
         for item in 0..register.items() as u16 {
             let question = Question {
                 image: &image,
@@ -321,7 +330,7 @@ fn every_map_tried(seen: &mut Seen, rng: &mut Rng) -> Result<(), Difference> {
                 seen,
                 question,
                 &before(6),
-                by_every_map(&register, &root, item),
+                by_every_map(&judged, &root, item),
             )?;
         }
     }
@@ -418,6 +427,8 @@ fn large(seen: &mut Seen, rng: &mut Rng) -> Result<(), Difference> {
     for root in [bushy(), comb(), broom()].into_iter().chain(deep) {
         each_item(seen, rng, &fans(), &root)?;
         each_item(seen, rng, &linked, &root)?;
+        each_item(seen, rng, &with_withdrawn(fans(), 10), &root)?;
+        each_item(seen, rng, &with_withdrawn(linked.clone(), 3), &root)?;
     }
     for round in 0..24 {
         let palette = Palette::any(rng);
@@ -444,7 +455,8 @@ fn each_item(
     root: &Node,
 ) -> Result<(), Difference> {
     let concept = reduce(root);
-    let mut degrees = Degrees::of(register, &concept).expect("within size");
+    let judged = Judged::of(register);
+    let mut degrees = Degrees::of(&judged, &concept).expect("within size");
     let (image, message) = (register::encode(register), requirement::encode(root));
     let last = register.items() - 1;
     let some: Vec<usize> = (0..8).map(|_| rng.index(register.items())).collect();
@@ -454,9 +466,10 @@ fn each_item(
             message: &message,
             item: item as u64,
         };
-        let at = item as u16;
-        let Fraction { num, den } = degrees.at(at);
-        let second = Ok((num as u64, den as u64, degrees.map(at)));
+        let second = judged.asked(item as u64).map(|at| {
+            let Fraction { num, den } = degrees.at(at);
+            (num as u64, den as u64, degrees.map(at))
+        });
         degree_against(seen, question, &before(64), second)?;
     }
     let question = Question {

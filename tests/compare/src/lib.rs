@@ -16,6 +16,7 @@
 //! | `degrees` | the degree of an item, its map and its margin |
 //! | `members` | the yes or no for an item, and its map |
 //! | `lists` | the whole list, and its table |
+//! | `withdrawn` | withdrawn items, in every question |
 //! | `steps` | a step of a session as a number of the log |
 //! | `sessions` | open, edit, undo and keep |
 
@@ -33,18 +34,20 @@ pub mod sessions;
 pub mod sheet;
 pub mod small;
 pub mod steps;
+pub mod withdrawn;
 pub mod worst;
 pub mod writings;
 
 use part::Part;
 
 /// A further part is a module of its own and a line here.
-pub const PARTS: [Part; 7] = [
+pub const PARTS: [Part; 8] = [
     registers::PART,
     requirements::PART,
     writings::PART,
     degrees::PART,
     members::PART,
     lists::PART,
+    withdrawn::PART,
     sessions::PART,
 ];

@@ -9,6 +9,7 @@ use second::gen::{
     medium_register, plain_within_size, register_edges, requirement_edges, small_plain,
     small_register, small_with_thresholds, Palette, Rng,
 };
+use second::judged::Judged;
 use second::list::{list as direct, List};
 use second::reduce::Concept;
 use second::register::{self, Register};
@@ -23,10 +24,10 @@ use crate::sheet;
 use crate::small;
 use crate::worst::{
     all_linked, broom, bushy, chain, comb, deep_halves, fans, halves, late, late_halves, triplets,
-    wide,
+    wide, with_withdrawn,
 };
 
-const LIST: &str = "list";
+pub(crate) const LIST: &str = "list";
 const DEGREE: &str = "degree";
 
 /// Places that are enough for every register and requirement.
@@ -44,11 +45,12 @@ pub const PART: Part = Part {
                 (Side::Call, &[16]),
             ],
         },
-        // Asked of items of which the list has told the degree: it is good.
+        // Asked of items of which the list has told the degree: it is good, but
+        // for a withdrawn one.
         Call {
             name: DEGREE,
             kinds: &[GOOD],
-            refusals: &[],
+            refusals: &[(Side::Call, &[26])],
         },
     ],
     run,
@@ -69,9 +71,9 @@ fn run(seen: &mut Seen, seed: u64) -> Result<(), Difference> {
 
 /// One question: an image and a message.
 #[derive(Clone, Copy)]
-struct Question<'a> {
-    image: &'a [u8],
-    message: &'a [u8],
+pub(crate) struct Question<'a> {
+    pub image: &'a [u8],
+    pub message: &'a [u8],
 }
 
 impl Question<'_> {
@@ -79,7 +81,7 @@ impl Question<'_> {
         vec![("image", hex(self.image)), ("message", hex(self.message))]
     }
 
-    fn list(&self, table: &[u32]) -> Outcome<Vec<u32>> {
+    pub fn list(&self, table: &[u32]) -> Outcome<Vec<u32>> {
         let mut lent = table.to_vec();
         let answer = fence::shown(0, self.image, |image| {
             fence::shown(1, self.message, |message| {
@@ -111,13 +113,13 @@ fn outcome(worked_out: Result<List, Refusal>, table: &[u32]) -> Outcome<Vec<u32>
 
 /// What the places of a lent table hold before a call: no two the same, and
 /// nothing that a table holds afterwards but by chance.
-fn before(places: usize) -> Vec<u32> {
+pub(crate) fn before(places: usize) -> Vec<u32> {
     (0..places as u32).map(|place| !place << 8).collect()
 }
 
 /// The library's list against one that was worked out elsewhere, with a table of
 /// so many places; and where it is good, against the library's own degrees.
-fn against(
+pub(crate) fn against(
     seen: &mut Seen,
     question: Question,
     places: usize,
@@ -138,8 +140,11 @@ fn against(
 }
 
 /// The first row over the scale, in lowest terms, is what the library's single
-/// call says of the first item, the last and one between.
+/// call says of the first item, the last and one between; where one of them is
+/// withdrawn, it says that.
 fn singles(seen: &mut Seen, question: Question, list: &List) -> Result<(), Difference> {
+    let register = register::read_whole(question.image).expect("a good list");
+    let judged = Judged::of(&register);
     let last = list.items - 1;
     let mut items = vec![0, last / 2, last];
     items.dedup();
@@ -150,8 +155,13 @@ fn singles(seen: &mut Seen, question: Question, list: &List) -> Result<(), Diffe
             item as u64,
             &mut [0; MOST_NODES],
         );
-        let Fraction { num, den } = list.degree(item);
-        let listed = [GOOD, num as u64, den as u64, list.nodes as u64];
+        let listed = match judged.asked(item as u64) {
+            Ok(_) => {
+                let Fraction { num, den } = list.degree(item);
+                [GOOD, num as u64, den as u64, list.nodes as u64]
+            }
+            Err(refusal) => refused(refusal),
+        };
         let [single, listed] = [single, listed].map(|answer| Outcome { answer, lent: () });
         seen.compare(DEGREE, single, listed, || {
             let mut told = question.told();
@@ -248,11 +258,9 @@ fn edge_of_either(
 
 /// The degrees of all items that are greatest over all partial maps, each of
 /// them tried.
-fn by_every_map(register: &Register, concept: &Concept) -> Vec<Fraction> {
-    let items = 0..register.items() as u16;
-    items
-        .map(|item| brute::degree_at(register, &concept.root, item))
-        .collect()
+pub(crate) fn by_every_map(judged: &Judged, concept: &Concept) -> Vec<(u16, Fraction)> {
+    let tried = |item| (item, brute::degree_at(judged, &concept.root, item));
+    judged.each().map(tried).collect()
 }
 
 /// Every register of two items, one role and two names, with every requirement
@@ -266,7 +274,7 @@ fn every_small_one(seen: &mut Seen) -> Result<(), Difference> {
                 image,
                 message: &message,
             };
-            let tried = List::of(register, &root, by_every_map);
+            let tried = List::of(&Judged::of(register), &root, by_every_map);
             against(seen, question, needed(register, &root), Ok(tried))?;
         }
     }
@@ -284,7 +292,7 @@ fn every_map_tried(seen: &mut Seen, rng: &mut Rng) -> Result<(), Difference> {
             image: &image,
             message: &message,
         };
-        let tried = List::of(&register, &root, by_every_map);
+        let tried = List::of(&Judged::of(&register), &root, by_every_map);
         against(seen, question, needed(&register, &root) + 2, Ok(tried))?;
     }
     Ok(())
@@ -361,6 +369,8 @@ fn large(seen: &mut Seen, rng: &mut Rng) -> Result<(), Difference> {
     for root in [bushy(), comb(), broom(), halves()] {
         good(seen, &fans(), &root)?;
         good(seen, &linked, &root)?;
+        good(seen, &with_withdrawn(fans(), 10), &root)?;
+        good(seen, &with_withdrawn(linked.clone(), 3), &root)?;
     }
     for root in [late(), late_halves(), deep_halves()] {
         good(seen, &linked, &root)?;

@@ -8,6 +8,7 @@ use second::gen::{
     medium_register, met_somewhere, plain_within_size, register_edges, requirement_edges,
     small_pair, small_plain, small_register, small_with_thresholds, with_thresholds, Palette, Rng,
 };
+use second::judged::Judged;
 use second::member::{brute_member, member as direct};
 use second::reduce::reduce;
 use second::register::{self, Register};
@@ -20,9 +21,9 @@ use crate::part::{hex, refused, Call, Difference, Outcome, Part, Seen, GOOD, NO}
 use crate::requirements;
 use crate::sheet::{self, asking, threshold};
 use crate::small;
-use crate::worst::{all_linked, bushy, chain, comb, fans, sixteen_thresholds};
+use crate::worst::{all_linked, bushy, chain, comb, fans, sixteen_thresholds, with_withdrawn};
 
-const MEMBER: &str = "member";
+pub(crate) const MEMBER: &str = "member";
 
 pub const PART: Part = Part {
     name: "members",
@@ -32,7 +33,7 @@ pub const PART: Part = Part {
         refusals: &[
             (Side::Register, &[1, 2, 3, 4, 5, 6, 7, 8]),
             requirements::READING,
-            (Side::Call, &[15, 16]),
+            (Side::Call, &[15, 16, 26]),
         ],
     }],
     run,
@@ -61,7 +62,7 @@ fn run(seen: &mut Seen, seed: u64) -> Result<(), Difference> {
 }
 
 /// A map for yes, none for no; or a refusal.
-type Decision = Result<Option<Vec<u16>>, Refusal>;
+pub(crate) type Decision = Result<Option<Vec<u16>>, Refusal>;
 
 fn outcome(decision: Decision, map: &[u16]) -> Outcome<Vec<u16>> {
     let mut lent = map.to_vec();
@@ -77,7 +78,7 @@ fn outcome(decision: Decision, map: &[u16]) -> Outcome<Vec<u16>> {
 }
 
 /// The library's yes or no against one that was worked out elsewhere.
-fn against(
+pub(crate) fn against(
     seen: &mut Seen,
     (image, message, item): (&[u8], &[u8], u64),
     room: usize,
@@ -103,7 +104,7 @@ fn against(
     })
 }
 
-fn member(
+pub(crate) fn member(
     seen: &mut Seen,
     image: &[u8],
     message: &[u8],
@@ -206,7 +207,7 @@ fn every_small_one(seen: &mut Seen) -> Result<(), Difference> {
 }
 
 /// The yes or no by trying every map, with the second program's map.
-fn third_opinion(
+pub(crate) fn third_opinion(
     seen: &mut Seen,
     register: &Register,
     image: &[u8],
@@ -217,10 +218,11 @@ fn third_opinion(
     let room = requirement::written(root).len();
     let decision = match (
         direct(image, message, item, room),
-        brute_member(register, root, item),
+        brute_member(&Judged::of(register), root, item),
     ) {
         (Ok(Some(map)), Some(true)) => Ok(Some(map)),
         (Ok(None), Some(false)) => Ok(None),
+        (Err(refusal), None) if refusal == Refusal::call(26) => Err(refusal),
         other => panic!("the second program against itself: {other:?}"),
     };
     against(seen, (image, message, item), room, decision)
@@ -277,16 +279,19 @@ fn about_the_degree(seen: &mut Seen, rng: &mut Rng) -> Result<(), Difference> {
         };
         let concept = reduce(&inner);
         // A walk may ask for many names: too large for a degree.
-        let Some(mut degrees) = Degrees::of(&register, &concept) else {
+        let judged = Judged::of(&register);
+        let Some(mut degrees) = Degrees::of(&judged, &concept) else {
             continue;
         };
-        let item = rng.index(register.items());
-        for (p, q) in next_to(degrees.at(item as u16)) {
+        let Some(item) = some_item(rng, &judged) else {
+            continue;
+        };
+        for (p, q) in next_to(degrees.at(item)) {
             for comparison in COMPARISONS {
                 let root = asking(vec![threshold(comparison, p, q, inner.clone())]);
                 let message = requirement::encode(&root);
                 let image = register::encode(&register);
-                member(seen, &image, &message, item as u64, 1)?;
+                member(seen, &image, &message, item.into(), 1)?;
                 let other = rng.below(register.items() as u64);
                 member(seen, &image, &message, other, 1)?;
             }
@@ -295,10 +300,16 @@ fn about_the_degree(seen: &mut Seen, rng: &mut Rng) -> Result<(), Difference> {
     Ok(())
 }
 
+/// An item that is not withdrawn, where there is one.
+fn some_item(rng: &mut Rng, judged: &Judged) -> Option<u16> {
+    let items: Vec<u16> = judged.each().collect();
+    (!items.is_empty()).then(|| rng.pick(&items))
+}
+
 /// A threshold that an item satisfies, close to its degree.
-fn satisfied(rng: &mut Rng, register: &Register, item: u16, inner: Node) -> Threshold {
+fn satisfied(rng: &mut Rng, judged: &Judged, item: u16, inner: Node) -> Threshold {
     let concept = reduce(&inner);
-    let mut degrees = Degrees::of(register, &concept).expect("within size");
+    let mut degrees = Degrees::of(judged, &concept).expect("within size");
     let degree = degrees.at(item);
     let choices: Vec<(Comparison, u16, u16)> = next_to(degree)
         .into_iter()
@@ -315,12 +326,15 @@ fn many_thresholds(seen: &mut Seen, rng: &mut Rng) -> Result<(), Difference> {
     for _ in 0..60 {
         let palette = Palette::any(rng);
         let register = small_register(rng, &palette);
-        let item = rng.index(register.items()) as u16;
+        let judged = Judged::of(&register);
+        let Some(item) = some_item(rng, &judged) else {
+            continue;
+        };
         let count = rng.between(2, MOST_THRESHOLDS);
         let list = (0..count)
             .map(|_| {
                 let inner = small_plain(rng, &palette);
-                satisfied(rng, &register, item, inner)
+                satisfied(rng, &judged, item, inner)
             })
             .collect();
         let mut root = asking(list);
@@ -351,12 +365,15 @@ fn deep_thresholds(seen: &mut Seen, rng: &mut Rng) -> Result<(), Difference> {
         }
         register.links.sort();
         register.links.dedup();
+        let judged = Judged::of(&register);
         let mut root = chain(|_| 0);
         let depth = rng.between(0, 16);
         for at in [depth, 16] {
             let inner = small_plain(rng, &palette);
-            let item = rng.index(register.items()) as u16;
-            let threshold = satisfied(rng, &register, item, inner);
+            let Some(item) = some_item(rng, &judged) else {
+                continue;
+            };
+            let threshold = satisfied(rng, &judged, item, inner);
             let mut node = &mut root;
             for _ in 0..at {
                 node = &mut node.children[0].1;
@@ -412,6 +429,8 @@ fn large(seen: &mut Seen, rng: &mut Rng) -> Result<(), Difference> {
         let root = sixteen_thresholds(outer, &inner);
         some_items(seen, rng, &fans(), &root)?;
         some_items(seen, rng, &linked, &root)?;
+        some_items(seen, rng, &with_withdrawn(fans(), 10), &root)?;
+        some_items(seen, rng, &with_withdrawn(linked.clone(), 3), &root)?;
     }
     let within = sixteen_thresholds(comb(), &chain(|depth| depth as u64 & 7));
     some_items(seen, rng, &linked, &within)?;

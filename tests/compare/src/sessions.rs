@@ -1,20 +1,24 @@
 //! Sessions: open, edit, undo and keep. Every byte of the buffer and every
 //! number of the log is compared after every call, with the second program's
 //! session and, over whole histories, with the model of what a session means.
+//! Degrees, margins and yes or no are asked in between: a session keeps all facts
+//! of a withdrawn item, and no question counts it.
 
 use second::gen::registers::register_of;
+use second::gen::requirements::fraction;
 use second::gen::{
     action, damaged_register, fact, junk_fact, junk_step, largest_register, medium_register,
-    register_edges, small_plain, small_register, Action, Palette, Rng,
+    register_edges, small_plain, small_register, small_with_thresholds, Action, Palette, Rng,
 };
+use second::judged::WITHDRAWN;
 use second::model::Model;
 use second::register::{self, Register};
 use second::session::{self as direct, Fact, Step};
-use second::{degree, requirement, Refusal, Side};
+use second::{degree, member, requirement, Refusal, Side};
 
 use crate::fence;
 use crate::library;
-use crate::part::{hex, refused, Call, Difference, Outcome, Part, Seen, GOOD};
+use crate::part::{hex, refused, Call, Difference, Outcome, Part, Seen, GOOD, NO};
 use crate::steps::{coded, decoded};
 
 const OPEN: &str = "open";
@@ -22,9 +26,12 @@ const NAME: &str = "edit name";
 const LINK: &str = "edit link";
 const UNDO: &str = "undo";
 const KEEP: &str = "keep";
-const ASKED: &str = "degree in a session";
+const DEGREE: &str = "degree in a session";
+const MARGIN: &str = "margin in a session";
+const MEMBER: &str = "member in a session";
 
 const READING: (Side, &[u64]) = (Side::Register, &[1, 2, 3, 4, 5, 6, 7, 8]);
+const WITHDRAWN_ONE: (Side, &[u64]) = (Side::Call, &[26]);
 
 const fn call(name: &'static str, refusals: &'static [(Side, &'static [u64])]) -> Call {
     Call {
@@ -42,7 +49,13 @@ pub const PART: Part = Part {
         call(LINK, &[READING, (Side::Call, &[7, 15, 17, 18, 20])]),
         call(UNDO, &[READING, (Side::Call, &[17, 19, 20])]),
         call(KEEP, &[READING, (Side::Call, &[17])]),
-        call(ASKED, &[]),
+        call(DEGREE, &[WITHDRAWN_ONE]),
+        call(MARGIN, &[WITHDRAWN_ONE]),
+        Call {
+            name: MEMBER,
+            kinds: &[GOOD, NO],
+            refusals: &[WITHDRAWN_ONE],
+        },
     ],
     run,
 };
@@ -51,6 +64,7 @@ fn run(seen: &mut Seen, seed: u64) -> Result<(), Difference> {
     let mut rng = Rng::new(seed);
     edges(seen)?;
     stands_and_is_undone(seen)?;
+    withdrawn_and_back(seen, &mut rng)?;
     histories(seen, &mut rng)?;
     full_registers(seen, &mut rng)?;
     played_back(seen, &mut rng)?;
@@ -325,29 +339,131 @@ impl History {
         Ok(())
     }
 
-    /// A degree asked of the image alone is that over the model's facts.
-    fn ask(&self, seen: &mut Seen, rng: &mut Rng, palette: &Palette) -> Result<(), Difference> {
-        let register = self.model.facts().register();
-        let message = requirement::encode(&small_plain(rng, palette));
-        let item = rng.below(register.items() as u64);
+    /// The image alone.
+    fn image(&self) -> &[u8] {
         let buffer = &self.session.buffer;
         let length = u16::from_be_bytes([buffer[1], buffer[2]]);
-        let image = &buffer[..3 + usize::from(length)];
-        let mut map = vec![7; 8];
-        let answer = library::degree(image, &message, item, &mut map);
-        let (num, den, values) = degree::degree(&register::encode(&register), &message, item, 8)
-            .expect("a good question");
-        let mut expected = vec![7; 8];
-        expected[..values.len()].copy_from_slice(&values);
-        let second = Outcome {
-            answer: [GOOD, num, den, values.len() as u64],
-            lent: expected,
-        };
-        let library = Outcome { answer, lent: map };
-        seen.compare(ASKED, library, second, || {
-            vec![("image", hex(image)), ("message", hex(&message))]
-        })
+        &buffer[..3 + usize::from(length)]
     }
+
+    /// Degree, margin and yes or no, asked of the image alone, are those over the
+    /// model's facts.
+    fn ask(
+        &self,
+        seen: &mut Seen,
+        rng: &mut Rng,
+        palette: &Palette,
+        item: u64,
+    ) -> Result<(), Difference> {
+        let facts = self.model.facts().register();
+        let plain = small_plain(rng, palette);
+        let root = match rng.below(2) {
+            0 => plain.clone(),
+            _ => small_with_thresholds(rng, palette, &facts),
+        };
+        let [plain, root] = [plain, root].map(|root| requirement::encode(&root));
+        let (p, q) = fraction(rng);
+        self.degree(seen, &facts, &plain, item)?;
+        self.margin(seen, &facts, &plain, item, (p.into(), q.into()))?;
+        self.member(seen, &facts, &root, item)
+    }
+
+    fn degree(
+        &self,
+        seen: &mut Seen,
+        facts: &Register,
+        message: &[u8],
+        item: u64,
+    ) -> Result<(), Difference> {
+        let mut map = vec![7; 8];
+        let answer = library::degree(self.image(), message, item, &mut map);
+        let library = Outcome { answer, lent: map };
+        let mut lent = vec![7; 8];
+        let answer = match degree::degree(&register::encode(facts), message, item, 8) {
+            Ok((num, den, values)) => {
+                lent[..values.len()].copy_from_slice(&values);
+                [GOOD, num, den, values.len() as u64]
+            }
+            Err(refusal) => refused(refusal),
+        };
+        let second = Outcome { answer, lent };
+        seen.compare(DEGREE, library, second, || self.question(message, item))
+    }
+
+    fn margin(
+        &self,
+        seen: &mut Seen,
+        facts: &Register,
+        message: &[u8],
+        item: u64,
+        (p, q): (u64, u64),
+    ) -> Result<(), Difference> {
+        let answer = library::margin(self.image(), message, item, p, q);
+        let library = Outcome { answer, lent: () };
+        let answer = match degree::margin(&register::encode(facts), message, item, p, q) {
+            Ok((margin, over)) => [GOOD, margin.unsigned_abs(), over, u64::from(margin < 0)],
+            Err(refusal) => refused(refusal),
+        };
+        let second = Outcome { answer, lent: () };
+        seen.compare(MARGIN, library, second, || self.question(message, item))
+    }
+
+    fn member(
+        &self,
+        seen: &mut Seen,
+        facts: &Register,
+        message: &[u8],
+        item: u64,
+    ) -> Result<(), Difference> {
+        let mut map = vec![7; 8];
+        let answer = library::member(self.image(), message, item, &mut map);
+        let library = Outcome { answer, lent: map };
+        let mut lent = vec![7; 8];
+        let answer = match member::member(&register::encode(facts), message, item, 8) {
+            Ok(Some(values)) => {
+                lent[..values.len()].copy_from_slice(&values);
+                [GOOD, values.len() as u64, 0, 0]
+            }
+            Ok(None) => [NO, 0, 0, 0],
+            Err(refusal) => refused(refusal),
+        };
+        let second = Outcome { answer, lent };
+        seen.compare(MEMBER, library, second, || self.question(message, item))
+    }
+
+    fn question(&self, message: &[u8], item: u64) -> Vec<(&'static str, String)> {
+        vec![
+            ("image", hex(self.image())),
+            ("message", hex(message)),
+            ("item", item.to_string()),
+        ]
+    }
+}
+
+/// Each item of small registers withdrawn by an edit and brought back by its
+/// undo, and the other way round where it is withdrawn to begin with; all items
+/// asked for before, between and after.
+fn withdrawn_and_back(seen: &mut Seen, rng: &mut Rng) -> Result<(), Difference> {
+    for _ in 0..200 {
+        let palette = Palette::any(rng);
+        let register = small_register(rng, &palette);
+        let items = register.items() as u64;
+        let mut history = History::open(seen, &register, 0, 4)?;
+        for item in 0..items {
+            let name = u64::from(WITHDRAWN);
+            let fact = Fact::Name { item, name };
+            let adds = u64::from(!history.model.facts().holds(fact));
+            let before = history.session.buffer.clone();
+            for asked in [Asked::Keep, Asked::Edit { fact, adds }, Asked::Undo] {
+                history.call(seen, asked)?;
+                for other in 0..items {
+                    history.ask(seen, rng, &palette, other)?;
+                }
+            }
+            assert!(history.session.buffer == before, "it is not as it was");
+        }
+    }
+    Ok(())
 }
 
 /// So many calls, some of them refused.
@@ -373,8 +489,17 @@ fn play(
             history.miscounted(seen, rng, asked)?;
         }
         history.call(seen, asked)?;
-        if rng.chance(16) {
-            history.ask(seen, rng, palette)?;
+        // An item that was just withdrawn or brought back, or any other.
+        let asked_for = match asked {
+            Asked::Edit {
+                fact: Fact::Name { item, name: 63 },
+                ..
+            } if item < now.items() as u64 => Some(item),
+            _ => None,
+        };
+        let any = rng.below(now.items() as u64);
+        if rng.chance(if asked_for.is_some() { 2 } else { 16 }) {
+            history.ask(seen, rng, palette, asked_for.unwrap_or(any))?;
         }
     }
     Ok(())
@@ -405,8 +530,9 @@ fn histories(seen: &mut Seen, rng: &mut Rng) -> Result<(), Difference> {
 /// Registers at and near 4,096 links, with room for more and without.
 fn full_registers(seen: &mut Seen, rng: &mut Rng) -> Result<(), Difference> {
     let palette = Palette {
-        names: vec![0, 63],
+        names: vec![0, 62],
         roles: vec![0, 31],
+        withdrawn: 8,
     };
     for (links, room) in [(4096, 0), (4096, 40), (4095, 9), (4095, 4), (4094, 300)] {
         let register = register_of(rng, &palette, 512, links);

@@ -222,11 +222,11 @@ fn listed_sizes() -> [Listed; 3] {
     ]
 }
 
-/// An item that holds every name and is linked to itself meets 20 nodes of three
+/// An item that holds every name but 63 and is linked to itself meets 20 nodes of three
 /// things each: the number of each is its scale, 3 to the power of the nodes
 /// from there on down.
 fn listed_greatest() -> Listed {
-    let every: Vec<u32> = (0..64).collect();
+    let every: Vec<u32> = (0..63).collect();
     let all = image(&[&every], &[(0, 0, 0), (0, 1, 0)]);
     let root = threes(20);
     let nodes = |node: &Node| requirement::written(node).len() as u32;
@@ -243,7 +243,7 @@ fn listed_greatest() -> Listed {
 /// alone, so of a node with children, of which the first is under role 0, it
 /// meets one part in n.
 fn listed_great_child() -> Listed {
-    let every: Vec<u32> = (0..64).collect();
+    let every: Vec<u32> = (0..63).collect();
     let links = [(0, 0, 0), (0, 1, 0), (2, 0, 0), (2, 0, 1)];
     let image = image(&[&every, &[], &[]], &links);
     let child = Node {

@@ -3,14 +3,19 @@
 use second::register::{self, Link, Register};
 use second::requirement::Node;
 
-/// Every register of two items, one role and two names, with its image.
+/// Every register of two items, one role and the names 0 and 1, with its image.
 pub fn registers() -> Vec<(Register, Vec<u8>)> {
+    registers_over(|names| names)
+}
+
+/// The same, with another set of names for each of the four over names 0 and 1.
+pub fn registers_over(renamed: fn(u64) -> u64) -> Vec<(Register, Vec<u8>)> {
     let every_link: [Link; 4] = [(0, 0, 0), (0, 0, 1), (1, 0, 0), (1, 0, 1)];
     let mut registers = Vec::new();
     for names in 0..16 {
         for chosen in 0..16 {
             let register = Register {
-                names: vec![names & 3, names >> 2],
+                names: vec![renamed(names & 3), renamed(names >> 2)],
                 links: (0..4)
                     .filter(|link| chosen >> link & 1 == 1)
                     .map(|link: usize| every_link[link])
@@ -23,15 +28,33 @@ pub fn registers() -> Vec<(Register, Vec<u8>)> {
     registers
 }
 
-/// Every tree of up to three nodes under role 0 over two names, and of four
-/// nodes over one name.
+/// Every tree of up to three nodes under role 0 over names 0 and 1, and of four
+/// nodes over name 0.
 pub fn concepts() -> Vec<Node> {
-    let mut list = Vec::new();
-    for nodes in 1..=3 {
-        list.extend(trees(nodes, 4));
-    }
+    let mut list = up_to_three();
     list.extend(trees(4, 2));
     list
+}
+
+/// Every tree of up to three nodes under role 0, with another set of names for
+/// each of the four over names 0 and 1.
+pub fn concepts_over(renamed: fn(u64) -> u64) -> Vec<Node> {
+    let mut list = up_to_three();
+    for root in &mut list {
+        rename(root, renamed);
+    }
+    list
+}
+
+fn rename(node: &mut Node, renamed: fn(u64) -> u64) {
+    node.names = renamed(node.names);
+    for (_, child) in &mut node.children {
+        rename(child, renamed);
+    }
+}
+
+fn up_to_three() -> Vec<Node> {
+    (1..=3).flat_map(|nodes| trees(nodes, 4)).collect()
 }
 
 /// Every tree of so many nodes, each with one of the sets below `sets`.

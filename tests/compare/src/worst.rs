@@ -1,5 +1,6 @@
 //! The costliest registers and requirements that the rules allow.
 
+use second::judged::WITHDRAWN;
 use second::register::{Register, MOST_ITEMS};
 use second::requirement::{Comparison, Node, Threshold, MOST_DEPTH, MOST_THRESHOLDS};
 
@@ -19,11 +20,11 @@ pub fn all_linked(names: impl Fn(usize) -> u64) -> Register {
 }
 
 /// 512 items, each with links under roles 0 to 7 to items all over the
-/// register: 4,096 links, the largest image.
+/// register: 4,096 links, the largest image. No item is withdrawn.
 pub fn fans() -> Register {
     Register {
         names: (0..MOST_ITEMS as u64)
-            .map(|item| item.wrapping_mul(0x9E37_79B9_7F4A_7C15))
+            .map(|item| item.wrapping_mul(0x9E37_79B9_7F4A_7C15) & !(1 << WITHDRAWN))
             .collect(),
         links: (0..MOST_ITEMS)
             .flat_map(|from| {
@@ -34,6 +35,14 @@ pub fn fans() -> Register {
             })
             .collect(),
     }
+}
+
+/// The register with one item in so many withdrawn, item 1 being the first.
+pub fn with_withdrawn(mut register: Register, one_in: usize) -> Register {
+    for names in register.names.iter_mut().skip(1).step_by(one_in) {
+        *names |= 1 << WITHDRAWN;
+    }
+    register
 }
 
 fn node(names: u64, children: Vec<(u8, Node)>) -> Node {

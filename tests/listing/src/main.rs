@@ -12,11 +12,13 @@ use std::time::Duration;
 use program::{read, Comes, Program};
 use second::gen::edges::{Q1, R1};
 use second::gen::{
-    any_pair, any_pair_bytes, concept_edges, largest_register, random_bytes, register_edges,
-    requirement_edges, with_thresholds, Palette, Rng,
+    any_pair, any_pair_bytes, concept_edges, largest_register, medium_register, random_bytes,
+    register_edges, requirement_edges, small_plain, small_register, with_thresholds, Palette, Rng,
 };
+use second::judged::WITHDRAWN;
 use second::listing::{listing, MOST_INPUT};
-use second::{register, requirement};
+use second::register::{self, Register};
+use second::requirement::{self, Comparison, Node, Threshold};
 use seen::Seen;
 
 const SEED: u64 = 1;
@@ -74,6 +76,7 @@ impl Trial {
         self.lengths()?;
         self.pieces(&mut rng)?;
         self.edges()?;
+        self.withdrawn(&mut rng)?;
         self.largest(&mut rng)?;
         self.generated(&mut rng)
     }
@@ -115,11 +118,11 @@ impl Trial {
         self.same(&[&whole[..], &[0]].concat(), Comes::AtOnce)
     }
 
-    /// Each requirement of examples/ on the register there, and the listing
-    /// that stands beside it.
+    /// Each requirement of examples/ on its own register or else the house, and
+    /// the listing that stands beside it.
     fn examples(&mut self) -> Result<(), String> {
         let folder = Path::new(env!("CARGO_MANIFEST_DIR")).join("../../examples");
-        let register = read(&folder.join("house.register"))?;
+        let house = folder.join("house.register");
         let mut found = 0;
         let entries = folder.read_dir().map_err(|error| error.to_string())?;
         for entry in entries {
@@ -128,7 +131,9 @@ impl Trial {
                 .extension()
                 .is_some_and(|ending| ending == "requirement")
             {
-                let input = [&register[..], &read(&path)?].concat();
+                let own = path.with_extension("register");
+                let register = if own.exists() { &own } else { &house };
+                let input = [read(register)?, read(&path)?].concat();
                 let wanted = read(&path.with_extension("listing"))?;
                 self.prints(&input, Comes::AtOnce, &wanted)?;
                 self.same(&input, Comes::FromFile)?;
@@ -190,6 +195,74 @@ impl Trial {
         }
         for edge in requirement_edges().into_iter().chain(concept_edges()) {
             self.same(&[&R1[..], &edge.bytes].concat(), Comes::AtOnce)?;
+        }
+        Ok(())
+    }
+
+    /// Withdrawn items in both kinds of listing: by hand, and in registers of
+    /// which none, some or all are.
+    fn withdrawn(&mut self, rng: &mut Rng) -> Result<(), String> {
+        let out = 1 << WITHDRAWN;
+        let image = |names: &[u64]| {
+            register::encode(&Register {
+                names: names.to_vec(),
+                links: vec![(0, 0, 1), (1, 0, 0), (2, 0, 0)],
+            })
+        };
+        let plain = Node {
+            children: vec![(0, Node::leaf(0))],
+            ..Node::leaf(1)
+        };
+        let judging = Node {
+            thresholds: vec![Threshold {
+                comparison: Comparison::AtMost,
+                p: 1,
+                q: 2,
+                inner: plain.clone(),
+                start: 0,
+                len: 0,
+            }],
+            ..Node::leaf(0)
+        };
+        let [plain, judging] = [plain, judging].map(|root| requirement::encode(&root));
+        let some = image(&[1, 1 | out, 0]);
+        let all = image(&[out, 1 | out, out]);
+        let lines = "0 withdrawn -\n1 withdrawn -\n2 withdrawn -\n";
+        let degrees = "item degree map\n";
+        let members = "item member map\n";
+        let by_hand = [
+            (
+                &some,
+                &plain,
+                degrees,
+                "0 1/2 0,-\n1 withdrawn -\n2 1/2 2,0\n",
+            ),
+            (
+                &some,
+                &judging,
+                members,
+                "0 yes 0\n1 withdrawn -\n2 yes 2\n",
+            ),
+            (&all, &plain, degrees, lines),
+            (&all, &judging, members, lines),
+        ];
+        for (register, message, head, lines) in by_hand {
+            let input = [&register[..], message].concat();
+            self.prints(&input, Comes::AtOnce, format!("{head}{lines}").as_bytes())?;
+        }
+        for round in 0..160 {
+            let mut palette = Palette::any(rng);
+            palette.withdrawn = [1, 2, 4, 8][round % 4];
+            let items = match round % 8 {
+                0 => medium_register(rng, &palette),
+                _ => small_register(rng, &palette),
+            };
+            let root = match round % 3 {
+                0 => small_plain(rng, &palette),
+                _ => with_thresholds(rng, &palette, &items),
+            };
+            let input = [register::encode(&items), requirement::encode(&root)].concat();
+            self.same(&input, Comes::AtOnce)?;
         }
         Ok(())
     }

@@ -13,7 +13,14 @@ fn wanted() -> Vec<String> {
     let mut kinds = refusals("register", &[1, 2, 3, 4, 5, 6, 7, 8]);
     let of_requirements = [1, 2, 3, 7, 8, 9, 10, 11, 12, 13, 14, 23, 24, 25];
     kinds.extend(refusals("requirement", &of_requirements));
-    for other in ["degrees", "yes", "no", "input too long"] {
+    let lists = [
+        "degrees",
+        "yes",
+        "no",
+        "withdrawn beside degrees",
+        "withdrawn beside yes or no",
+    ];
+    for other in lists.into_iter().chain(["input too long"]) {
         kinds.push(other.to_string());
     }
     kinds
@@ -27,12 +34,22 @@ fn kinds_of(text: &str) -> Vec<String> {
     };
     match text.split_once(" at ") {
         Some((refusal, _)) => vec![refusal.to_string()],
-        None if text.starts_with("item degree") => vec!["degrees".to_string()],
-        None if text.starts_with("item member") => ["yes", "no"]
-            .iter()
-            .filter(|field| has(field))
-            .map(|field| field.to_string())
-            .collect(),
+        None if text.starts_with("item degree") => {
+            let mut kinds = vec!["degrees".to_string()];
+            if has("withdrawn") {
+                kinds.push("withdrawn beside degrees".to_string());
+            }
+            kinds
+        }
+        None if text.starts_with("item member") => [
+            ("yes", "yes"),
+            ("no", "no"),
+            ("withdrawn", "withdrawn beside yes or no"),
+        ]
+        .iter()
+        .filter(|(field, _)| has(field))
+        .map(|(_, kind)| kind.to_string())
+        .collect(),
         None => vec![text.trim_end().to_string()],
     }
 }

@@ -2,12 +2,12 @@
 //! only: the work grows with the number of maps.
 //!
 //! Renders the same sentences of "Reduction and degree" in document 01 as
-//! `reduce`, `degree` and `member`, and none of their shortcuts: no memory,
-//! no working from below, no early end.
+//! `reduce`, `degree` and `member`, over the same graph, and none of their
+//! shortcuts: no memory, no working from below, no early end.
 
 use crate::fraction::Fraction;
+use crate::judged::Judged;
 use crate::reduce::{reduce, Concept, Kept, MOST_SIZE};
-use crate::register::Register;
 use crate::requirement::{written, Comparison, Node};
 
 /// A tree laid out flat: for each node its names, and its parent with the role
@@ -43,7 +43,7 @@ impl Flat {
 
     /// The value of a node under a partial map, as the second paragraph
     /// defines it. Only asked of mapped nodes.
-    fn value(&self, register: &Register, map: &[Option<u16>], node: usize) -> Fraction {
+    fn value(&self, judged: &Judged, map: &[Option<u16>], node: usize) -> Fraction {
         let item = match map[node] {
             Some(item) => item,
             None => return Fraction::ZERO,
@@ -53,7 +53,7 @@ impl Flat {
         if n == 0 {
             return Fraction::ONE;
         }
-        let held = register.names[usize::from(item)];
+        let held = judged.names(item);
         let mut common = 0;
         for name in 0..64 {
             if self.names[node] >> name & 1 == 1 && held >> name & 1 == 1 {
@@ -63,7 +63,7 @@ impl Flat {
         let mut sum = Fraction::whole(common);
         for child in children {
             if map[child].is_some() {
-                sum = sum.plus(self.value(register, map, child));
+                sum = sum.plus(self.value(judged, map, child));
             }
         }
         sum.over(n)
@@ -75,7 +75,7 @@ impl Flat {
 /// role.
 fn every_partial_map(
     flat: &Flat,
-    register: &Register,
+    judged: &Judged,
     map: &mut Vec<Option<u16>>,
     see: &mut dyn FnMut(&[Option<u16>]),
 ) {
@@ -86,15 +86,15 @@ fn every_partial_map(
     }
     // The node unmapped, and with it all below.
     map.push(None);
-    every_partial_map(flat, register, map, see);
+    every_partial_map(flat, judged, map, see);
     map.pop();
     // The node mapped, if its parent is, to each item linked so.
     if let Some((parent, role)) = flat.above[node] {
         if let Some(from) = map[parent] {
-            for to in 0..register.items() as u16 {
-                if register.links.contains(&(from, role, to)) {
+            for to in judged.each() {
+                if judged.has_link((from, role, to)) {
                     map.push(Some(to));
-                    every_partial_map(flat, register, map, see);
+                    every_partial_map(flat, judged, map, see);
                     map.pop();
                 }
             }
@@ -104,11 +104,11 @@ fn every_partial_map(
 
 /// The degree of an item at a kept node: the greatest root value over all
 /// partial maps of the tree below it.
-pub fn degree_at(register: &Register, node: &Kept, item: u16) -> Fraction {
+pub fn degree_at(judged: &Judged, node: &Kept, item: u16) -> Fraction {
     let flat = Flat::of(node);
     let mut greatest = Fraction::ZERO;
-    every_partial_map(&flat, register, &mut vec![Some(item)], &mut |map| {
-        let value = flat.value(register, map, 0);
+    every_partial_map(&flat, judged, &mut vec![Some(item)], &mut |map| {
+        let value = flat.value(judged, map, 0);
         if value > greatest {
             greatest = value;
         }
@@ -117,12 +117,12 @@ pub fn degree_at(register: &Register, node: &Kept, item: u16) -> Fraction {
 }
 
 /// The degree of an item in a reduced concept. None for a reduced size above
-/// 60 or an item that the register has not.
-pub fn degree(register: &Register, concept: &Concept, item: u64) -> Option<Fraction> {
+/// 60 or an item that the graph has not.
+pub fn degree(judged: &Judged, concept: &Concept, item: u64) -> Option<Fraction> {
     if concept.size() > MOST_SIZE {
         return None;
     }
-    Some(degree_at(register, &concept.root, register.item(item)?))
+    Some(degree_at(judged, &concept.root, judged.asked(item).ok()?))
 }
 
 /// Hands every whole assignment of `nodes` numbers below `targets` to `see`,
@@ -164,43 +164,43 @@ pub fn whole_map_exists(c: &Kept, d: &Kept) -> bool {
 /// Whether some whole threshold-respecting map of the written tree sends the
 /// root to the item: every assignment of nodes to items is tried, and inner
 /// degrees are the greatest over all partial maps. None for an item that the
-/// register has not, or an inner concept too large for a degree.
-pub fn member(register: &Register, root: &Node, item: u64) -> Option<bool> {
-    let item = register.item(item)?;
+/// graph has not, or an inner concept too large for a degree.
+pub fn member(judged: &Judged, root: &Node, item: u64) -> Option<bool> {
+    let item = judged.asked(item).ok()?;
     let nodes = written(root);
-    // respects[node][item]: the thresholds of the node hold at the item.
-    let mut respects = vec![vec![true; register.items()]; nodes.len()];
+    // respects[node][item]: the item is one of the graph, and the thresholds of
+    // the node hold there.
+    let mut respects = vec![vec![false; judged.items()]; nodes.len()];
     for (number, written) in nodes.iter().enumerate() {
-        for threshold in &written.node.thresholds {
-            let concept = reduce(&threshold.inner);
-            for (at, respected) in respects[number].iter_mut().enumerate() {
-                let degree = degree(register, &concept, at as u64)?;
+        for at in judged.each() {
+            let mut respected = true;
+            for threshold in &written.node.thresholds {
+                let concept = reduce(&threshold.inner);
+                let degree = degree(judged, &concept, at.into())?;
                 let against = Fraction::new(threshold.p.into(), threshold.q.into());
-                *respected &= match threshold.comparison {
+                respected &= match threshold.comparison {
                     Comparison::Below => degree < against,
                     Comparison::AtMost => degree <= against,
                     Comparison::Above => degree > against,
                     Comparison::AtLeast => degree >= against,
                 };
             }
+            respects[number][usize::from(at)] = respected;
         }
     }
     Some(any_whole_map(
         nodes.len(),
-        register.items(),
+        judged.items(),
         &mut vec![usize::from(item)],
         &|map| {
             (0..map.len()).all(|number| {
-                let names_held = nodes[number].node.names & !register.names[map[number]] == 0;
+                let to = map[number] as u16;
+                let names_held = |node: &Node| node.names & !judged.names(to) == 0;
                 let edge_kept = match nodes[number].above {
                     None => true,
-                    Some((parent, role)) => {
-                        register
-                            .links
-                            .contains(&(map[parent] as u16, role, map[number] as u16))
-                    }
+                    Some((parent, role)) => judged.has_link((map[parent] as u16, role, to)),
                 };
-                names_held && edge_kept && respects[number][map[number]]
+                edge_kept && respects[number][map[number]] && names_held(nodes[number].node)
             })
         },
     ))

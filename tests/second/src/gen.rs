@@ -10,6 +10,7 @@ pub mod registers;
 pub mod requirements;
 pub mod rng;
 pub mod sessions;
+pub mod taken_out;
 
 pub use damage::{damaged_register, damaged_requirement, random_bytes};
 pub use edges::{call_fractions, concept_edges, register_edges, requirement_edges, Edge};
@@ -19,6 +20,7 @@ pub use requirements::{
 };
 pub use rng::Rng;
 pub use sessions::{action, fact, junk_fact, junk_step, Action};
+pub use taken_out::{renumbered, taken_out};
 
 use crate::register::{self, Register};
 use crate::requirement::{self, Node};

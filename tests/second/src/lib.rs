@@ -1,4 +1,5 @@
-//! The second program: document 01 written out as plainly as possible.
+//! The second program: document 01, with the requests of document 02 that have
+//! landed, written out as plainly as possible.
 //!
 //! It is run beside the proved library, input by input, and a difference
 //! means that one of the two is wrong. So it shares no code with the library
@@ -11,6 +12,7 @@
 //! | `field` | the common head; number 1, 2, 3 of "Refusal numbers" |
 //! | `register` | "Register image" |
 //! | `requirement` | "Requirement message"; §2 of document 02 |
+//! | `judged` | §5 of document 02 |
 //! | `reduce` | "Reduction and degree", its first paragraph |
 //! | `fraction`, `degree` | "Reduction and degree", "Map shown" |
 //! | `member` | "Reduction and degree", its last paragraph; "Map shown" |
@@ -29,6 +31,7 @@ pub mod degree;
 pub mod field;
 pub mod fraction;
 pub mod gen;
+pub mod judged;
 pub mod list;
 pub mod listing;
 pub mod member;

@@ -1,11 +1,12 @@
 //! What the listing program prints.
 //!
-//! Renders the last part of "Sheet of examples" in document 01. Every line
-//! ends in a newline.
+//! Renders the last part of "Sheet of examples" in document 01, with the line
+//! of a withdrawn item of §5 of document 02. Every line ends in a newline.
 
 use crate::degree::{plain_concept, Degrees, DROPPED, UNMAPPED};
+use crate::judged::Judged;
 use crate::member::{Meeting, Ready};
-use crate::register::{read_whole, Register};
+use crate::register::read_whole;
 use crate::requirement::{self, Node};
 use crate::Refusal;
 
@@ -35,38 +36,49 @@ pub fn listing(input: &[u8]) -> Vec<u8> {
 }
 
 fn lines(register: &[u8], requirement: &[u8]) -> Result<String, Refusal> {
-    let register = read_whole(register)?;
+    let judged = Judged::of(&read_whole(register)?);
     let root = requirement::read(requirement)?;
     if requirement::thresholds(&root).is_empty() {
-        degree_lines(&register, &root)
+        degree_lines(&judged, &root)
     } else {
-        member_lines(&register, &root)
+        member_lines(&judged, &root)
     }
 }
 
-fn degree_lines(register: &Register, root: &Node) -> Result<String, Refusal> {
+fn degree_lines(judged: &Judged, root: &Node) -> Result<String, Refusal> {
     let concept = plain_concept(root)?;
-    let mut degrees = Degrees::of(register, &concept).ok_or(Refusal::requirement(14, 3))?;
-    let mut text = String::from("item degree map\n");
-    for item in 0..register.items() as u16 {
+    let mut degrees = Degrees::of(judged, &concept).ok_or(Refusal::requirement(14, 3))?;
+    Ok(item_lines("item degree map\n", judged, |item| {
         let degree = degrees.at(item);
         let map = shown(&degrees.map(item));
-        text.push_str(&format!("{item} {}/{} {map}\n", degree.num, degree.den));
-    }
-    Ok(text)
+        format!("{}/{} {map}", degree.num, degree.den)
+    }))
 }
 
-fn member_lines(register: &Register, root: &Node) -> Result<String, Refusal> {
+fn member_lines(judged: &Judged, root: &Node) -> Result<String, Refusal> {
     let ready = Ready::of(root);
-    let mut meeting = Meeting::of(register, &ready)?;
-    let mut text = String::from("item member map\n");
-    for item in 0..register.items() as u16 {
-        match meeting.map(item) {
-            Some(map) => text.push_str(&format!("{item} yes {}\n", shown(&map))),
-            None => text.push_str(&format!("{item} no -\n")),
-        }
+    let mut meeting = Meeting::of(judged, &ready)?;
+    Ok(item_lines(
+        "item member map\n",
+        judged,
+        |item| match meeting.map(item) {
+            Some(map) => format!("yes {}", shown(&map)),
+            None => "no -".to_string(),
+        },
+    ))
+}
+
+/// The head, and a line for each item: what is said of it where it is judged.
+fn item_lines(head: &str, judged: &Judged, mut said: impl FnMut(u16) -> String) -> String {
+    let mut text = head.to_string();
+    for item in 0..judged.items() as u16 {
+        let line = match judged.has(item) {
+            true => said(item),
+            false => "withdrawn -".to_string(),
+        };
+        text.push_str(&format!("{item} {line}\n"));
     }
-    Ok(text)
+    text
 }
 
 /// A map as one field: items with commas, `-` unmapped, `=` dropped.

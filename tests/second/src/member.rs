@@ -2,7 +2,7 @@
 //! thresholds, and the map that shows a yes.
 //!
 //! Renders the last paragraph of "Reduction and degree" and the second half of
-//! "Map shown" in document 01. The outer tree is taken as written: nothing is
+//! "Map shown" in document 01, over the graph of §5 of document 02. The outer tree is taken as written: nothing is
 //! dropped from it and its size has no bound of its own.
 
 use std::collections::HashMap;
@@ -10,8 +10,9 @@ use std::collections::HashMap;
 pub use crate::brute::member as brute_member;
 
 use crate::degree::Degrees;
+use crate::judged::Judged;
 use crate::reduce::{reduce, Concept};
-use crate::register::{read_whole, Register};
+use crate::register::read_whole;
 use crate::requirement::{self, written, Node, Threshold, Written};
 use crate::Refusal;
 
@@ -44,10 +45,10 @@ impl<'a> Ready<'a> {
     }
 }
 
-/// Which items of one register meet which nodes of one requirement, each
+/// Which items of one graph meet which nodes of one requirement, each
 /// (node, item) decided once.
 pub struct Meeting<'a> {
-    register: &'a Register,
+    judged: &'a Judged,
     ready: &'a Ready<'a>,
     degrees: Vec<Vec<Degrees<'a>>>,
     known: HashMap<(usize, u16), bool>,
@@ -56,20 +57,20 @@ pub struct Meeting<'a> {
 impl<'a> Meeting<'a> {
     /// Refused with 14 where an inner concept is too large for its degree to
     /// be taken; reading has refused such a requirement already.
-    pub fn of(register: &'a Register, ready: &'a Ready<'a>) -> Result<Meeting<'a>, Refusal> {
+    pub fn of(judged: &'a Judged, ready: &'a Ready<'a>) -> Result<Meeting<'a>, Refusal> {
         let mut degrees = Vec::new();
         for list in &ready.inner {
             let mut of_node = Vec::new();
             for (threshold, concept) in list {
                 of_node.push(
-                    Degrees::of(register, concept)
+                    Degrees::of(judged, concept)
                         .ok_or(Refusal::requirement(14, threshold.start))?,
                 );
             }
             degrees.push(of_node);
         }
         Ok(Meeting {
-            register,
+            judged,
             ready,
             degrees,
             known: HashMap::new(),
@@ -89,7 +90,7 @@ impl<'a> Meeting<'a> {
     }
 
     fn holds_names(&self, number: usize, item: u16) -> bool {
-        self.ready.nodes[number].node.names & !self.register.names[usize::from(item)] == 0
+        self.ready.nodes[number].node.names & !self.judged.names(item) == 0
     }
 
     fn satisfies_thresholds(&mut self, number: usize, item: u16) -> bool {
@@ -114,8 +115,8 @@ impl<'a> Meeting<'a> {
 
     /// The lowest-numbered successor that meets the child.
     fn first_that_meets(&mut self, role: u8, child: usize, item: u16) -> Option<u16> {
-        let register = self.register;
-        register
+        let judged = self.judged;
+        judged
             .successors(item, role)
             .find(|to| self.meets(child, *to))
     }
@@ -139,7 +140,7 @@ impl<'a> Meeting<'a> {
     }
 }
 
-/// The yes/no call, in the order register, requirement, 15, 16. Some is yes
+/// The yes/no call, in the order register, requirement, 15, 26, 16. Some is yes
 /// with its map, None is no. 16 is tested before the answer is known.
 pub fn member(
     register: &[u8],
@@ -147,13 +148,13 @@ pub fn member(
     item: u64,
     map_room: usize,
 ) -> Result<Option<Vec<u16>>, Refusal> {
-    let register = read_whole(register)?;
+    let judged = Judged::of(&read_whole(register)?);
     let root = requirement::read(requirement)?;
-    let item = register.item(item).ok_or(Refusal::call(15))?;
+    let item = judged.asked(item)?;
     let ready = Ready::of(&root);
     if map_room < ready.written_nodes() {
         return Err(Refusal::call(16));
     }
-    let mut meeting = Meeting::of(&register, &ready)?;
+    let mut meeting = Meeting::of(&judged, &ready)?;
     Ok(meeting.map(item))
 }

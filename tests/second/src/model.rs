@@ -3,7 +3,9 @@
 //! Renders "Session" of document 01 a second time. The facts stand as sets,
 //! and the accepted edits since the last keep as a list; undoing is to forget
 //! the last edit and play the others again from the start. `session` is right
-//! when its image is the image of these facts after every call.
+//! when its image is the image of these facts after every call. Name 63 is a
+//! name like any other here; degrees are taken over the graph that is judged of
+//! these facts (§5 of document 02).
 
 use std::collections::BTreeSet;
 

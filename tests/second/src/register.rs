@@ -34,22 +34,6 @@ impl Register {
             None
         }
     }
-
-    pub fn has_link(&self, link: Link) -> bool {
-        self.links.binary_search(&link).is_ok()
-    }
-
-    /// The items that `from` is linked to under `role`, lowest-numbered first:
-    /// in a rising list they stand side by side.
-    pub fn successors(&self, from: u16, role: u8) -> impl Iterator<Item = u16> + '_ {
-        let first = self
-            .links
-            .partition_point(|link| (link.0, link.1) < (from, role));
-        self.links[first..]
-            .iter()
-            .take_while(move |link| (link.0, link.1) == (from, role))
-            .map(|link| link.2)
-    }
 }
 
 /// Reads an image that is the whole of the bytes.

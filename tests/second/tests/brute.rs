@@ -6,9 +6,10 @@ use second::degree::{brute_degree, degree, margin, Degrees, DROPPED, UNMAPPED};
 use second::fraction::Fraction;
 use second::gen::requirements::tree;
 use second::gen::{self, small_pair, small_plain, small_register, Palette, Rng};
+use second::judged::Judged;
 use second::member::{brute_member, member};
 use second::reduce::{as_written, reduce, subsumed, whole_map_exists, Concept, Kept};
-use second::register::{self, Register};
+use second::register;
 use second::requirement::{self, written, Node};
 
 #[test]
@@ -113,17 +114,18 @@ fn the_greatest_scale_is_reached() {
 }
 
 /// The map shown, worked out from degrees that were tried map by map.
-fn shown_by_definition(register: &Register, concept: &Concept, item: u16) -> Vec<u16> {
-    fn visit(register: &Register, node: &Kept, item: u16, map: &mut [u16]) {
+fn shown_by_definition(judged: &Judged, concept: &Concept, item: u16) -> Vec<u16> {
+    fn visit(judged: &Judged, node: &Kept, item: u16, map: &mut [u16]) {
         map[node.number] = item;
         for (role, child) in &node.children {
-            let successors: Vec<u16> = (0..register.items() as u16)
-                .filter(|to| register.links.contains(&(item, *role, *to)))
+            let successors: Vec<u16> = judged
+                .each()
+                .filter(|to| judged.has_link((item, *role, *to)))
                 .collect();
-            let degree_of = |to: &u16| brute::degree_at(register, child, *to);
+            let degree_of = |to: &u16| brute::degree_at(judged, child, *to);
             if let Some(greatest) = successors.iter().map(degree_of).max() {
                 let lowest = successors.iter().find(|to| degree_of(to) == greatest);
-                visit(register, child, *lowest.expect("one has the greatest"), map);
+                visit(judged, child, *lowest.expect("one has the greatest"), map);
             }
         }
     }
@@ -132,7 +134,7 @@ fn shown_by_definition(register: &Register, concept: &Concept, item: u16) -> Vec
         .iter()
         .map(|gone| if *gone { DROPPED } else { UNMAPPED })
         .collect();
-    visit(register, &concept.root, item, &mut map);
+    visit(judged, &concept.root, item, &mut map);
     map
 }
 
@@ -148,10 +150,11 @@ fn the_degree_is_the_greatest_over_all_partial_maps() {
         let concept = reduce(&root);
         let register_bytes = register::encode(&register);
         let requirement_bytes = requirement::encode(&root);
-        for item in 0..register.items() {
-            let greatest = brute_degree(&register, &concept, item as u64).unwrap();
+        let judged = Judged::of(&register);
+        for item in judged.each() {
+            let greatest = brute_degree(&judged, &concept, item.into()).unwrap();
             let (num, den, map) =
-                degree(&register_bytes, &requirement_bytes, item as u64, 64).unwrap();
+                degree(&register_bytes, &requirement_bytes, item.into(), 64).unwrap();
             assert_eq!(
                 Fraction {
                     num: num.into(),
@@ -159,7 +162,7 @@ fn the_degree_is_the_greatest_over_all_partial_maps() {
                 },
                 greatest
             );
-            assert_eq!(map, shown_by_definition(&register, &concept, item as u16));
+            assert_eq!(map, shown_by_definition(&judged, &concept, item));
             assert_eq!(concept.scale().unwrap() % greatest.den, 0);
             strictly_between += usize::from(num > 0 && num < den);
             unmapped += usize::from(map.contains(&UNMAPPED));
@@ -179,7 +182,9 @@ fn the_margin_is_the_difference_over_the_common_product() {
         let root = small_plain(&mut rng, &palette);
         let item = rng.below(register.items() as u64);
         let concept = reduce(&root);
-        let greatest = brute_degree(&register, &concept, item).unwrap();
+        let Some(greatest) = brute_degree(&Judged::of(&register), &concept, item) else {
+            continue;
+        };
         let (p, q) = if rng.chance(4) && greatest.den <= 1000 {
             (greatest.num as u16, greatest.den as u16)
         } else {
@@ -216,14 +221,15 @@ fn a_yes_is_a_whole_threshold_respecting_map() {
         let (register, root) = small_pair(&mut rng);
         let register_bytes = register::encode(&register);
         let requirement_bytes = requirement::encode(&root);
-        for item in 0..register.items() as u64 {
+        let judged = Judged::of(&register);
+        for item in judged.each().map(u64::from) {
             let map = member(&register_bytes, &requirement_bytes, item, 64).unwrap();
-            let exists = brute_member(&register, &root, item).unwrap();
+            let exists = brute_member(&judged, &root, item).unwrap();
             assert_eq!(map.is_some(), exists);
             answers[usize::from(exists)] += 1;
             if let Some(map) = map {
                 yes_with_children += usize::from(map.len() > 1);
-                check_yes_map(&register, &root, item, &map);
+                check_yes_map(&judged, &root, item, &map);
             }
         }
     }
@@ -236,15 +242,15 @@ fn a_yes_is_a_whole_threshold_respecting_map() {
 
 /// Each child goes to the lowest-numbered successor from which the rest of its
 /// tree can be met, by brute force.
-fn check_yes_map(register: &Register, root: &Node, item: u64, map: &[u16]) {
+fn check_yes_map(judged: &Judged, root: &Node, item: u64, map: &[u16]) {
     let nodes = written(root);
     assert_eq!(map.len(), nodes.len());
     assert_eq!(u64::from(map[0]), item);
     for (number, written) in nodes.iter().enumerate().skip(1) {
         let (parent, role) = written.above.unwrap();
-        let lowest = (0..register.items() as u16).find(|to| {
-            register.links.contains(&(map[parent], role, *to))
-                && brute_member(register, written.node, (*to).into()) == Some(true)
+        let lowest = judged.each().find(|to| {
+            judged.has_link((map[parent], role, *to))
+                && brute_member(judged, written.node, (*to).into()) == Some(true)
         });
         assert_eq!(Some(map[number]), lowest);
     }
@@ -259,8 +265,12 @@ fn without_thresholds_a_yes_is_degree_one() {
         let register = gen::medium_register(&mut rng, &palette);
         let root = gen::plain_within_size(&mut rng, &palette);
         let concept = reduce(&root);
-        let mut degrees = Degrees::of(&register, &concept).unwrap();
+        let judged = Judged::of(&register);
+        let mut degrees = Degrees::of(&judged, &concept).unwrap();
         let item = rng.below(register.items() as u64);
+        if !judged.has(item as u16) {
+            continue;
+        }
         let whole = degrees.at(item as u16) == Fraction::ONE;
         let answer = member(
             &register::encode(&register),
@@ -282,18 +292,18 @@ fn without_thresholds_a_yes_is_degree_one() {
 fn the_degree_map_reaches_the_degree() {
     // On medium cases, too large for trying all maps: the shown map, scored
     // by the definition of a node's value, must give the answered degree.
-    fn value(register: &Register, node: &Kept, map: &[u16]) -> Fraction {
+    fn value(judged: &Judged, node: &Kept, map: &[u16]) -> Fraction {
         if node.n() == 0 {
             return Fraction::ONE;
         }
         let item = map[node.number];
-        let common = node.names & register.names[usize::from(item)];
+        let common = node.names & judged.names(item);
         let mut sum = Fraction::whole(common.count_ones().into());
         for (role, child) in &node.children {
             let to = map[child.number];
             if to != UNMAPPED {
-                assert!(register.has_link((item, *role, to)));
-                sum = sum.plus(value(register, child, map));
+                assert!(judged.has_link((item, *role, to)));
+                sum = sum.plus(value(judged, child, map));
             }
         }
         sum.over(node.n() as u128)
@@ -304,10 +314,11 @@ fn the_degree_map_reaches_the_degree() {
         let register = gen::medium_register(&mut rng, &palette);
         let root = gen::plain_within_size(&mut rng, &palette);
         let concept = reduce(&root);
-        let mut degrees = Degrees::of(&register, &concept).unwrap();
-        for item in 0..register.items() as u16 {
+        let judged = Judged::of(&register);
+        let mut degrees = Degrees::of(&judged, &concept).unwrap();
+        for item in judged.each() {
             let map = degrees.map(item);
-            assert_eq!(value(&register, &concept.root, &map), degrees.at(item));
+            assert_eq!(value(&judged, &concept.root, &map), degrees.at(item));
         }
     }
 }

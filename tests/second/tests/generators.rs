@@ -5,10 +5,12 @@ use std::collections::{BTreeMap, BTreeSet};
 
 use second::degree::{degree, Degrees, DROPPED, UNMAPPED};
 use second::gen::*;
+use second::judged::Judged;
 use second::member::member;
 use second::reduce::reduce;
 use second::register::{self, read_whole};
 use second::requirement::{self, thresholds, written, Node};
+use second::Refusal;
 
 #[test]
 fn the_same_seed_gives_the_same_inputs() {
@@ -106,8 +108,9 @@ fn thresholds_are_often_just_met() {
         let root = small_with_thresholds(&mut rng, &palette, &register);
         for threshold in thresholds(&root) {
             let concept = reduce(&threshold.inner);
-            let mut degrees = Degrees::of(&register, &concept).unwrap();
-            for item in 0..register.items() as u16 {
+            let judged = Judged::of(&register);
+            let mut degrees = Degrees::of(&judged, &concept).unwrap();
+            for item in judged.each() {
                 let degree = degrees.at(item);
                 let same = degree.num == threshold.p.into() && degree.den == threshold.q.into();
                 at += usize::from(same);
@@ -122,7 +125,7 @@ fn thresholds_are_often_just_met() {
 fn pairs_give_every_kind_of_answer() {
     let mut rng = Rng::new(55);
     let mut degrees = BTreeSet::new();
-    let (mut yes, mut no, mut dropped, mut unmapped) = (0, 0, 0, 0);
+    let (mut yes, mut no, mut dropped, mut unmapped, mut withdrawn) = (0, 0, 0, 0, 0);
     for _ in 0..3000 {
         let (register, root) = any_pair(&mut rng);
         let register_bytes = register::encode(&register);
@@ -133,9 +136,13 @@ fn pairs_give_every_kind_of_answer() {
             dropped += usize::from(map.contains(&DROPPED));
             unmapped += usize::from(map.contains(&UNMAPPED));
         }
-        match member(&register_bytes, &requirement_bytes, item, 64).expect("a good call") {
-            Some(_) => yes += 1,
-            None => no += 1,
+        match member(&register_bytes, &requirement_bytes, item, 64) {
+            Ok(Some(_)) => yes += 1,
+            Ok(None) => no += 1,
+            Err(refusal) => {
+                assert_eq!(refusal, Refusal::call(26));
+                withdrawn += 1;
+            }
         }
     }
     assert!(degrees.len() > 200, "{} degrees", degrees.len());
@@ -144,6 +151,7 @@ fn pairs_give_every_kind_of_answer() {
         "no large denominator"
     );
     assert!(yes > 300 && no > 300, "{yes} yes, {no} no");
+    assert!(withdrawn > 300, "{withdrawn} withdrawn");
     assert!(
         dropped > 300 && unmapped > 300,
         "{dropped} dropped, {unmapped} unmapped"

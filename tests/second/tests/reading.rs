@@ -207,7 +207,7 @@ fn nothing_panics() {
     use second::member::member;
     let mut rng = Rng::new(27);
     let mut answered = 0;
-    for _ in 0..3000 {
+    for _ in 0..3600 {
         let (register, requirement) = any_pair_bytes(&mut rng);
         let item = if rng.chance(4) {
             rng.word()

@@ -1,15 +1,21 @@
 //! The words that a text declares for numbers: `name 3 timecode`, `role 0 feeds`.
 //!
-//! Wherever a word may stand, its number may too.
+//! Wherever a word may stand, its number may too. Name 63 has a meaning of its
+//! own, and its word in every text: `withdrawn`, declared or not.
 
 use crate::fault::Fault;
 use crate::line::{self, Line};
+
+/// The name of a withdrawn item, and its word.
+const WITHDRAWN: (u16, &str) = (63, "withdrawn");
 
 /// The words for one kind of number, 0 to `most`.
 #[derive(Clone, Debug)]
 pub struct List {
     kind: &'static str,
     most: u16,
+    /// A number that has its word without a declaration.
+    fixed: Option<(u16, &'static str)>,
     words: Vec<(u16, String)>,
 }
 
@@ -18,11 +24,13 @@ impl List {
         List {
             kind,
             most,
+            fixed: None,
             words: Vec::new(),
         }
     }
 
-    /// Declares a word. Number and word are each declared once.
+    /// Declares a word. Number and word are each declared once; what is fixed may
+    /// be declared as it is.
     pub fn declare(&mut self, number: u16, word: &str) -> Result<(), String> {
         let kind = self.kind;
         if !is_word(word) {
@@ -30,7 +38,10 @@ impl List {
                 "'{word}' is no word: a letter, then letters, digits, '-' and '_'"
             ));
         }
-        if let Some((other, _)) = self.words.iter().find(|(_, one)| one == word) {
+        if self.fixed == Some((number, word)) {
+            return Ok(());
+        }
+        if let Some(other) = self.called(word) {
             return Err(format!("'{word}' is {kind} {other} already"));
         }
         if let Some(other) = self.word(number) {
@@ -57,17 +68,28 @@ impl List {
         if said.starts_with(|one: char| one.is_ascii_digit()) {
             return self.number(said);
         }
-        match self.words.iter().find(|(_, word)| word == said) {
-            Some((number, _)) => Ok(*number),
+        match self.called(said) {
+            Some(number) => Ok(number),
             None => Err(format!("no {} is called '{said}'", self.kind)),
         }
     }
 
+    /// Each number that has a word, with it.
+    fn all(&self) -> impl Iterator<Item = (u16, &str)> {
+        let declared = self.words.iter();
+        let declared = declared.map(|(number, word)| (*number, word.as_str()));
+        self.fixed.into_iter().chain(declared)
+    }
+
+    fn called(&self, said: &str) -> Option<u16> {
+        let mut all = self.all();
+        all.find(|(_, word)| *word == said)
+            .map(|(number, _)| number)
+    }
+
     pub fn word(&self, number: u16) -> Option<&str> {
-        self.words
-            .iter()
-            .find(|(one, _)| *one == number)
-            .map(|(_, word)| word.as_str())
+        let mut all = self.all();
+        all.find(|(one, _)| *one == number).map(|(_, word)| word)
     }
 
     /// The word for a number, or the number where it has none.
@@ -99,7 +121,10 @@ pub struct Words {
 impl Default for Words {
     fn default() -> Words {
         Words {
-            names: List::new("name", 63),
+            names: List {
+                fixed: Some(WITHDRAWN),
+                ..List::new("name", 63)
+            },
             roles: List::new("role", 31),
         }
     }

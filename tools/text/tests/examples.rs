@@ -36,7 +36,7 @@ fn requirement_bytes(text: &str) -> Result<Vec<u8>, Fault> {
 fn the_text_says_the_bytes() {
     let registers = pairs(".register");
     let requirements = pairs(".requirement");
-    assert_eq!((registers.len(), requirements.len()), (1, 4));
+    assert_eq!((registers.len(), requirements.len()), (2, 5));
     for (name, bytes, text) in registers {
         assert_eq!(register_bytes(&text).unwrap(), bytes, "{name}");
     }
@@ -78,9 +78,9 @@ fn the_bytes_come_back() {
 /// Each text declares its own words: one word is one number throughout.
 #[test]
 fn the_words_agree() {
-    let (_, _, text) = pairs(".register").remove(0);
+    let text = fs::read_to_string(folder().join("house.register.txt")).unwrap();
     let house = Words::of(&text).unwrap();
-    for (name, _, text) in pairs(".requirement") {
+    for (name, _, text) in pairs(".requirement").into_iter().chain(pairs(".register")) {
         let words = Words::of(&text).unwrap();
         for (number, word) in words.names.declared() {
             assert_eq!(house.names.resolve(word), Ok(*number), "{name}");

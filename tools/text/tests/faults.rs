@@ -75,6 +75,18 @@ fn registers() {
             "line 2: '4x' is no word: a letter, then letters, digits, '-' and '_'",
         ),
         ("register\nname 64 a\n", "line 2: name 64 is above 63"),
+        (
+            "register\nname 63 repair\n",
+            "line 2: name 63 is 'withdrawn' already",
+        ),
+        (
+            "register\nname 62 withdrawn\n",
+            "line 2: 'withdrawn' is name 63 already",
+        ),
+        (
+            "register\nitem 0: withdrawn 63\n",
+            "line 2: the name '63' stands here already",
+        ),
         ("register\nrole 32 a\n", "line 2: role 32 is above 31"),
         (
             "register\nrole feeds\n",

@@ -1,12 +1,15 @@
-//! The doubled line of examples/ is what its comment says: scored as written
-//! it passes a board at 3/4, and the degree is 1/2.
+//! What two of examples/ say of themselves. The doubled line, scored as written,
+//! passes a board at 3/4, and the degree is 1/2. With the boards that are out for
+//! repair counted in, a pick list offers one that is not in the building.
 
 use std::path::Path;
 
 use second::degree::degree;
 use second::fraction::Fraction;
-use second::register::{read_whole, Register};
+use second::judged::{Judged, WITHDRAWN};
+use second::register::read_whole;
 use second::requirement::{self, Node};
+use second::Refusal;
 
 fn example(name: &str) -> Vec<u8> {
     let folder = Path::new(env!("CARGO_MANIFEST_DIR")).join("../../examples");
@@ -14,17 +17,17 @@ fn example(name: &str) -> Vec<u8> {
 }
 
 /// The slip: the value of the tree as it is written, nothing dropped.
-fn as_written(register: &Register, node: &Node, item: u16) -> Fraction {
+fn as_written(judged: &Judged, node: &Node, item: u16) -> Fraction {
     let n = node.names.count_ones() as usize + node.children.len();
     if n == 0 {
         return Fraction::ONE;
     }
-    let held = register.names[usize::from(item)] & node.names;
+    let held = judged.names(item) & node.names;
     let mut sum = Fraction::whole(u128::from(held.count_ones()));
     for (role, child) in &node.children {
-        let values = register
+        let values = judged
             .successors(item, *role)
-            .map(|to| as_written(register, child, to));
+            .map(|to| as_written(judged, child, to));
         if let Some(best) = values.max() {
             sum = sum.plus(best);
         }
@@ -36,10 +39,25 @@ fn as_written(register: &Register, node: &Node, item: u16) -> Fraction {
 fn the_doubled_line() {
     let house = example("house.register");
     let doubled = example("doubled.requirement");
-    let register = read_whole(&house).unwrap();
+    let judged = Judged::of(&read_whole(&house).unwrap());
     let root = requirement::read(&doubled).unwrap();
-    assert_eq!(as_written(&register, &root, 2), Fraction::new(3, 4));
+    assert_eq!(as_written(&judged, &root, 2), Fraction::new(3, 4));
     let (num, den, map) = degree(&house, &doubled, 2, 64).unwrap();
     assert_eq!((num, den), (1, 2));
     assert_eq!(map, [2, 65_534, 11]);
+}
+
+/// The register with nothing withdrawn, and as it is.
+#[test]
+fn out_for_repair() {
+    let register = example("repair.register");
+    let wanted = example("repair.requirement");
+    let mut all = read_whole(&register).unwrap();
+    for names in &mut all.names {
+        *names &= !(1 << WITHDRAWN);
+    }
+    let all = second::register::encode(&all);
+    assert_eq!(degree(&all, &wanted, 0, 3), Ok((1, 1, vec![0, 3, 1])));
+    assert_eq!(degree(&register, &wanted, 0, 3), Ok((5, 6, vec![0, 4, 1])));
+    assert_eq!(degree(&register, &wanted, 3, 3), Err(Refusal::call(26)));
 }

@@ -15,7 +15,7 @@ use svelgandur_text::{
 /// Words for some of the numbers: where there is none, the number is shown.
 fn some_words() -> Words {
     let mut text = String::new();
-    for number in (0..64).step_by(3) {
+    for number in (0..63).step_by(3) {
         text.push_str(&format!("name {number} n{number}\n"));
     }
     for number in (1..32).step_by(2) {
@@ -81,6 +81,38 @@ fn requirement_same(bytes: &[u8], words: &Words) {
 fn the_sheet() {
     register_round(&R1, &Words::default()).unwrap();
     requirement_round(&Q1, &Words::default()).unwrap();
+}
+
+/// Name 63 by its word and by its number, with the declaration and without: it
+/// is written as the word.
+#[test]
+fn withdrawn() {
+    let declared = "name 63 withdrawn\n";
+    let shown = "register\nitem 0: 1 withdrawn\nitem 1: withdrawn\n";
+    let said = [
+        shown.to_string(),
+        shown.replace("withdrawn", "63"),
+        shown.replacen("item", &format!("{declared}item"), 1),
+    ];
+    let bytes = [
+        1, 0, 20, 0, 2, 128, 0, 0, 0, 0, 0, 0, 2, 128, 0, 0, 0, 0, 0, 0, 0, 0, 0,
+    ];
+    for text in said {
+        let register = register_text::parse(&text).unwrap();
+        assert_eq!(register.to_bytes(), bytes);
+        for words in [Words::default(), Words::of(&text).unwrap(), some_words()] {
+            let printed = register_text::print(&register, &words);
+            assert_eq!(printed.matches("withdrawn").count(), 2);
+        }
+        assert_eq!(register_text::print(&register, &Words::default()), shown);
+    }
+    let shown = "requirement\nroot: withdrawn\n  > 1/2: 1 withdrawn\n  0: withdrawn\n";
+    for text in [shown.to_string(), shown.replace("withdrawn", "63")] {
+        let requirement = requirement_text::parse(&text).unwrap();
+        assert_eq!(requirement.root.names, 1 << 63);
+        let printed = requirement_text::print(&requirement, &Words::default());
+        assert_eq!(printed, shown);
+    }
 }
 
 #[test]

@@ -4,9 +4,7 @@ use borrow.Author.Needs.{needs}
 use Rattle.deciding.proofs.decide_read.Statement.{statement}
 use Rattle.deciding.proofs.decide_read.Tie as tie
 use mathlib.Core.Path.{sym, _∙_}
-use native.Mathlib.Omega.{arith}
 use Rattle.fields.proofs.Known.{bytes-known}
-use Rattle.meaning.proofs.Image.{image-fits}
 use Rattle.graph.proofs.Empty.{zero-at}
 use Rattle.meeting.proofs.Settled.{zeros-length}
 use Rattle.deciding.proofs.BothRead.{required, settled-by}
@@ -14,9 +12,7 @@ use Rattle.deciding.proofs.BothRead.{required, settled-by}
 fill-index-requires : tie.Need-fill-index-requires
 fill-index-requires c κs =
     let known = c .before .before .before .before .before .before .before .before .before in
-    let g = known .before .pre .0 .posed .graph in
-    let b = bytes-known (known .before .args .image .now) (known .shared-slice-known .given) in
-    (g, (omega (arith, g .holds .0, image-fits _ (g .register) b (g .read) .0 .items, zeros-length 513), zero-at 513))
+    (known .before .pre .0 .posed .graph, (zeros-length 514, zero-at 514))
 
 settle-requires : tie.Need-settle-requires
 settle-requires c κs =
@@ -54,7 +50,7 @@ decide-read-spec =
     (λ c κs. search needs)
     (λ c. search needs)
     fill-index-requires
-    (λ c. sym (c .before .before .fill-index .kept .1 .1 .1 .0 ∙ zeros-length 513))
+    (λ c. sym (c .before .before .fill-index .kept .1 .1 .1 .0 ∙ zeros-length 514))
     settle-requires
     (λ c. search needs)
     returns)

@@ -16,5 +16,3 @@ print-spec =
     (λ c. search needs)
     (λ c κs. search needs)
     (λ c. search needs))
-
--- x

@@ -16,19 +16,7 @@ print-rated-spec =
     (tie.spec
     (λ c. search needs)
     (λ c κs.
-    let at-shared-slice-known = c .before in
-    let start = at-shared-slice-known .before in (
-      start .pre .0 .1 .gradable .posed .graph,
-      (
-        omega (
-          arith,
-          length-replicate {A = ℕ} 513 0,
-          sizes-fit (start .pre .0 .1 .gradable .posed .graph) (bytes-known (start
-              .args .image .now) (at-shared-slice-known .shared-slice-known .given)) .0,
-        ),
-        zero-at 513,
-      ),
-    ))
+    (c .before .before .pre .0 .1 .gradable .posed .graph, (length-replicate {A = ℕ} 514 0, zero-at 514)))
     (λ c. search needs)
     (λ c. search needs)
     (λ c. search needs)

@@ -6,7 +6,7 @@ use mathlib.Core.Path.{_≡_, refl, ap, _∙_}
 use lib.ListN.{length, length-set}
 use Rattle.meaning.specs.Names.{common}
 use Rattle.meaning.specs.Names.{names as many}
-use Rattle.meaning.specs.Register.{judged}
+use Rattle.graph.specs.Walked.{walked}
 use Rattle.meaning.specs.Degree.{orOne}
 use Rattle.meaning.proofs.Tests.{true-false}
 use Rattle.register.specs.Image.{Image}
@@ -18,7 +18,7 @@ use borrow.Author.Needs.{needs}
 abbrev Inv-loop : tie.InvT-loop
 Inv-loop s names set at numbers₀ x₀ numbers x =
     (x ≤ 512) × (x < 512 → Member set x) × (length numbers ≡ length numbers₀)
-    × Image s (λ g. Filled (λ x. orOne (many names) (common names (judged g .names x))) (Member set) at numbers₀ numbers x)
+    × Image s (λ g. Filled (λ x. orOne (many names) (common names (walked g .names x))) (Member set) at numbers₀ numbers x)
 
 abbrev μ-loop : tie.MeasureT-loop
 μ-loop s names set at numbers₀ x₀ numbers x =

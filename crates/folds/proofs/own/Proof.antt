@@ -6,7 +6,7 @@ use mathlib.Core.Path.{_≡_, refl, ap, _∙_}
 use mathlib.Core.Logic.{inr}
 use lib.ListN.{length, length-set}
 use Rattle.meaning.specs.Names.{common}
-use Rattle.meaning.specs.Register.{judged}
+use Rattle.graph.specs.Walked.{walked}
 use Rattle.meaning.proofs.Tests.{true-false}
 use Rattle.register.specs.Image.{Image}
 use Rattle.graph.proofs.Members.{member-few}
@@ -18,7 +18,7 @@ use borrow.Author.Needs.{needs}
 abbrev Inv-loop : tie.InvT-loop
 Inv-loop s names scale set at numbers₀ x₀ numbers x =
     (x ≤ 512) × (x < 512 → Member set x) × (length numbers ≡ length numbers₀)
-    × Image s (λ g. Filled (λ x. common names (judged g .names x) * scale + rowAt numbers₀ (at + 512) x) (Member set) at numbers₀ numbers x)
+    × Image s (λ g. Filled (λ x. common names (walked g .names x) * scale + rowAt numbers₀ (at + 512) x) (Member set) at numbers₀ numbers x)
 
 abbrev μ-loop : tie.MeasureT-loop
 μ-loop s names scale set at numbers₀ x₀ numbers x =

@@ -11,11 +11,11 @@ from-role-spec =
     tie.close
     (tie.spec
     (λ c. search needs)
-    (λ c. omega (arith, c .before .before .before .pre .0 .room))
+    (λ c. let j = c .before .before .before .pre .0 in omega (arith, j .room, j .most))
     (λ c κs. search needs)
     (λ c. search needs)
     (λ c. search needs)
-    (λ c. omega (arith, c .before .before .before .before .before .pre .0 .room))
+    (λ c. let j = c .before .before .before .before .before .pre .0 in omega (arith, j .room, j .most))
     (λ c κs. search needs)
     (λ c κs.
     let at-pair = c .before .before in

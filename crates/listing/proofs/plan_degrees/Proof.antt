@@ -14,24 +14,23 @@ returns : tie.Need-returns
 returns c =
     let at-put-word = c .before .before in
     let at-enum-told = at-put-word .before .before .before in
-    let at-degree-of = at-enum-told .before .before .before in
-    let start = at-degree-of .before .before .before .before .before in
-    let all = listed-degrees _ _ _ _ _ _ _ (at-enum-told .enum-told .given .1) (at-degree-of .degree-of .ensures .0) in
+    let at-read-plain = at-enum-told .before .before in
+    let start = at-read-plain .before .before .before .before .before .before .before .before in
+    let all = listed-degrees _ _ _ _ _ (at-read-plain .read-plain .ensures) _ (at-enum-told .enum-told .given .1) in
     opens _ _ _ _ degreeHead _ (begins (at-put-word .put-word .ensures) (omega (arith, start .pre .0, at-put-word .put-word .ensures .next))) (start .pre .1) refl all
 
 returns-2 : tie.Need-returns-2
 returns-2 c =
     let at-only = c .before .before in
-    let at-a = at-only .before .before .before in
-    let at-degree-of = at-a .before .before .before in
-    let all = listed-refused _ _ _ _ _ (at-a .a .given .1) (at-degree-of .degree-of .ensures .0) in
+    let at-p = at-only .before .before .before in
+    let at-read-plain = at-p .before .before in
+    let all = listed-refused _ _ _ _ _ (at-read-plain .read-plain .ensures) _ (at-p .p .given .1) in
     opens-as all (opens-line _ _ _ _ _ (at-only .only .ensures .0) (at-only .only .ensures .1) (at-only .only .ensures .2))
 
 pub plan-degrees-spec : {M : Type 1} → statement M
 plan-degrees-spec =
     tie.close
     (tie.spec
-    (λ c. search needs)
     (λ c κs. search needs)
     (λ c. search needs)
     (λ c. search needs)

@@ -4,9 +4,7 @@ use borrow.Author.Needs.{needs}
 use Rattle.member_rows.proofs.print_judged.Statement.{statement}
 use Rattle.member_rows.proofs.print_judged.Tie as tie
 use mathlib.Core.Path.{refl, _∙_}
-use native.Mathlib.Omega.{arith}
 use Rattle.meaning.specs.Bytes.{Bytes}
-use Rattle.meaning.proofs.Image.{image-fits}
 use Rattle.fields.proofs.Known.{bytes-known}
 use Rattle.graph.proofs.Empty.{zero-at}
 use Rattle.meeting.proofs.Settled.{zeros-length}
@@ -22,9 +20,7 @@ message c = bytes-known (start c .args .message .now) (c .before .before .before
 fill-index-requires : tie.Need-fill-index-requires
 fill-index-requires c κs =
     let known = c .before .before .before .before .before .before .before .before in
-    let g = known .before .pre .0 .posed .graph in
-    let b = bytes-known (known .before .args .image .now) (known .shared-slice-known .given) in
-    (g, (omega (arith, g .holds .0, image-fits _ (g .register) b (g .read) .0 .items, zeros-length 513), zero-at 513))
+    (known .before .pre .0 .posed .graph, (zeros-length 514, zero-at 514))
 
 judge-requires : tie.Need-judge-requires
 judge-requires c κs =

@@ -4,7 +4,7 @@ use mathlib.Core.Path.{_≡_, sym, subst, _∙_}
 use Prim.Native.Nat.{ℕ, _-_, _≤_}
 use native.Mathlib.Omega.{arith}
 use lib.ListN.{length, getD}
-use Rattle.meaning.specs.Register.{judged}
+use Rattle.graph.specs.Walked.{walked}
 use Rattle.graph.specs.Judged.{Judged}
 use Rattle.graph.specs.Sets.{Among}
 use Rattle.screening.specs.Standing.{AllStand, StandsAt, noThreshold}
@@ -15,7 +15,7 @@ use borrow.Author.Needs.{needs}
 abbrev Inv-loop : tie.InvT-loop
 Inv-loop s items index message owners firsts parts node set₀ k₀ set k =
     (length set ≡ 8) × (k ≤ parts) × Among items set
-    × ((j : Judged s items index) (a : AllStand message firsts parts) → Through (judged (j .register)) owners (a .thresholds) node set₀ set k)
+    × ((j : Judged s items index) (a : AllStand message firsts parts) → Through (walked (j .register)) owners (a .thresholds) node set₀ set k)
 
 abbrev μ-loop : tie.MeasureT-loop
 μ-loop s items index message owners firsts parts node set₀ k₀ set k =

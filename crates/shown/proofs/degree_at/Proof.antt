@@ -2,12 +2,10 @@ use borrow.Author.Needs.{needs}
 use Rattle.shown.proofs.degree_at.Statement.{statement}
 use Rattle.shown.proofs.degree_at.Tie as tie
 use Prim.Native.Nat.{ℕ}
-use native.Mathlib.Omega.{arith}
 use lib.ListN.{length-replicate}
-use Rattle.fields.proofs.Known.{bytes-known}
 use Rattle.graph.proofs.Empty.{zero-at}
 use Rattle.folds.proofs.Noting.{clear-none}
-use Rattle.shown.proofs.Alone.{sizes-fit, with-index, graded-of}
+use Rattle.shown.proofs.Alone.{with-index, graded-of}
 
 pub degree-at-spec : {M : Type 1} → statement M
 degree-at-spec =
@@ -15,10 +13,7 @@ degree-at-spec =
     (tie.spec
     (λ c. search needs)
     (λ c κs.
-    let at-shared-slice-known = c .before in
-    let start = at-shared-slice-known .before in
-    let few = sizes-fit (start .pre .0 .posed .graph) (bytes-known (start .args .s .now) (at-shared-slice-known .shared-slice-known .given)) .0 in
-    (start .pre .0 .posed .graph, (omega (arith, length-replicate {A = ℕ} 513 0, few), zero-at 513)))
+    (c .before .before .pre .0 .posed .graph, (length-replicate {A = ℕ} 514 0, zero-at 514)))
     (λ c. search needs)
     (λ c. search needs)
     (λ c. search needs)

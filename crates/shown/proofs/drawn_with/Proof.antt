@@ -4,9 +4,8 @@ use Rattle.shown.proofs.drawn_with.Tie as tie
 use Prim.Native.Nat.{ℕ}
 use native.Mathlib.Omega.{arith}
 use lib.ListN.{length-replicate}
-use Rattle.fields.proofs.Known.{bytes-known}
 use Rattle.graph.proofs.Empty.{zero-at}
-use Rattle.shown.proofs.Alone.{sizes-fit, clear-zeros, with-index, graded-of, drawing-of, drawn-of}
+use Rattle.shown.proofs.Alone.{clear-zeros, with-index, graded-of, drawing-of, drawn-of}
 
 pub drawn-with-spec : {M : Type 1} → statement M
 drawn-with-spec =
@@ -14,10 +13,7 @@ drawn-with-spec =
     (tie.spec
     (λ c. search needs)
     (λ c κs.
-    let at-shared-slice-known = c .before .before .before in
-    let start = at-shared-slice-known .before in
-    let few = sizes-fit (start .pre .0 .posed .graph) (bytes-known (start .args .s .now) (at-shared-slice-known .shared-slice-known .given)) .0 in
-    (start .pre .0 .posed .graph, (omega (arith, length-replicate {A = ℕ} 513 0, few), zero-at 513)))
+    (c .before .before .before .before .pre .0 .posed .graph, (length-replicate {A = ℕ} 514 0, zero-at 514)))
     (λ c. search needs)
     (λ c κs.
     let at-fill-index = c .before .before .before in

@@ -23,10 +23,10 @@ found-spec =
     μ-loop
     (λ c. omega (arith, c .before .before .before .pre .0 .0 .most))
     (λ c. omega (arith, c .before .before .before .pre .0 .0 .most))
-    (λ c. omega (arith, c .before .before .before .before .pre .0 .0 .room))
+    (λ c. let j = c .before .before .before .before .pre .0 .0 in omega (arith, j .room, j .most))
     (λ c κs. search needs)
     (λ c. omega (arith, c .before .before .before .before .before .pre .0 .0 .most))
-    (λ c. omega (arith, c .before .before .before .before .before .before .pre .0 .0 .room))
+    (λ c. let j = c .before .before .before .before .before .before .pre .0 .0 in omega (arith, j .room, j .most))
     (λ c κs. search needs)
     (λ c.
     let start = c .before .before .before .before .before .before .before in

@@ -4,14 +4,14 @@ use mathlib.Core.Path.{_≡_, refl}
 use Prim.Native.Nat.{ℕ, _≤_, _<_, _-_}
 use native.Mathlib.Omega.{arith}
 use lib.ListN.{length, getD, length-set}
-use Rattle.meaning.specs.Register.{judged}
+use Rattle.graph.specs.Walked.{walked}
 use Rattle.register.specs.Image.{Image}
 use Rattle.tables.proofs.Stored.{noted-more}
 use borrow.Author.Needs.{needs}
 
 abbrev Inv-loop : tie.InvT-loop
 Inv-loop s items held₀ x₀ held x =
-    (x ≤ items) × (length held ≡ length held₀) × Image s (λ g. (y : ℕ) → y < x → getD held y 0 ≡ judged g .names y)
+    (x ≤ items) × (length held ≡ length held₀) × Image s (λ g. (y : ℕ) → y < x → getD held y 0 ≡ walked g .names y)
 
 abbrev μ-loop : tie.MeasureT-loop
 μ-loop s items held₀ x₀ held x =
@@ -35,7 +35,7 @@ hold-spec =
     let turn = c .before .before in (
       omega arith,
       simp length-set (turn .loop .inv .1),
-      λ g h. noted-more (judged g .names) (turn .loop .held) (turn .loop .x) _ (omega (arith, turn .loop .inv .1))
+      λ g h. noted-more (walked g .names) (turn .loop .held) (turn .loop .x) _ (omega (arith, turn .loop .inv .1))
           (turn .loop .inv .2 g h) (c .names .ensures g h),
     ))
     (λ c. c .before .loop .inv .1)

@@ -7,7 +7,7 @@ use Prim.Native.Nat.{ℕ, _-_, _<_}
 use native.Mathlib.Omega.{arith}
 use lib.Dec.{eqb}
 use lib.ListN.{length}
-use Rattle.meaning.specs.Register.{judged}
+use Rattle.graph.specs.Walked.{walked}
 use Rattle.meaning.specs.Whole.{any}
 use Rattle.fields.proofs.Known.{bytes-known}
 use Rattle.graph.specs.Judged.{Judged}
@@ -19,7 +19,7 @@ use borrow.Author.Needs.{needs}
 
 abbrev Inv-loop : tie.InvT-loop
 Inv-loop s items index role child set₀ x₀ set x =
-    (length set ≡ 8) × ((j : Judged s items index) → Sifting (λ z. any (λ y. inSet child y) (judged (j .register) .next z role)) set₀ set x)
+    (length set ≡ 8) × ((j : Judged s items index) → Sifting (λ z. any (λ y. inSet child y) (walked (j .register) .next z role)) set₀ set x)
 
 abbrev μ-loop : tie.MeasureT-loop
 μ-loop s items index role child set₀ x₀ set x =
@@ -43,7 +43,7 @@ loop-again c =
     let a = c .before .before .before .before .before .before .before .before .before .before .before .before .before .before .before .args in
     let b = bytes-known (a .s .now) (c .before .before .before .before .before .before .before .before .before .before .before .before .before .before .shared-slice-known .given) in
     let x = c .before .before .before .before .before .before .before .before .loop .x in
-    let few : (j : Judged (a .s .now) (a .items) (a .index .now)) (y : ℕ) → List·Memᴰ y (judged (j .register) .next x (a .role)) → y < 65535 =
+    let few : (j : Judged (a .s .now) (a .items) (a .index .now)) (y : ℕ) → List·Memᴰ y (walked (j .register) .next x (a .role)) → y < 65535 =
     λ j y m. omega (arith, next-inside j b x (a .role) y m, j .most) in
     let w = c .before .before .before .before .before .before .before .before .loop .inv in
     let said = c .before .before .before .before .before .before .seek .ensures in

@@ -5,14 +5,14 @@ use Prim.Native.Nat.{ℕ, _-_}
 use native.Mathlib.Omega.{arith}
 use lib.ListN.{length, getD}
 use Rattle.meaning.specs.Names.{within}
-use Rattle.meaning.specs.Register.{judged}
+use Rattle.graph.specs.Walked.{walked}
 use Rattle.register.specs.Image.{Image}
 use Rattle.screening.proofs.Sifting.{Sifting, sifting-start, sifting-old, sifting-step, sifting-end}
 use borrow.Author.Needs.{needs}
 
 abbrev Inv-loop : tie.InvT-loop
 Inv-loop s names node set₀ wanted x₀ set x =
-    (length set ≡ 8) × Image s (λ g. Sifting (λ z. within (getD names node 0) (judged g .names z)) set₀ set x)
+    (length set ≡ 8) × Image s (λ g. Sifting (λ z. within (getD names node 0) (walked g .names z)) set₀ set x)
 
 abbrev μ-loop : tie.MeasureT-loop
 μ-loop s names node set₀ wanted x₀ set x =

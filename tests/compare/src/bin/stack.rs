@@ -8,7 +8,7 @@ use compare::library;
 use compare::painted::Stack;
 use compare::worst::{
     all_linked, broom, bushy, chain, chain_to, comb, deep_halves, fans, halves, late, late_halves,
-    late_to, sixteen_on_the_last, sixteen_thresholds, triplets, wide,
+    late_to, sixteen_on_the_last, sixteen_thresholds, triplets, wide, with_withdrawn,
 };
 use second::gen::{any_pair_bytes, Rng};
 use second::register;
@@ -41,8 +41,16 @@ impl Input {
 
 /// The costliest pairs, and others.
 fn inputs() -> Vec<Input> {
-    let largest = register::encode(&fans());
-    let linked = register::encode(&all_linked(|item| item as u64));
+    let linked = all_linked(|item| item as u64);
+    // Without withdrawn items and with some: the one goes everywhere, and in the
+    // other links end where nothing is judged.
+    let images = [
+        fans(),
+        with_withdrawn(fans(), 10),
+        with_withdrawn(linked.clone(), 3),
+        linked,
+    ]
+    .map(|register| register::encode(&register));
     let trees = [
         bushy(),
         comb(),
@@ -71,7 +79,7 @@ fn inputs() -> Vec<Input> {
     let mut list = Vec::new();
     for root in &roots {
         let message = requirement::encode(root);
-        for image in [&largest, &linked] {
+        for image in &images {
             list.push(Input::new(image.clone(), message.clone()));
         }
     }

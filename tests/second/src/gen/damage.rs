@@ -315,6 +315,7 @@ fn overgrown(rng: &mut Rng, good: &Node) -> Node {
     let palette = Palette {
         names: vec![0, 1, 2],
         roles: vec![0, 1],
+        withdrawn: 0,
     };
     let mut root = good.clone();
     let threshold = |inner: Node| Threshold {

@@ -5,6 +5,7 @@
 use super::damage::mend_head;
 use super::registers::{largest_register, Palette};
 use super::rng::Rng;
+use crate::judged::WITHDRAWN;
 use crate::register::{self, Register};
 use crate::requirement::{self, Comparison, Node, Threshold};
 
@@ -223,6 +224,7 @@ pub fn register_edges() -> Vec<Edge> {
     let palette = Palette {
         names: (0..64).collect(),
         roles: (0..32).collect(),
+        withdrawn: 0,
     };
     let largest = largest_register(&mut rng, &palette);
     edges.taken("the largest image", register::encode(&largest));
@@ -252,6 +254,13 @@ pub fn register_edges() -> Vec<Edge> {
         register::encode(&last_end),
         5,
         24_583 - 2,
+    );
+    edges.taken(
+        "512 withdrawn items",
+        register::encode(&Register {
+            names: vec![1 << WITHDRAWN; 512],
+            links: vec![],
+        }),
     );
     edges.taken(
         "512 bare items",

@@ -1,42 +1,47 @@
-//! Good registers, small to largest, with cycles, links of an item to itself
-//! and successors that many items share.
+//! Good registers, small to largest, with cycles, links of an item to itself,
+//! successors that many items share, and withdrawn items.
 
 use std::collections::BTreeSet;
 
 use super::rng::Rng;
+use crate::judged::WITHDRAWN;
 use crate::register::{Register, MOST_ITEMS, MOST_LINKS};
 
 /// The names and roles that a register and its requirement draw from. Few of
 /// each make common names and successors likely.
 #[derive(Clone, Debug)]
 pub struct Palette {
+    /// Where name 63 is among them, a requirement asks for it and no item holds
+    /// it for that.
     pub names: Vec<u8>,
     pub roles: Vec<u8>,
+    /// One item in so many is withdrawn, and none where this is 0.
+    pub withdrawn: u64,
 }
 
 impl Palette {
     pub fn any(rng: &mut Rng) -> Palette {
-        match rng.below(6) {
-            0 | 1 => Palette {
-                names: vec![0, 1, 2],
-                roles: vec![0, 1],
-            },
-            2 => Palette {
-                names: vec![1, 2],
-                roles: vec![0],
-            },
-            3 => Palette {
-                names: vec![60, 61, 62, 63],
-                roles: vec![30, 31],
-            },
-            4 => Palette {
-                names: vec![0, 7, 8, 31, 32, 63],
-                roles: vec![0, 15, 31],
-            },
-            _ => Palette {
-                names: (0..64).collect(),
-                roles: (0..32).collect(),
-            },
+        let (mut names, roles): (Vec<u8>, Vec<u8>) = match rng.below(6) {
+            0 | 1 => (vec![0, 1, 2], vec![0, 1]),
+            2 => (vec![1, 2], vec![0]),
+            3 => (vec![59, 60, 61, 62], vec![30, 31]),
+            4 => (vec![0, 7, 8, 31, 32, 62], vec![0, 15, 31]),
+            _ => ((0..63).collect(), (0..32).collect()),
+        };
+        if rng.chance(8) {
+            names.push(WITHDRAWN as u8);
+        }
+        // Most registers have none or few, and a few have no other.
+        let withdrawn = match rng.below(16) {
+            0 => 1,
+            1 | 2 => 2,
+            3..=7 => 6,
+            _ => 0,
+        };
+        Palette {
+            names,
+            roles,
+            withdrawn,
         }
     }
 
@@ -46,6 +51,16 @@ impl Palette {
             0,
             |set, name| if rng.chance(2) { set | 1 << name } else { set },
         )
+    }
+
+    /// What an item holds: such a set, and whether it is withdrawn.
+    pub fn held(&self, rng: &mut Rng) -> u64 {
+        let names = self.names(rng) & !(1 << WITHDRAWN);
+        if self.withdrawn > 0 && rng.chance(self.withdrawn) {
+            names | 1 << WITHDRAWN
+        } else {
+            names
+        }
     }
 
     /// A set of few names, as a node of a large tree has them.
@@ -82,7 +97,7 @@ pub fn largest_register(rng: &mut Rng, palette: &Palette) -> Register {
 
 /// A register with so many items and, where there is room for them, links.
 pub fn register_of(rng: &mut Rng, palette: &Palette, items: usize, links: usize) -> Register {
-    let names = (0..items).map(|_| palette.names(rng)).collect();
+    let names = (0..items).map(|_| palette.held(rng)).collect();
     let mut set = BTreeSet::new();
     // Small registers may have fewer different links than were asked for.
     for _ in 0..links * 40 {

@@ -4,8 +4,9 @@
 use super::registers::Palette;
 use super::rng::Rng;
 use crate::degree::Degrees;
+use crate::judged::{Judged, WITHDRAWN};
 use crate::reduce::{reduce, MOST_SIZE};
-use crate::register::{Link, Register};
+use crate::register::Register;
 use crate::requirement::{
     fraction_fault, written, Comparison, Node, Threshold, MOST_DEPTH, MOST_NODES, MOST_THRESHOLDS,
 };
@@ -203,8 +204,10 @@ pub fn fraction(rng: &mut Rng) -> (u16, u16) {
 fn fraction_for(rng: &mut Rng, inner: &Node, register: &Register) -> (u16, u16) {
     if !rng.chance(3) {
         let concept = reduce(inner);
-        if let Some(mut degrees) = Degrees::of(register, &concept) {
-            let degree = degrees.at(rng.index(register.items()) as u16);
+        let judged = Judged::of(register);
+        let item = rng.index(register.items()) as u16;
+        if let Some(mut degrees) = Degrees::of(&judged, &concept).filter(|_| judged.has(item)) {
+            let degree = degrees.at(item);
             if degree.den <= 1000 {
                 return (degree.num as u16, degree.den as u16);
             }
@@ -244,22 +247,33 @@ fn threshold_on(rng: &mut Rng, inner: Node, register: &Register) -> Threshold {
     }
 }
 
-/// A plain tree that some item meets: links of the register walked from that
-/// item, each node asking for some of the names of the item stood at.
+/// A plain tree that some item meets: links of the graph that is judged walked
+/// from that item, each node asking for some of the names of the item stood at.
+/// One time in four, and where all items are withdrawn, the walk goes over these
+/// too: what would be met if they counted.
 pub fn met_somewhere(rng: &mut Rng, register: &Register, nodes: usize, deepest: usize) -> Node {
-    let item = rng.index(register.items()) as u16;
+    let mut judged = Judged::of(register);
+    if rng.chance(4) || judged.each().next().is_none() {
+        judged = Judged::of(&all_back(register));
+    }
+    let items: Vec<u16> = judged.each().collect();
+    let item = rng.pick(&items);
     let mut left = nodes.saturating_sub(1);
-    walked(rng, register, item, &mut left, deepest)
+    walked(rng, &judged, item, &mut left, deepest)
 }
 
-fn walked(rng: &mut Rng, register: &Register, at: u16, left: &mut usize, deepest: usize) -> Node {
-    let mut node = Node::leaf(register.names[usize::from(at)] & rng.word());
-    let links: Vec<Link> = register
-        .links
-        .iter()
-        .filter(|link| link.0 == at)
-        .copied()
-        .collect();
+/// The register with no item withdrawn.
+fn all_back(register: &Register) -> Register {
+    let names = register.names.iter();
+    Register {
+        names: names.map(|names| names & !(1 << WITHDRAWN)).collect(),
+        links: register.links.clone(),
+    }
+}
+
+fn walked(rng: &mut Rng, judged: &Judged, at: u16, left: &mut usize, deepest: usize) -> Node {
+    let mut node = Node::leaf(judged.names(at) & rng.word());
+    let links = judged.leaving(at);
     if deepest > 0 && !links.is_empty() {
         for _ in 0..rng.between(0, 3) {
             if *left == 0 {
@@ -268,7 +282,7 @@ fn walked(rng: &mut Rng, register: &Register, at: u16, left: &mut usize, deepest
             *left -= 1;
             let (_, role, to) = rng.pick(&links);
             node.children
-                .push((role, walked(rng, register, to, left, deepest - 1)));
+                .push((role, walked(rng, judged, to, left, deepest - 1)));
         }
     }
     node

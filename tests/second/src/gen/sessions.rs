@@ -3,6 +3,7 @@
 
 use super::registers::Palette;
 use super::rng::Rng;
+use crate::judged::WITHDRAWN;
 use crate::register::Register;
 use crate::session::{Fact, Step};
 
@@ -13,12 +14,16 @@ pub enum Action {
     Keep,
 }
 
-/// A fact in range, one that already stands about half of the time.
+/// A fact in range, one that already stands about half of the time; of the names
+/// one in six is that an item is withdrawn.
 pub fn fact(rng: &mut Rng, palette: &Palette, register: &Register) -> Fact {
     let item = rng.index(register.items()) as u64;
     match rng.below(4) {
         0 => {
-            let name = u64::from(rng.pick(&palette.names));
+            let name = match rng.chance(6) {
+                true => u64::from(WITHDRAWN),
+                false => u64::from(rng.pick(&palette.names)),
+            };
             Fact::Name { item, name }
         }
         1 | 2 if !register.links.is_empty() => {
