@@ -20,6 +20,7 @@ use Rattle.meaning.specs.Bytes.{Bytes}
 use Rattle.meaning.specs.Tree.{Concept, nodes, roleAt, subtree}
 use Rattle.meaning.specs.Graph.{Graph}
 use Rattle.meaning.specs.Register.{judged}
+use Rattle.meaning.specs.Judged.{Judges}
 use Rattle.meaning.specs.Whole.{WholeMap, held}
 use Rattle.meaning.specs.Fraction.{Frac, _//_, Same, Lowest, fraction, margin, marginOver, Comparison, compares}
 use Rattle.meaning.specs.FractionRows.{FractionTakes, FractionRow}
@@ -32,6 +33,7 @@ use Rattle.meaning.specs.MayRefuse.{sameSide, oneOf, among, ofQuestion}
 use Rattle.meaning.proofs.Tests.{holds}
 use Rattle.meaning.proofs.Reading.{pass, stop, halted, went, below, not-below, le-of-not-below}
 use Rattle.meaning.proofs.Image.{read-image}
+use Rattle.meaning.proofs.Judged.{judged-is}
 use Rattle.meaning.proofs.Degree.{answered-is, answered-lowest}
 use Rattle.meaning.proofs.FractionRows.{fraction-decided}
 use Rattle.meaning.proofs.MayRefuse.{margin-gives}
@@ -173,6 +175,10 @@ module _ (image message : List ℕ) (item : ℕ) where
 
       abbrev t : Concept
       t = conceptOf (x .asked)
+
+      -- what is judged: "the register without withdrawn items and the links at them"
+      pub graph-says : Judges (x .asked .readable .register) G
+      graph-says = judged-is (x .asked .readable .register)
 
       -- "The degree is the greatest root value over all partial maps", "answered in lowest terms", and 1/1 exactly when a whole map exists
       pub degree-says : (n d k : ℕ) → r ≡ GoodDegree n d k → DegreeSays G t n d k

@@ -21,6 +21,7 @@ use Rattle.meaning.specs.Tree.{Tree, nodes, subtree, roleAt}
 use Rattle.meaning.specs.Graph.{Graph}
 use Rattle.meaning.specs.Fraction.{Frac, _//_, Lowest}
 use Rattle.meaning.specs.Register.{Register, withdrawn, judged, readRegister}
+use Rattle.meaning.specs.Judged.{Judges}
 use Rattle.meaning.specs.Degree.{answered}
 use Rattle.meaning.specs.Whole.{meetsBy}
 use Rattle.meaning.specs.Requirement.{Label, Requirement, bare, fulfils, member, RespectingMap}
@@ -32,6 +33,7 @@ use Rattle.meaning.proofs.Tests.{is-true, is-false}
 use Rattle.meaning.proofs.Refusing.{exactly, carried}
 use Rattle.meaning.proofs.Asked.{Asks, asked-either}
 use Rattle.meaning.proofs.Image.{read-image}
+use Rattle.meaning.proofs.Judged.{judged-is}
 use Rattle.meaning.proofs.Degree.{answered-lowest}
 use Rattle.meaning.proofs.Rising.{LowestOf}
 use Rattle.meaning.proofs.Member.{member-map}
@@ -127,6 +129,10 @@ module _ (image message : List ℕ) (item : ℕ) (old new : List ℕ) (r : Verdi
     (fits : nodes q ≤ length old) where
   abbrev G : Graph ℕ
   G = judged g
+
+  -- what is judged: "the register without withdrawn items and the links at them"
+  pub decide-graph : Judges g G
+  decide-graph = judged-is g
 
   when : (b : Bool) → member G q item ≡ b → memberCall image message item (length old) ≡ good (decision b (yesMap G q item))
   when b e = member-answer image message item (length old) g q ps eg em asks fits ∙ ap (λ (z : Bool). good (decision z (yesMap G q item))) e

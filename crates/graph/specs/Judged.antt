@@ -1,5 +1,4 @@
--- The graph that is judged, of an image that was read: where the links of each item begin, and the run of links that leads to an item's
--- successors under a role.
+-- The graph of an image that was read: where the links of each item begin, whether an item is withdrawn, and the run of an item's links under a role.
 -- Assumes nothing.
 use mathlib.Core.Path.{_≡_}
 use mathlib.Core.Bool.{false}

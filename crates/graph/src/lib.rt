@@ -1,4 +1,4 @@
-// The graph that is judged, of a register image that was read: names of an item, and successors under a role.
+// The graph of a register image that was read, as it is walked: names of an item, and successors under a role, none of them withdrawn.
 pub mod sets; // sets.rt: sets of up to 512 items
 
 use fields::bits;
