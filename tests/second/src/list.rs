@@ -1,9 +1,10 @@
 //! The whole list: a number for every written node at every item.
 //!
-//! Renders §3 of document 02, and of its §5 that a withdrawn item has 0. Each kept node is taken as a requirement of its
-//! own, and its number at an item is its degree there times its scale. No row
-//! is made out of another: the library makes each out of those below it, and
-//! two ways to the same numbers check each other.
+//! Renders §3 of document 02, and of its §5 that a withdrawn item has 0. Each
+//! kept node is taken as a requirement of its own, and its number at an item is
+//! its degree there times its scale. No row is made out of another: the library
+//! makes each out of those below it, and two ways to the same numbers check each
+//! other.
 
 use crate::degree::{plain_concept, Degrees};
 use crate::fraction::Fraction;

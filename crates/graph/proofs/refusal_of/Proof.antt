@@ -6,7 +6,7 @@ use Rattle.graph.proofs.Asked.{item-inside, asked-none, asked-out, aske
 
 returns : tie.Need-returns
 returns c =
-    asked-none _ (c .before .before .pre) (c .if1 .taken)
+    asked-none _ (c .before .before .pre) (omega (arith, c .if1 .taken))
 
 is-out-requires : tie.Need-is-out-requires
 is-out-requires c κs =
