@@ -9,10 +9,8 @@ use Prim.Native.Nat.{ℕ, _+_, _-_, _≤_, _<_}
 use native.Mathlib.Decide.{decLt}
 use native.Mathlib.Nat.{le-refl}
 use native.Mathlib.Omega.{arith}
-use lib.Dec.{ltb}
 use borrow.Author.Tests.{lt-ltb, le-ltb}
 use Rattle.meaning.specs.Register.{Register, withdrawn, except}
-use Rattle.meaning.specs.Degree.{best}
 use Rattle.meaning.specs.Shown.{firstBest, pick}
 use Rattle.meaning.proofs.Best.{pick-none, pick-some}
 use Rattle.meaning.proofs.Judged.{except-none}

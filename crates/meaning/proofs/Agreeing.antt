@@ -8,7 +8,7 @@ use mathlib.Core.Option.{none as nowhere}
 use Prim.Native.Nat.{ℕ, _+_, _*_}
 use lib.ListN.{replicate}
 use Rattle.meaning.specs.Names.{names, common, within}
-use Rattle.meaning.specs.Tree.{Tree, node, Forest, none, more, Concept, count, under, nodes}
+use Rattle.meaning.specs.Tree.{node, Forest, none, more, Concept, count, under, nodes}
 use Rattle.meaning.specs.Graph.{Graph}
 use Rattle.meaning.specs.Fraction.{Frac, _//_, lowest, compares}
 use Rattle.meaning.specs.Whole.{any, meetsBy, meetsByF}

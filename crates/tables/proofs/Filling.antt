@@ -1,7 +1,7 @@
 -- Filling the rows of a tree, child by child: what is asked at each, and what its rows, and then the root's with it folded in, leave; and the root's row
 -- closed at last.
 -- Assumes nothing.
-use mathlib.Core.Path.{_≡_, refl, sym, ap, subst, _∙_}
+use mathlib.Core.Path.{_≡_, refl, sym, ap, _∙_}
 use mathlib.Core.Bool.{Bool}
 use mathlib.Core.List.{List, List·Memᴰ}
 use mathlib.Core.Option.{none as nowhere}

@@ -1,4 +1,3 @@
-use borrow.Author.Needs.{needs}
 use Rattle.graph.proofs.flag.Statement.{statement}
 use Rattle.graph.proofs.flag.Tie as tie
 use native.Mathlib.Omega.{arith}

@@ -1,8 +1,8 @@
 use Rattle.graph.proofs.none_out.Statement.{statement}
 use Rattle.graph.proofs.none_out.Tie as tie
-use mathlib.Core.Path.{_≡_, sym, subst, _∙_}
+use mathlib.Core.Path.{_≡_, sym, _∙_}
 use mathlib.Core.Bool.{false}
-use Prim.Native.Nat.{ℕ, _≤_, _<_, _-_, _+_}
+use Prim.Native.Nat.{ℕ, _≤_, _<_, _-_}
 use native.Mathlib.Omega.{arith}
 use Rattle.meaning.specs.Register.{withdrawn}
 use Rattle.register.specs.Image.{Image}
