@@ -1,4 +1,6 @@
 // Fractions as two numbers: the common divisor, lowest terms, what is wrong with a threshold's fraction, the four comparisons, the margin.
+#![tactic(auto)]
+
 ghost use Rattle.std.specs.Prelude.{◌≡◌, ◌≤◌, ◌<◌};
 ghost use Rattle.std.proofs.Math.IntN.{sub_ℕ};
 ghost use Rattle.std.specs.Int.{w64};

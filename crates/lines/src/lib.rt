@@ -1,5 +1,7 @@
 // The lines of a listing, as text in a lent buffer: a refusal's, and an item's with its degree or with yes or no, and its map, or with `withdrawn`.
 // A line is written from the buffer's first byte on; what is answered is how long it is.
+#![tactic(auto)]
+
 ghost use Rattle.std.specs.Prelude.{◌≡◌, ◌+◌, ◌*◌, ◌≤◌, length};
 ghost use Rattle.meaning.specs.Bounds.{most_nodes};
 ghost use Rattle.meaning.specs.Fraction.{◌÷◌};

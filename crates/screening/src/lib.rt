@@ -1,5 +1,7 @@
 // Of a set of items stay those that satisfy the thresholds of a node: each inner concept is read again from the message, and their degrees in it are
 // worked out.
+#![tactic(auto)]
+
 ghost use Rattle.std.specs.Prelude.{◌≡◌, true, ◌+◌, ◌≤◌, ◌<◌, length};
 ghost use Rattle.meaning.specs.Bounds.{most_items, most_thresholds, most_q};
 ghost use Rattle.meaning.specs.Fraction.{◌÷◌, compares};
