@@ -1,12 +1,9 @@
 -- The readers of a message meet their contracts. At each turn of the cycle the bytes left fall, or they stay and the reader's place in a round does.
 -- Assumes nothing.
-use Prim.Native.Nat.{ℕ, ◌<◌}
 use mathlib.Core.Path.{refl}
-use Prim.Native.Nat.{◌+◌, ◌*◌, ◌-◌, ◌≤◌}
 use native.Mathlib.Omega.{arith}
 use lib.ListN.{length-set}
-use Rattle.fixed.specs.Fixed.{NodeFixed, EdgeFixed, ThresholdFixed}
-use Rattle.readers.proofs.Turns.{Children, child-read, children-begun, Thresholds, threshold-read, thresholds-begun}
+use Rattle.readers.proofs.Turns.{child-read, children-begun, threshold-read, thresholds-begun}
 use Rattle.readers.proofs.Cycle.{children-empty, edge-stops, child-stops, fixed-stops, node-stops, children-here, children-stop}
 use Rattle.readers.proofs.Cycle.{children-end, node-then, thresholds-empty, first_stops, fields-stop, inner-stops, threshold-then}
 use Rattle.readers.proofs.Cycle.{inner_first, inner-short, inner-rows, inner-big, inner-whole}
@@ -31,8 +28,7 @@ read_children-read_node-t-requires t c =
     let a = c.args in
     let i = c.loop-k in
     let b = i.invariant.start in
-    let o = c.in-Good.ensures in
-     (
+    let o = c.in-Good.ensures in (
       omega (arith, i.invariant.on, o.fits),
       (
         record { here = record { before = o.fits; inside = b.here.inside; short = b.here.short }; few = b.few; room = b.room; long = b.long },
@@ -86,11 +82,10 @@ read_children-returns t c =
     i.invariant.rest _ _ (children-empty a.inner a.s.now a.end a.left i.k i.here i.written i.found i.rows (omega (arith, z)) i.invariant.start)
 
 pub read_inner-read_node-t-requires : goal.read_inner-read_node-t-requires
-read_inner-read_node-t-requires t c =
-     (
-      omega arith,
-      (record { here = c.requires; few = omega arith; room = omega arith; long = search rules }, omega arith),
-    )
+read_inner-read_node-t-requires t c = (
+  omega arith,
+  (record { here = c.requires; few = omega arith; room = omega arith; long = search rules }, omega arith),
+)
 
 pub read_inner-returns-then-next-stop : goal.read_inner-returns-then-next-stop
 read_inner-returns-then-next-stop t c =
@@ -154,8 +149,7 @@ pub read_node-read_thresholds-t-requires : goal.read_node-read_thresholds-t-requ
 read_node-read_thresholds-t-requires t c =
     let a = c.args in
     let o = c.in-Good.ensures in
-    let b = c.requires.start in
-     (
+    let b = c.requires.start in (
       omega (arith, o.fits),
       record { here = record { before = o.fits; inside = b.here.inside; short = b.here.short }; few = b.few; room = b.room; long = rw length-set b.long },
     )
@@ -176,7 +170,6 @@ read_node-read_children-c-requires t c =
     let a = c.args in
     let o = c.in-Good.ensures in
     let b = c.requires.start in
-    
     let l = simp length-set at c.read_thresholds-t.auto.rows in
     let x = children-here a.inner a.s.now a.end a.left a.role a.at a.n a.parts _ _ _ a.rows.now _ _ b o
     c.in-Good-t.ensures _ _ _ refl in (
@@ -282,8 +275,7 @@ pub read_threshold-read_inner-r-requires : goal.read_threshold-read_inner-r-requ
 read_threshold-read_inner-r-requires t c =
     let a = c.args in
     let o = c.in-Good.ensures in
-    let b = c.requires in
-     (
+    let b = c.requires in (
       omega (arith, o.fits, o.inside),
       record { before = omega (arith, o.stops); inside = omega (arith, o.inside, b.here.inside); short = omega (arith, o.inside, b.here.short) },
     )
@@ -348,7 +340,6 @@ read_thresholds-loop-k-init t c =
 pub read_thresholds-read_threshold-t-requires : goal.read_thresholds-read_threshold-t-requires
 read_thresholds-read_threshold-t-requires t c =
     let i = c.loop-k in
-    
     (omega (arith, i.invariant.on, i.invariant.start.here.before), i.invariant.start)
 
 pub read_thresholds-loop-k-preserved : goal.read_thresholds-loop-k-preserved

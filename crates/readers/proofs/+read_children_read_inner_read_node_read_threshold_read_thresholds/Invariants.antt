@@ -1,15 +1,7 @@
 -- The readers of a message meet their contracts. At each turn of the cycle the bytes left fall, or they stay and the reader's place in a round does.
 -- Assumes nothing.
-use Prim.Native.Nat.{ℕ, ◌<◌}
-use mathlib.Core.Path.{subst}
-use Prim.Native.Nat.{◌+◌, ◌*◌, ◌-◌, ◌≤◌}
-use native.Mathlib.Omega.{arith}
-use lib.ListN.{length-set}
-use Rattle.fixed.specs.Fixed.{NodeFixed, EdgeFixed, ThresholdFixed}
-use Rattle.readers.proofs.Turns.{Children, child-read, children-begun, Thresholds, threshold-read, thresholds-begun}
-use Rattle.readers.proofs.Cycle.{children-empty, edge-stops, child-stops, fixed-stops, node-stops, children-here, children-stop}
-use Rattle.readers.proofs.Cycle.{children-end, node-then, thresholds-empty, first_stops, fields-stop, inner-stops, threshold-then}
-use Rattle.readers.proofs.Cycle.{inner_first, inner-short, inner-rows, inner-big, inner-whole}
+use Prim.Native.Nat.{◌+◌, ◌*◌, ◌-◌}
+use Rattle.readers.proofs.Turns.{Children, Thresholds}
 use Rattle.readers.proofs.+read_children_read_inner_read_node_read_threshold_read_thresholds.Given as goal
 
 abbrev pub invariant-read_children-loop-k : goal.invariant-read_children-loop-k

@@ -4,7 +4,6 @@ use mathlib.Core.Path.{◌≡◌, sym}
 use Rattle.meaning.specs.Reduce.{reduce, size}
 use Rattle.reduction.specs.Held.{Held, ForTree}
 use Rattle.readers.proofs.Places.{same_rows}
-use borrow.Author.Rules.{rules}
 use Rattle.readers.proofs.size_in.Goals as goal
 
 pub reduced_size-requires : goal.reduced_size-requires
