@@ -15,11 +15,11 @@ pub fold-requires : goal.fold-requires
 fold-requires c =
     let w = c.requires.1 in record {
       in_bounds = (w.at-fits, omega (arith, w.in_order.most));
-      by_index = tops_fit c.args.role c.args.from c.args.at c.args.scale c.args.product c.args.table.now
+      by_index = tops_fit c.args.role c.args.«from» c.args.at c.args.scale c.args.product c.args.table.now
           c.gather.new.tops (c.gather.ensures _) w;
     }
 
 pub returns : goal.returns
 returns c =
-    λ s. tops-folded c.args.role c.args.from c.args.at c.args.scale c.args.product c.args.table.now
+    λ s. tops-folded c.args.role c.args.«from» c.args.at c.args.scale c.args.product c.args.table.now
     c.gather.new.tops (c.gather.ensures s) _ c.fold.ensures
