@@ -31,7 +31,7 @@ pub const NOWHERE: usize = 65535;
 pub const DROPPED: usize = 65534;
 
 // Document 01, "Refusal numbers": the side that a refusal is on.
-#[derive(Drop)]
+#[derive(Clone, Copy)]
 pub enum Side {
     Register,
     Requirement,
@@ -39,7 +39,7 @@ pub enum Side {
 }
 
 // A refusal: its side, its number in the document's table, and the byte place from that side's first byte.
-#[derive(Drop)]
+#[derive(Clone, Copy)]
 pub struct Refusal {
     pub side: Side,
     pub number: usize,
@@ -47,14 +47,14 @@ pub struct Refusal {
 }
 
 // Document 01, "Session": a fact, "which is either a name on an item or a link".
-#[derive(Drop)]
+#[derive(Clone, Copy)]
 pub enum Fact {
     Name { item: usize, name: usize },
     Link { from: usize, role: usize, to: usize },
 }
 
 // A step of a session: its fact, "and whether that fact was there before".
-#[derive(Drop)]
+#[derive(Clone, Copy)]
 pub struct Step {
     pub fact: Fact,
     pub was: bool,
