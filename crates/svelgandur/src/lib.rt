@@ -1,6 +1,6 @@
-// Each call of the libraries as it is made from C: the crate `svelgandur_c` exports these, and include/svelgandur.h declares them. A call answers in four numbers that the
-// caller lends: the kind of the answer, then three numbers that go with the kind (crate `answers`). Everything handed in is bytes or
-// numbers, so no bit pattern that a caller hands in is undefined.
+// Each call of the libraries as it is made from C: the crate `svelgandur_c` exports these, and include/svelgandur.h declares them. A call answers in
+// four numbers that the caller lends: the kind of the answer, then three numbers that go with the kind (crate `answers`). Everything handed in is
+// bytes or numbers, so no bit pattern that a caller hands in is undefined.
 #![tactic(auto)]
 
 use answers;
