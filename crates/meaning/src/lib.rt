@@ -32,7 +32,7 @@ pub const NOWHERE: usize = 65535;
 pub const DROPPED: usize = 65534;
 
 // Document 01, "Refusal numbers": the side that a refusal is on.
-#[derive(Clone, Copy)]
+#[derive(Drop)]
 pub enum Side {
     Register,
     Requirement,
@@ -40,7 +40,7 @@ pub enum Side {
 }
 
 // A refusal: its side, its number in the document's table, and the byte place from that side's first byte.
-#[derive(Clone, Copy)]
+#[derive(Drop)]
 pub struct Refusal {
     pub side: Side,
     pub number: usize,
@@ -48,14 +48,14 @@ pub struct Refusal {
 }
 
 // Document 01, "Session": a fact, "which is either a name on an item or a link".
-#[derive(Clone, Copy)]
+#[derive(Drop)]
 pub enum Fact {
     Name { item: usize, name: usize },
     Link { from: usize, role: usize, to: usize },
 }
 
 // A step of a session: its fact, "and whether that fact was there before".
-#[derive(Clone, Copy)]
+#[derive(Drop)]
 pub struct Step {
     pub fact: Fact,
     pub was: bool,
