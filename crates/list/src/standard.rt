@@ -1,5 +1,6 @@
 // Standard input, or what else is read, to its end or until the buffer is full; and whether a read failed.
-ghost use Rattle.std.specs.Prelude.{◌≤◌, length};
+ghost use Rattle.std.specs.Prelude.{◌≡◌, ◌≤◌, ◌<◌, length, take, OnOk};
+ghost use Rattle.std.specs.Io.KnownBytes.{Consumes, IsAtEnd};
 
 use std::io;
 use std::io::Read;
@@ -13,7 +14,9 @@ pub struct Got {
 
 // One read into a part of the buffer.
 fn read_some<R: Read>(input: &mut R, part: &mut [u8]) -> Got
-    ensures { result.count ≤ length part.new }
+    ensures count { result.count ≤ length part.new }
+    ensures bytes { Consumes (R.remaining input.old) (R.remaining input.new) (take result.count part.new) }
+    ensures end { OnOk result.whole (result.count ≡ 0 → 0 < length part.new → IsAtEnd (R.remaining input.new)) }
 {
     match input.read(part) {
         Ok(count) => Got {
@@ -29,7 +32,9 @@ fn read_some<R: Read>(input: &mut R, part: &mut [u8]) -> Got
 
 // Reads until the buffer is full, the input ends or a read fails.
 pub fn read_input<R: Read>(input: &mut R, buffer: &mut [u8]) -> Got
-    ensures { result.count ≤ length buffer.new }
+    ensures count { result.count ≤ length buffer.new }
+    ensures bytes { Consumes (R.remaining input.old) (R.remaining input.new) (take result.count buffer.new) }
+    ensures end { OnOk result.whole (result.count < length buffer.new → IsAtEnd (R.remaining input.new)) }
 {
     let mut count = 0;
     while count < buffer.len() {
