@@ -1,8 +1,8 @@
 #!/usr/bin/env python3
 """Brings the repository's own definitions and lemmas to today's spelling: words in snake case (`readRegister` is `read_register`).
 
-usage: python3 tools/respell.py        at the top of the repository, once, right after /opt/rattle/port/port.py
-It renames each part (between dashes) of a name that begins with a small letter and goes on with a capital, in .antt and .rt files of crates/, in the texts of
+usage: python3 tools/port/respell.py        at the top of the repository, once (a second run is no good), right after /opt/rattle/port/port.py
+It renames the fractions' operator `//` to `÷`, and each part (between dashes) of a name that begins with a small letter and goes on with a capital, in .antt and .rt files of crates/, in the texts of
 must-fail edits, and in the pages. Types, modules, functions of src/, strings and names of the kit's library keep their spelling.
 """
 import os
@@ -44,6 +44,11 @@ def turn(text):
     return TOKEN.sub(lambda m: snake(m.group(0)), text)
 
 
+def fraction(text):
+    """The operator of fractions: `//` begins a comment for rt, also in a `ghost use` item."""
+    return text.replace("◌//◌", "◌÷◌").replace(" // ", " ÷ ")
+
+
 def strings_kept(text):
     """Rattle's and Rust's strings stay as they are."""
     out, last = [], 0
@@ -77,10 +82,14 @@ def main():
         elif path.endswith((".rt", ".edit")):
             # a comment in .rt may hold quotation marks that aren't a string's
             new = "\n".join(turn(l) if l.lstrip().startswith("//") else strings_kept(l) for l in old.split("\n"))
+            clause = re.compile(r"\s*(ghost use|requires|ensures)\b")
+            new = "\n".join(fraction(l) if clause.match(l) else l for l in new.split("\n"))
         elif path == "crates/writer/proofs/Wrong.antt":
             new = turn(re.sub(r"(?<![\w-])limits_of(?![\w-])", "limits-of", old))
         else:
             new = turn(apart(old))
+        if path.endswith(".antt"):
+            new = fraction(new)
         if new != old:
             with open(path, "w", encoding="utf-8") as f:
                 f.write(new)

@@ -16,7 +16,7 @@ use Rattle.meaning.specs.Tree.{nodes}
 use Rattle.answers.specs.Numbers.{four, side_number, refusal_numbers, numbers, counts, written, in_use, verdicts, degree_numbers, list_numbers, below_zero, margin_numbers}
 use Rattle.deciding.specs.Answers.{Said, yes, no}
 use lib.IntN.{ℤ, pos, negsuc, nat_abs}
-use Rattle.meaning.specs.Fraction.{◌//◌}
+use Rattle.meaning.specs.Fraction.{◌÷◌}
 use Rattle.meaning.specs.Calls.{Against}
 use Rattle.asking.specs.Answers.{Told}
 use Rattle.tabling.specs.Answers.{Told as ListTold}
@@ -100,7 +100,7 @@ verdicts-apart = answers-apart verdicts same-verdict (λ a. kind a)
 pub degrees-apart : (x y : Answer Told) → numbers degree_numbers x ≡ numbers degree_numbers y → x ≡ y
 degrees-apart = answers-apart degree_numbers (λ a b e. same-told (nth 1 e) (nth 2 e) (nth 3 e)) (λ a e. omega arith)
   where
-    same-told : {a b m n j k : ℕ} → a ≡ b → m ≡ n → j ≡ k → ◌≡◌ {A = Told} (record { degree = a // m; places = j }) (record { degree = b // n; places = k })
+    same-told : {a b m n j k : ℕ} → a ≡ b → m ≡ n → j ≡ k → ◌≡◌ {A = Told} (record { degree = a ÷ m; places = j }) (record { degree = b ÷ n; places = k })
     same-told d e f = cc
 
 pub lists-apart : (x y : Answer ListTold) → numbers list_numbers x ≡ numbers list_numbers y → x ≡ y

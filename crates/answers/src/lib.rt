@@ -1,4 +1,6 @@
 // The four numbers of an answer: the kind, then three numbers that go with the kind (specs/Numbers.antt). What each call hands back, as these numbers.
+#![tactic(auto)]
+
 ghost use Rattle.std.specs.Prelude.{◌≡◌, ◌≤◌, nat_abs};
 ghost use Rattle.meaning.specs.Bounds.{most_margin};
 ghost use Rattle.register.specs.Reading.{paper_reading};

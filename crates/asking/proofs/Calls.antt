@@ -17,7 +17,7 @@ use Rattle.meaning.specs.declared.Refusal.{Refusal}
 use Rattle.meaning.specs.Refusal.{Answer, good, refused, on_call, refuse_if, ◌>>=◌, ◌>>◌}
 use Rattle.meaning.specs.Tree.{Concept, nodes}
 use Rattle.meaning.specs.Register.{Register, judged}
-use Rattle.meaning.specs.Fraction.{Frac, ◌//◌, lowest, wrong_with, lawful, fraction, margin, margin_over}
+use Rattle.meaning.specs.Fraction.{Frac, ◌÷◌, lowest, wrong_with, lawful, fraction, margin, margin_over}
 use Rattle.meaning.specs.Degree.{degree_of, answered}
 use Rattle.meaning.specs.Shown.{degree_map, shown, mark_number}
 use Rattle.meaning.specs.Calls.{asked_for, Found, degree_call, after_degree, Against, margin_call}
@@ -61,7 +61,7 @@ degree_then item room g t =
 abbrev pub margin_then : ℕ → ℕ → ℕ → Register → Concept → Answer Against
 margin_then item p q g t =
     let d = answered (judged g) t item in
-    fraction on_call p q >> good (record { margin = margin d (p // q); over = margin_over d (p // q) })
+    fraction on_call p q >> good (record { margin = margin d (p ÷ q); over = margin_over d (p ÷ q) })
 
 abbrev degree_next : ℕ → ℕ → Register → Concept → Answer Found
 degree_next item room g t = asked_for g item >> degree_then item room g t
@@ -140,13 +140,13 @@ module _ (image message : List ℕ) (item : ℕ) where
 
     -- what was worked out, in lowest terms, is what is answered
     lowest-answer : Asks w.register item → (d : Degree) (f : Fraction) → Graded w.register w.tree item d
-        → (f.num ≡ (lowest (d.number // d.scale)).num) × (f.den ≡ (lowest (d.number // d.scale)).den)
-        → (f.num // f.den) ≡ answered (judged w.register) w.tree item
+        → (f.num ≡ (lowest (d.number ÷ d.scale)).num) × (f.den ≡ (lowest (d.number ÷ d.scale)).den)
+        → (f.num ÷ f.den) ≡ answered (judged w.register) w.tree item
     lowest-answer i d f h l =
-        ap₂ ◌//◌ l.0 l.1 ∙ graded-answer w.register w.tree item d h ∙ answered-agrees (walked-judged w.register) w.tree item i.serves
+        ap₂ ◌÷◌ l.0 l.1 ∙ graded-answer w.register w.tree item d h ∙ answered-agrees (walked-judged w.register) w.tree item i.serves
 
     pub degree-answer : Asks w.register item → (old new : List ℕ) → k ≤ length old → (d : Degree) (f : Fraction) → Graded w.register w.tree item d
-        → (f.num ≡ (lowest (d.number // d.scale)).num) × (f.den ≡ (lowest (d.number // d.scale)).den)
+        → (f.num ≡ (lowest (d.number ÷ d.scale)).num) × (f.den ≡ (lowest (d.number ÷ d.scale)).den)
         → new ≡ drawn w.register w.tree 0 (some item) old → DegreeDone (GoodDegree f.num f.den k) old new
     unfolding told ◌>>=◌
     degree-answer i old new l d f h low is =
@@ -156,7 +156,7 @@ module _ (image message : List ℕ) (item : ℕ) where
         let c : degree_call image message item (length old) ≡ good found =
         degree-then (length old) ∙ asks-goes w.register item _ i ∙ pass (ltb (length old) (nodes t)) _ _ (not-below (length old) _ (omega (arith, w.written))) in
         let places : k ≡ length (degree_map G t item) = w.written ∙ sym (length-map (shown G t (some item)) mark_number ∙ shown-length G t (some item)) in
-        let answer : ◌≡◌ {A = Told} (record { degree = f.num // f.den; places = k }) (record { degree = answered G t item; places = length (degree_map G t item) }) =
+        let answer : ◌≡◌ {A = Told} (record { degree = f.num ÷ f.den; places = k }) (record { degree = answered G t item; places = length (degree_map G t item) }) =
         ap₂ (λ (x : Frac) (y : ℕ). record { degree = x; places = y }) (lowest-answer i d f h low) places in
         let drawn-is : new ≡ sets old 0 (degree_map G t item) = is ∙ ap (sets old 0) (degree_map-agrees (walked-judged w.register) t item i.serves) in
         (ap good answer ∙ sym (ap told c), drawn-is ∙ sym (ap (after_degree old) c))
@@ -179,7 +179,7 @@ module _ (image message : List ℕ) (item : ℕ) where
 
     module _ (p q number : ℕ) (says : number ≡ wrong_with p q) (left : number ≡ 0) (i : Asks w.register item) (d : Degree) (f : Fraction)
         (h : Graded w.register w.tree item d)
-        (low : (f.num ≡ (lowest (d.number // d.scale)).num) × (f.den ≡ (lowest (d.number // d.scale)).den)) where
+        (low : (f.num ≡ (lowest (d.number ÷ d.scale)).num) × (f.den ≡ (lowest (d.number ÷ d.scale)).den)) where
       ok : not (lawful p q) ≡ false
       ok = found_none number p q says left
 
@@ -195,9 +195,9 @@ module _ (image message : List ℕ) (item : ℕ) where
           let fit = lawful-takes p q (of-not (lawful p q) ok) in
           (omega (arith, answered-at-most-one G t item), omega (arith, (lowest-le (degree_of G t item)).1, scale_in_lem t), fit.most, fit.small)
 
-      pub margin-answer : (m : Signed) → (m.num ≡ margin (f.num // f.den) (p // q)) × (m.den ≡ margin_over (f.num // f.den) (p // q))
+      pub margin-answer : (m : Signed) → (m.num ≡ margin (f.num ÷ f.den) (p ÷ q)) × (m.den ≡ margin_over (f.num ÷ f.den) (p ÷ q))
           → SFits w64 m.num → MarginDone p q (GoodMargin (to_z w64 (of_z w64 m.num)) m.den)
       margin-answer m is fits =
           ap₂ (λ (x : ℤ) (y : ℕ). paper_margin (GoodMargin x y)) (to_z-of_z fits ∙ is.0) is.1
-          ∙ ap (λ (z : Frac). paper_margin (GoodMargin (margin z (p // q)) (margin_over z (p // q)))) (lowest-answer i d f h low)
+          ∙ ap (λ (z : Frac). paper_margin (GoodMargin (margin z (p ÷ q)) (margin_over z (p ÷ q)))) (lowest-answer i d f h low)
           ∙ sym (margin-then p q ∙ asks-goes w.register item _ i ∙ pass (not (lawful p q)) _ _ ok)

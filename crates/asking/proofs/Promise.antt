@@ -22,7 +22,7 @@ use Rattle.meaning.specs.Graph.{Graph}
 use Rattle.meaning.specs.Register.{judged}
 use Rattle.meaning.specs.Judged.{Judges}
 use Rattle.meaning.specs.Whole.{WholeMap, held}
-use Rattle.meaning.specs.Fraction.{Frac, ◌//◌, Same, Lowest, fraction, margin, margin_over, Comparison, compares}
+use Rattle.meaning.specs.Fraction.{Frac, ◌÷◌, Same, Lowest, fraction, margin, margin_over, Comparison, compares}
 use Rattle.meaning.specs.FractionRows.{FractionTakes, FractionRow}
 use Rattle.meaning.specs.Partial.{IsDegree}
 use Rattle.meaning.specs.Degree.{degree, degree_of, answered}
@@ -126,8 +126,8 @@ module _ (image message : List ℕ) (item : ℕ) where
 
   -- what a good answer n/d is, of a graph, a concept and an item
   pub record DegreeSays (G : Graph ℕ) (t : Concept) (n d k : ℕ) : Type 0 where
-    pub greatest : IsDegree G t item (n // d)
-    pub lowest : Lowest (degree_of G t item) (n // d)
+    pub greatest : IsDegree G t item (n ÷ d)
+    pub lowest : Lowest (degree_of G t item) (n ÷ d)
     pub whole : ((n ≡ 1) × (d ≡ 1)) ↔ WholeMap (held G) G t item
     pub places : k ≡ nodes t
 
@@ -186,14 +186,14 @@ module _ (image message : List ℕ) (item : ℕ) where
           let z : GoodDegree (answered G t item).num (answered G t item).den (nodes t) ≡ GoodDegree n d k = sym (taken-result x) ∙ e in
           let a : (answered G t item).num ≡ n = cc in
           let b : (answered G t item).den ≡ d = cc in
-          let same : answered G t item ≡ n // d = ap₂ ◌//◌ a b in
-          let low : Lowest (degree_of G t item) (n // d) = subst (Lowest (degree_of G t item)) same (answered-lowest G t item) in
+          let same : answered G t item ≡ n ÷ d = ap₂ ◌÷◌ a b in
+          let low : Lowest (degree_of G t item) (n ÷ d) = subst (Lowest (degree_of G t item)) same (answered-lowest G t item) in
           record {
             greatest = subst (IsDegree G t item) same (answered-is G t item);
             lowest = low;
             whole = (
               (λ o. (answered-one G t item).0 (a ∙ o.0 ∙ sym o.1 ∙ sym b)),
-              (λ m. one-over-one (degree_of G t item) (n // d) low (sym a ∙ (answered-one G t item).1 m ∙ b)),
+              (λ m. one-over-one (degree_of G t item) (n ÷ d) low (sym a ∙ (answered-one G t item).1 m ∙ b)),
             );
             places = cc;
           }
@@ -228,7 +228,7 @@ module _ (image message : List ℕ) (item : ℕ) where
     abbrev against : Askable image message item → Against
     against x =
         let d = answered (judged x.readable.register) (concept_of x) item in
-        record { margin = margin d (p // q); over = margin_over d (p // q) }
+        record { margin = margin d (p ÷ q); over = margin_over d (p ÷ q) }
 
     margin-taken : (x : MarginTakes image message item p q) → margin_call image message item p q ≡ good (against x.asked)
     margin-taken x =
@@ -249,10 +249,10 @@ module _ (image message : List ℕ) (item : ℕ) where
 
     -- what a good answer m over o is, of a degree
     pub record MarginSays (d : Frac) (m : ℤ) (o : ℕ) : Type 0 where
-      pub margin-is : m ≡ margin d (p // q)
-      pub over-is : o ≡ margin_over d (p // q)
-      pub sign-is : (c : Comparison) → compares c d (p // q) ≡ sign c m
-      pub zero_is : (m ≡ pos 0) ↔ Same d (p // q)
+      pub margin-is : m ≡ margin d (p ÷ q)
+      pub over-is : o ≡ margin_over d (p ÷ q)
+      pub sign-is : (c : Comparison) → compares c d (p ÷ q) ≡ sign c m
+      pub zero_is : (m ≡ pos 0) ↔ Same d (p ÷ q)
       pub within : (nat_abs m ≤ most_margin) × (o ≤ most_margin)
 
     module _ (r : Margin) (h : MarginPromise image message item p q r) where
@@ -287,15 +287,15 @@ module _ (image message : List ℕ) (item : ℕ) where
           let G = judged x.asked.readable.register in
           let t = concept_of x.asked in
           let d = answered G t item in
-          let z : GoodMargin (margin d (p // q)) (margin_over d (p // q)) ≡ GoodMargin m o = sym (margin-result x) ∙ e in
-          let a : margin d (p // q) ≡ m = cc in
-          let b : margin_over d (p // q) ≡ o = cc in
+          let z : GoodMargin (margin d (p ÷ q)) (margin_over d (p ÷ q)) ≡ GoodMargin m o = sym (margin-result x) ∙ e in
+          let a : margin d (p ÷ q) ≡ m = cc in
+          let b : margin_over d (p ÷ q) ≡ o = cc in
           let small = margin-fits G t item p q x.asked.readable.small x.rule.most x.rule.small in
           record {
             margin-is = sym a;
             over-is = sym b;
-            sign-is = λ c. margin-sign c d (p // q) ∙ ap (sign c) a;
-            zero_is = subst (λ (y : ℤ). (y ≡ pos 0) ↔ Same d (p // q)) a (margin-zero d (p // q));
+            sign-is = λ c. margin-sign c d (p ÷ q) ∙ ap (sign c) a;
+            zero_is = subst (λ (y : ℤ). (y ≡ pos 0) ↔ Same d (p ÷ q)) a (margin-zero d (p ÷ q));
             within = (subst (λ (y : ℤ). nat_abs y ≤ most_margin) a small.0, subst (λ (y : ℕ). y ≤ most_margin) b small.1);
           }
 

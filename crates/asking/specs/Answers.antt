@@ -2,7 +2,7 @@
 -- Assumes nothing.
 use Rattle.std.specs.Prelude.{ℕ, length}
 use Rattle.meaning.specs.Refusal.{Answer, good, refused, on_call, ◌>>=◌}
-use Rattle.meaning.specs.Fraction.{Frac, ◌//◌}
+use Rattle.meaning.specs.Fraction.{Frac, ◌÷◌}
 use Rattle.meaning.specs.Calls.{Found, Against}
 use Rattle.asking.specs.declared.Answered.{Answered}
 use Rattle.asking.specs.declared.Answered.TheVariants.{Good as GoodDegree, Refused as RefusedDegree}
@@ -16,7 +16,7 @@ pub record Told : Type 0 where
   pub places : ℕ
 
 abbrev pub paper_degree : Answered → Answer Told
-paper_degree (GoodDegree n d k) = good (record { degree = n // d; places = k })
+paper_degree (GoodDegree n d k) = good (record { degree = n ÷ d; places = k })
 paper_degree (RefusedDegree r) = refused r
 
 unfoldable pub told : Answer Found → Answer Told

@@ -1,5 +1,7 @@
 // The degree call and the margin call: register and requirement are read, what is refused is tested in the document's order, and the core works
 // on the rows.
+#![tactic(auto)]
+
 ghost use Rattle.std.specs.Prelude.{◌≡◌};
 ghost use Rattle.asking.specs.Answers.{degree_refused, margin_refused};
 ghost use Rattle.asking.specs.Refusing.{DegreePromise, MarginPromise};

@@ -19,7 +19,7 @@ use Rattle.meaning.specs.Bytes.{Bytes}
 use Rattle.meaning.specs.Refusal.{Answer, good, refused, on_call, Exactly}
 use Rattle.meaning.specs.Tree.{Tree, nodes, subtree, role_at}
 use Rattle.meaning.specs.Graph.{Graph}
-use Rattle.meaning.specs.Fraction.{Frac, ◌//◌, Lowest}
+use Rattle.meaning.specs.Fraction.{Frac, ◌÷◌, Lowest}
 use Rattle.meaning.specs.Register.{Register, withdrawn, judged, read_register}
 use Rattle.meaning.specs.Judged.{Judges}
 use Rattle.meaning.specs.Degree.{answered}
@@ -173,16 +173,16 @@ module _ (image message : List ℕ) (item : ℕ) (old new : List ℕ) (r : Verdi
       }
 
   -- "for a plain requirement yes exactly when the degree is 1/1"
-  pub decide-plain : thresholds_of q ≡ [] → (r ≡ Yes (nodes q)) ↔ (answered G (bare q) item ≡ 1 // 1)
+  pub decide-plain : thresholds_of q ≡ [] → (r ≡ Yes (nodes q)) ↔ (answered G (bare q) item ≡ 1 ÷ 1)
   decide-plain plain =
       let one = plain-one G q item plain in (
         (λ e. whole (answered-lowest G (bare q) item) (one.0 (yes-met e))),
         (λ d. met-yes (one.1 (ap (λ (f : Frac). f.num) d ∙ sym (ap (λ (f : Frac). f.den) d)))),
       )
     where
-      whole : {p : Frac} → Lowest p (answered G (bare q) item) → (answered G (bare q) item).num ≡ (answered G (bare q) item).den → answered G (bare q) item ≡ 1 // 1
+      whole : {p : Frac} → Lowest p (answered G (bare q) item) → (answered G (bare q) item).num ≡ (answered G (bare q) item).den → answered G (bare q) item ≡ 1 ÷ 1
       whole low e =
           let d = (answered G (bare q) item).den in
           let at_most_one : d ≤ 1 = low.bare d (subst (λ (z : ℕ). d ∣ z) (sym e) (dvd_refl d)) (dvd_refl d) in
           let one : d ≡ 1 = omega (arith, low.positive) in
-          ap₂ (λ (n m : ℕ). n // m) (e ∙ one) one
+          ap₂ (λ (n m : ℕ). n ÷ m) (e ∙ one) one

@@ -1,4 +1,6 @@
 // The yes/no call: it reads the image and the message, indexes the image's links, and settles.
+#![tactic(auto)]
+
 ghost use Rattle.std.specs.Prelude.{◌≡◌, ◌≤◌, ◌<◌, length, get_or};
 ghost use Rattle.rows.specs.Packed.{ends_in};
 ghost use Rattle.meeting.specs.Required.{Settled};

@@ -1,5 +1,7 @@
 // The rows of degrees. Register and requirement are read once, and all items are worked out at once; the rows are then printed off what was found.
 // `listing::plan` has read both before: a refusal here cannot be, and nothing would be printed for it.
+#![tactic(auto)]
+
 ghost use Rattle.std.specs.Prelude.{◌≡◌, List, ℕ, ◌≤◌, ◌<◌, length};
 ghost use Rattle.ratings.specs.Rated.{Rated, Sought};
 

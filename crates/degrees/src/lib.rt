@@ -1,6 +1,8 @@
 // Degrees of the items of a set in a concept tree that is held as rows, over the graph of a register image that was read: whole numbers over
 // the tree's scale. A node is worked out only at the items that its parent's items reach. Row 0 of the numbers is all ones, for the nodes without names and
 // children, which are worth 1 at every item and are not worked out.
+#![tactic(auto)]
+
 ghost use Rattle.std.specs.Prelude.{◌≡◌, true, ◌+◌, ◌-◌, ◌<◌, length, get_or};
 ghost use Rattle.graph.specs.Walked.{walked};
 ghost use Rattle.graph.specs.Judged.{Judged};

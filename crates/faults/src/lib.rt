@@ -1,4 +1,6 @@
 // What reading would refuse of a requirement that is handed over as lists (the crate `lists` says how): the first number in the order of reading, or 0.
+#![tactic(auto)]
+
 ghost use Rattle.std.specs.Prelude.{◌≡◌, ℕ, ◌+◌, ◌*◌, ◌-◌, ◌%◌, ◌≤◌, ◌<◌, T, length, get_or};
 ghost use Rattle.meaning.specs.Reduce.{size, reduce};
 ghost use Rattle.meaning.specs.Lists.{Listed, form, concept};

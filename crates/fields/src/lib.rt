@@ -1,4 +1,6 @@
 // Big-endian fields in lent bytes, and the 3-byte head that a register image and a requirement message share.
+#![tactic(auto)]
+
 pub mod bits; // bits.rt: sets of up to 64 things as numbers
 
 ghost use Rattle.std.specs.Prelude.{◌≡◌, ◌+◌, ◌%◌, ◌≤◌, ◌<◌, length};

@@ -13,7 +13,7 @@ use Rattle.meaning.specs.declared.Refusal.{Refusal}
 use Rattle.meaning.specs.Refusal.{Answer, good, refused, at, refuse_if, ◌>>=◌, ◌>>◌}
 use Rattle.meaning.specs.Bytes.{number, fields}
 use Rattle.meaning.specs.Tree.{Concept}
-use Rattle.meaning.specs.Fraction.{◌//◌, wrong_with, lawful, fraction}
+use Rattle.meaning.specs.Fraction.{◌÷◌, wrong_with, lawful, fraction}
 use Rattle.meaning.specs.Reduce.{reduce, size}
 use Rattle.meaning.specs.Bounds.{most_size}
 use Rattle.meaning.specs.Requirement.{Threshold}
@@ -181,7 +181,7 @@ module _ (s : List ℕ) (end owner p n : ℕ) (ps : List Part) where
             after = spot (p + 7 + len) n (ps ++ (record { owner = owner; first = p; len = len } ∷ []))
 
             abbrev threshold : Concept → Threshold
-            threshold t = record { how = comparison (number s p 1); limit = number s (p + 1) 2 // number s (p + 3) 2; inner = t }
+            threshold t = record { how = comparison (number s p 1); limit = number s (p + 1) 2 ÷ number s (p + 3) 2; inner = t }
 
             to_inner : read_threshold s end owner w ≡ (whole_inner s (p + 7 + len) (p + 7) >>= λ x. good (threshold x.0, after))
             unfolding read_threshold whole_inner

@@ -1,4 +1,6 @@
 // The fixed fields of a node, an edge and a threshold, each with the tests that the document makes before anything behind them is read.
+#![tactic(auto)]
+
 ghost use Rattle.std.specs.Prelude.{◌≡◌, ◌&&◌, ◌+◌, ◌<◌, ltb};
 ghost use Rattle.meaning.specs.Message.{fault_place};
 ghost use Rattle.fixed.specs.Spots.{Here};

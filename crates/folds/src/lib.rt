@@ -1,4 +1,6 @@
 // Folding a child's numbers into those of its parent, at the items of a set; numbers stand in rows, with a place for each item.
+#![tactic(auto)]
+
 ghost use Rattle.std.specs.Prelude.{◌≡◌, true, false, ℕ, ◌+◌, ◌*◌, ◌≤◌, ◌<◌, max, length, get_or, set};
 ghost use Rattle.meaning.specs.Names.{common};
 ghost use Rattle.meaning.specs.Names.{names as many};

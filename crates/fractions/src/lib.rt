@@ -1,10 +1,12 @@
 // Fractions as two numbers: the common divisor, lowest terms, what is wrong with a threshold's fraction, the four comparisons, the margin.
+#![tactic(auto)]
+
 ghost use Rattle.std.specs.Prelude.{◌≡◌, ◌≤◌, ◌<◌};
 ghost use Rattle.std.proofs.Math.IntN.{sub_ℕ};
 ghost use Rattle.std.specs.Int.{w64};
 ghost use Rattle.std.proofs.Common.{SFits};
 ghost use Rattle.meaning.specs.Bounds.{most_q, most_scale, most_margin};
-ghost use Rattle.meaning.specs.Fraction.{◌//◌, gcd, wrong_with, compares, margin, margin_over};
+ghost use Rattle.meaning.specs.Fraction.{◌÷◌, gcd, wrong_with, compares, margin, margin_over};
 ghost use Rattle.meaning.specs.Fraction.{lowest as lowest_of};
 ghost use Rattle.meaning.specs.Message.{comparison};
 
@@ -39,7 +41,7 @@ pub fn common_divisor(p: usize, q: usize) -> usize
 // A fraction in lowest terms.
 pub fn lowest(num: u64, den: u64) -> Fraction
     requires { 0 < den }
-    ensures { (result.num ≡ (lowest_of (num // den)).num) × (result.den ≡ (lowest_of (num // den)).den) }
+    ensures { (result.num ≡ (lowest_of (num ÷ den)).num) × (result.den ≡ (lowest_of (num ÷ den)).den) }
 {
     let d = common_divisor(num as usize, den as usize) as u64;
     Fraction {
@@ -71,7 +73,7 @@ pub fn wrong(p: usize, q: usize) -> usize
 // Whether number / scale satisfies a comparison with p / q, by cross-multiplication: 0 is <, 1 is ≤, 2 is >, 3 is ≥.
 pub fn satisfies(how: u8, number: u64, scale: u64, p: u64, q: u64) -> bool
     requires { (number < 4294967296) × (scale < 4294967296) × (p ≤ most_q) × (q ≤ most_q) }
-    ensures { result ≡ compares (comparison how) (number // scale) (p // q) }
+    ensures { result ≡ compares (comparison how) (number ÷ scale) (p ÷ q) }
 {
     let own = number * q;
     let limit = p * scale;
@@ -90,7 +92,7 @@ pub fn satisfies(how: u8, number: u64, scale: u64, p: u64, q: u64) -> bool
 // The margin of a degree num/den against a threshold p/q: num times q minus p times den, over den times q.
 pub fn against(num: u64, den: u64, p: u64, q: u64) -> Signed
     requires { (num ≤ den) × (den ≤ most_scale) × (p ≤ q) × (q ≤ most_q) }
-    ensures num_value { (result.num ≡ margin (num // den) (p // q)) × (result.den ≡ margin_over (num // den) (p // q)) }
+    ensures num_value { (result.num ≡ margin (num ÷ den) (p ÷ q)) × (result.den ≡ margin_over (num ÷ den) (p ÷ q)) }
     ensures sfits { SFits w64 result.num }
 {
     Signed {

@@ -1,4 +1,6 @@
 // The graph of a register image that was read, as it is walked: names of an item, and successors under a role, none of them withdrawn.
+#![tactic(auto)]
+
 pub mod sets; // sets.rt: sets of up to 512 items
 
 ghost use Rattle.std.specs.Prelude.{◌≡◌, true, false, ℕ, ◌+◌, ◌≤◌, ◌<◌, max, length, get_or};

@@ -1,4 +1,6 @@
 // The child of a node that is worked out before the others: of the kept ones, the first of those with the most rows.
+#![tactic(auto)]
+
 ghost use Rattle.std.specs.Prelude.{◌≡◌, ◌||◌, not, ◌-◌, eqb, ltb};
 ghost use Rattle.heaviest.specs.Heavy.{Written, Heavy};
 

@@ -1,5 +1,7 @@
 // A session run as a program: a history of calls on an image in a buffer of 50 bytes, with a log of four numbers. After each call it prints the
 // answer, then the whole buffer and the log in hex.
+#![tactic(auto)]
+
 ghost use Rattle.std.specs.Prelude.{◌≡◌};
 ghost use Rattle.meaning.specs.Session.{play, count_after};
 ghost use Rattle.session.specs.Calls.{paper_count};

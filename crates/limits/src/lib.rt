@@ -1,5 +1,7 @@
 // The thresholds of a requirement that is handed over as lists (the crate `lists` says how), and its nodes, put as bytes: the fixed fields of a node, an inner
 // list, one threshold, and those of one node.
+#![tactic(auto)]
+
 ghost use Rattle.std.specs.Prelude.{◌≡◌, ◌+◌, ◌*◌, ◌-◌, ◌/◌, ◌≤◌, ◌<◌, length, get_or};
 ghost use Rattle.std.proofs.lemmas.List.Edits.{sets};
 ghost use Rattle.meaning.specs.Lists.{concept, threshold};

@@ -1,8 +1,10 @@
 // The lines of a listing, as text in a lent buffer: a refusal's, and an item's with its degree or with yes or no, and its map, or with `withdrawn`.
 // A line is written from the buffer's first byte on; what is answered is how long it is.
+#![tactic(auto)]
+
 ghost use Rattle.std.specs.Prelude.{◌≡◌, ◌+◌, ◌*◌, ◌≤◌, length};
 ghost use Rattle.meaning.specs.Bounds.{most_nodes};
-ghost use Rattle.meaning.specs.Fraction.{◌//◌};
+ghost use Rattle.meaning.specs.Fraction.{◌÷◌};
 ghost use Rattle.lines.specs.Text.{Wrote};
 ghost use Rattle.lines.specs.Lines.{line_room, side_word, refusal_line, place, places, shown_map, degree_line, yes_line, item_line, no_line, withdrawn_line};
 
@@ -92,7 +94,7 @@ fn put_map(out: &mut [u8], at: usize, map: &[u16]) -> usize
 // The line of an item with its degree and map.
 pub fn put_degree_line(line: &mut [u8], item: usize, num: u64, den: u64, map: &[u16]) -> usize
     requires { (line_room ≤ length line.old) × (length map.now ≤ most_nodes) }
-    ensures wrote { Wrote line.old line.new 0 (degree_line item (num // den) map.now) result }
+    ensures wrote { Wrote line.old line.new 0 (degree_line item (num ÷ den) map.now) result }
     ensures upper_bound { result ≤ line_room }
 {
     let mut k = put_number(line, 0, item as u64);

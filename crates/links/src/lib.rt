@@ -1,5 +1,7 @@
 // Reading the links of an image: one link with its tests, and all links at once by their numbers. A link's number is that of its five bytes, and so rises
 // with (from, role, to).
+#![tactic(auto)]
+
 ghost use Rattle.std.specs.Prelude.{◌≡◌, true, false, ℕ, ◌+◌, ◌*◌, ◌≤◌, ◌<◌, length};
 ghost use Rattle.std.proofs.Math.Option.{Option};
 ghost use Rattle.meaning.specs.Bytes.{number};

@@ -2,6 +2,8 @@
 // All that is printed is worked out by `listing::plan`, `ratings::row` and `verdicts::row`, whose promises name every byte; what stands here, and in
 // `degree_rows` and `member_rows`, is reading and writing.
 // Where either fails, one line on standard error says so: the kit has no exit status.
+#![tactic(auto)]
+
 mod standard;
 
 ghost use Rattle.std.specs.Prelude.{◌≡◌, ◌+◌, ◌≤◌, length};

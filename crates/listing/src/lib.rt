@@ -1,5 +1,7 @@
 // The listing of a register against a requirement, piece by piece: what comes first, planned here, and then a row for each item that is to be listed
 // (the crates `ratings` and `verdicts`). Each piece is text at the front of a lent buffer. Put one after the other they are the listing (specs/Pieces.antt).
+#![tactic(auto)]
+
 ghost use Rattle.std.specs.Prelude.{◌≡◌, [], ◌+◌, ◌≤◌, length, take};
 ghost use Rattle.meaning.specs.Bounds.{most_items};
 ghost use Rattle.lines.specs.Lines.{line_room, refusal_line};

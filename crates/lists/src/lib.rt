@@ -1,6 +1,8 @@
 // A requirement that is handed over as lists of numbers, and whether they form one (number 22).
 // A node is three numbers: names, depth, role. A threshold is five: node, comparison, p, q, and how many inner nodes it has; the inner nodes of all
 // thresholds stand one after the other.
+#![tactic(auto)]
+
 ghost use Rattle.std.specs.Prelude.{◌≡◌, ◌&&◌, ◌+◌, ◌*◌, ◌/◌, ◌≤◌, ◌<◌, length, get_or};
 ghost use Rattle.meaning.specs.Lists.{form_tree, stand_at, form};
 ghost use Rattle.meaning.specs.Writing.{lists_in, limits_from, shared_out, whole};

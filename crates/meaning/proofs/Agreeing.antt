@@ -10,7 +10,7 @@ use lib.ListN.{replicate}
 use Rattle.meaning.specs.Names.{names, common, within}
 use Rattle.meaning.specs.Tree.{node, Forest, none, more, Concept, count, under, nodes}
 use Rattle.meaning.specs.Graph.{Graph}
-use Rattle.meaning.specs.Fraction.{Frac, ◌//◌, lowest, compares}
+use Rattle.meaning.specs.Fraction.{Frac, ◌÷◌, lowest, compares}
 use Rattle.meaning.specs.Whole.{any, meets_by, meets_by_f}
 use Rattle.meaning.specs.Reduce.{dropped, reduce, reduce_f, scale, scale_f}
 use Rattle.meaning.specs.Degree.{or_one, best, degree, degree_f, degree_of, answered}
@@ -62,7 +62,7 @@ module _ {N : Type 0} {G H : Graph N} {P : N → Type 0} (same : Agree G H P) wh
         ap₂ (λ (m n : ℕ). m * scale_f f + scale t * n) child (degree_f-agrees f x p)
 
   pub degree_of-agrees : (t : Concept) (x : N) → P x → degree_of G t x ≡ degree_of H t x
-  degree_of-agrees t x p = ap (λ (n : ℕ). n // scale (reduce t)) (degree-agrees (reduce t) x p)
+  degree_of-agrees t x p = ap (λ (n : ℕ). n ÷ scale (reduce t)) (degree-agrees (reduce t) x p)
 
   pub answered-agrees : (t : Concept) (x : N) → P x → answered G t x ≡ answered H t x
   answered-agrees t x p = ap lowest (degree_of-agrees t x p)

@@ -16,7 +16,7 @@ use lib.Seq.{sets, sets-eq}
 use Rattle.meaning.specs.Refusal.{Answer, good, ◌>>=◌, ◌>>◌}
 use Rattle.meaning.specs.Tree.{Concept, nodes}
 use Rattle.meaning.specs.Graph.{Graph}
-use Rattle.meaning.specs.Fraction.{Frac, ◌//◌, lawful, fraction, Lowest, margin, margin_over}
+use Rattle.meaning.specs.Fraction.{Frac, ◌÷◌, lawful, fraction, Lowest, margin, margin_over}
 use Rattle.meaning.specs.Register.{Register, withdrawn, judged, read_register}
 use Rattle.meaning.specs.Partial.{IsDegree}
 use Rattle.meaning.specs.Degree.{degree_of, answered}
@@ -104,8 +104,8 @@ pub record MarginAnswers (image message : List ℕ) (item p q : ℕ) (a : Agains
   pub allowed : T (lawful p q)
   pub degree : Frac
   pub lowest : Lowest (degree_of (judged read.register) read.tree item) degree
-  pub margin-is : a.margin ≡ margin degree (p // q)
-  pub over-is : a.over ≡ margin_over degree (p // q)
+  pub margin-is : a.margin ≡ margin degree (p ÷ q)
+  pub over-is : a.over ≡ margin_over degree (p ÷ q)
 
 pub margin-answers : (image message : List ℕ) (item p q : ℕ) (a : Against) → margin_call image message item p q ≡ good a
     → MarginAnswers image message item p q a

@@ -17,7 +17,7 @@ use Rattle.meaning.specs.Refusal.{Answer, good, refused, at, refuse_if, ◌>>=�
 use Rattle.meaning.specs.Bytes.{number, bytes, fields, read_head, headed}
 use Rattle.meaning.specs.Names.{is_set}
 use Rattle.meaning.specs.Tree.{node, Forest, none, more, Concept, count, under, nodes, levels, levels_f, nodes_f, each, each_f, written, written_f, relabel}
-use Rattle.meaning.specs.Fraction.{◌//◌, gcd, gcd_in, lowest, wrong_with, lawful, at_least}
+use Rattle.meaning.specs.Fraction.{◌÷◌, gcd, gcd_in, lowest, wrong_with, lawful, at_least}
 use Rattle.meaning.specs.Register.{Link, Register, rises, above, all_sets, links_of, well_formed, read_register}
 use Rattle.meaning.specs.Register.{encode as image, items_bytes, links_bytes, targets, except, read_items, read_link, read_links, read_body, read_register_by}
 use Rattle.meaning.specs.Whole.{any, meets_by}
@@ -158,7 +158,7 @@ unfolding inner nodes
 inner-length = omega (arith, concept-length inner, twins-nodes {L = ℕ} 0 63)
 
 pub one : Threshold
-one = record { how = at_least; limit = 1 // 1; inner = inner }
+one = record { how = at_least; limit = 1 ÷ 1; inner = inner }
 
 one-sound : T (sound_threshold one)
 unfolding one wrong_with gcd gcd_in

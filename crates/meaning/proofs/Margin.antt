@@ -11,7 +11,7 @@ use lib.IntN.{ℤ, pos, negsuc, nat_abs, sub_ℕ, pos-ne-negsuc}
 use lib.Signed.{lt_z, le_z}
 use Rattle.meaning.specs.Tree.{Concept}
 use Rattle.meaning.specs.Graph.{Graph}
-use Rattle.meaning.specs.Fraction.{Frac, ◌//◌, Same, AtMost, margin, margin_over, Comparison, compares, less, at_most, greater, at_least}
+use Rattle.meaning.specs.Fraction.{Frac, ◌÷◌, Same, AtMost, margin, margin_over, Comparison, compares, less, at_most, greater, at_least}
 use Rattle.meaning.specs.Reduce.{reduce, size}
 use Rattle.meaning.specs.Degree.{degree_of, answered}
 use Rattle.meaning.specs.Requirement.{Threshold, passes}
@@ -119,7 +119,7 @@ module _ {N : Type 0} (G : Graph N) where
 
   -- what the margin call answers, for a concept and a threshold that it accepts
   pub margin-fits : (t : Concept) (x : N) (p q : ℕ) → size (reduce t) ≤ most_size → p ≤ q → q ≤ most_q
-      → (nat_abs (margin (answered G t x) (p // q)) ≤ most_margin) × (margin_over (answered G t x) (p // q) ≤ most_margin)
+      → (nat_abs (margin (answered G t x) (p ÷ q)) ≤ most_margin) × (margin_over (answered G t x) (p ÷ q) ≤ most_margin)
   margin-fits t x p q h k c =
       let b = le_trans (lowest-le (degree_of G t x)).1 (scale-bound (reduce t) h) in
-      (margin-bound (answered G t x) (p // q) (answered-at-most-one G t x) b k c, over-bound (answered G t x) (p // q) b c)
+      (margin-bound (answered G t x) (p ÷ q) (answered-at-most-one G t x) b k c, over-bound (answered G t x) (p ÷ q) b c)

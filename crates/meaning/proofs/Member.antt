@@ -10,7 +10,7 @@ use native.Mathlib.Omega.{arith}
 use lib.Dec.{T, leb, leb→le, le→leb}
 use Rattle.meaning.specs.Tree.{node, Forest, none, more, Concept, written, written_f, relabel_f, relabel}
 use Rattle.meaning.specs.Graph.{Graph}
-use Rattle.meaning.specs.Fraction.{◌//◌, at_least}
+use Rattle.meaning.specs.Fraction.{◌÷◌, at_least}
 use Rattle.meaning.specs.Reduce.{reduce, scale}
 use Rattle.meaning.specs.Degree.{degree}
 use Rattle.meaning.specs.Whole.{any, meets_by, meets_by_f, meets, meets_f}
@@ -75,6 +75,6 @@ module _ {N : Type 0} (G : Graph N) where
 
   -- "at least 1/1" of a plain concept is membership in that concept
   pub one-member : (t : Concept) (x : N)
-      → member G (node (record { names = 0; thresholds = record { how = at_least; limit = 1 // 1; inner = t } ∷ [] }) none) x ≡ meets G t x
+      → member G (node (record { names = 0; thresholds = record { how = at_least; limit = 1 ÷ 1; inner = t } ∷ [] }) none) x ≡ meets G t x
   unfolding meets_by every
   one-member t x = simp and-true (full_meets t x)

@@ -14,7 +14,7 @@ use Rattle.meaning.specs.Refusal.{good, at, ◌>>=◌, ◌>>◌}
 use Rattle.meaning.specs.Bytes.{number, bytes, Bytes}
 use Rattle.meaning.specs.Names.{is_set}
 use Rattle.meaning.specs.Tree.{Tree, node, Forest, none, more, Concept, nodes, levels, each, written}
-use Rattle.meaning.specs.Fraction.{◌//◌, Comparison, less, at_most, greater, at_least}
+use Rattle.meaning.specs.Fraction.{◌÷◌, Comparison, less, at_most, greater, at_least}
 use Rattle.meaning.specs.Reduce.{reduce, size}
 use Rattle.meaning.specs.Requirement.{Threshold, Label, every}
 use Rattle.meaning.specs.Message.{lawful, code, comparison, bounded, sound_inner, sound_threshold}
@@ -345,7 +345,7 @@ module _ (s : List ℕ) (end : ℕ) where
       let next = ap (λ (z : Spot). z.next) c.1 in
       let same : len ≡ length (concept_bytes x.0) = omega (arith, le-of-not-below x.1.next last b₆, c.0.fits.reached) in
       let n = number s p 1 in
-      let t : Threshold = record { how = comparison n; limit = number s (p + 1) 2 // number s (p + 3) 2; inner = x.0 } in
+      let t : Threshold = record { how = comparison n; limit = number s (p + 1) 2 ÷ number s (p + 3) 2; inner = x.0 } in
       let rule = of-not (lawful t.limit.num t.limit.den) b₂ in
       let few : nodes x.0 ≤ most_nodes = omega (arith, c.0.fits.few) in
       let inner = bounded-close is_set x.0 c.0.allowed c.0.shallow few in

@@ -11,7 +11,7 @@ use Rattle.meaning.specs.declared.Side.TheVariants.{Register as register, Requir
 use Rattle.meaning.specs.Refusal.{Answer, good, refused, refuse_if, ◌>>=◌, ◌>>◌}
 use Rattle.meaning.specs.Bytes.{number, bytes, fields, read_head, headed}
 use Rattle.meaning.specs.Tree.{node, Forest, none, more, Concept, count, under, nodes, relabel}
-use Rattle.meaning.specs.Fraction.{◌//◌, gcd, lowest, wrong_with}
+use Rattle.meaning.specs.Fraction.{◌÷◌, gcd, lowest, wrong_with}
 use Rattle.meaning.specs.Register.{Link, targets, except, items_bytes, links_bytes, read_items, read_link, read_links, read_body, read_register_by, read_register, read_buffer}
 use Rattle.meaning.specs.Register.{encode as image}
 use Rattle.meaning.specs.Whole.{any, meets_by}
@@ -217,8 +217,8 @@ calls =
     ∷ is call 26 0 (degree_call (besides []) Q1 1 1)
     ∷ is call 26 0 (margin_call (besides []) Q1 1 1 0)
     ∷ is call 26 0 (member_call (besides []) Q1 1 0)
-    ∷ is_found (0 // 1) (0 ∷ 65535 ∷ []) (degree_call (besides []) some_one 0 2)
-    ∷ is_found (1 // 1) (0 ∷ 2 ∷ []) (degree_call (besides (link 0 0 2 ∷ [])) some_one 0 2)
+    ∷ is_found (0 ÷ 1) (0 ∷ 65535 ∷ []) (degree_call (besides []) some_one 0 2)
+    ∷ is_found (1 ÷ 1) (0 ∷ 2 ∷ []) (degree_call (besides (link 0 0 2 ∷ [])) some_one 0 2)
     ∷ says_no (member_call (besides []) some_one 0 2)
     ∷ is_tabled 3 2 1 (0 ∷ 0 ∷ 0 ∷ 1 ∷ 0 ∷ 1 ∷ []) (list_call (besides []) some_one 6)
     ∷ is_tabled 3 2 1 (1 ∷ 0 ∷ 0 ∷ 1 ∷ 0 ∷ 1 ∷ []) (list_call (besides (link 0 0 2 ∷ [])) some_one 6)

@@ -17,7 +17,7 @@ use Rattle.meaning.specs.Graph.{Graph}
 use Rattle.meaning.specs.Register.{Register, withdrawn, judged, read_register}
 use Rattle.meaning.specs.Reduce.{dropped, reduce, kept, kept_f, scale}
 use Rattle.meaning.specs.Requirement.{bare}
-use Rattle.meaning.specs.Fraction.{◌//◌, lowest}
+use Rattle.meaning.specs.Fraction.{◌÷◌, lowest}
 use Rattle.meaning.specs.Partial.{IsDegree}
 use Rattle.meaning.specs.Degree.{degree, answered}
 use Rattle.meaning.specs.Shown.{degree_map}
@@ -179,7 +179,7 @@ module _ (G : Graph ℕ) (out : ℕ → Bool) (items : ℕ) where
 
   -- each kept node's row is that node's degree: of the n-th written node at item x, over the scale of the tree at that node
   pub kept-degree : (t : Concept) (n x : ℕ) → n < nodes t → x < items → get_or (kept t) n false ≡ true → out x ≡ false
-      → IsDegree G (get_or (trees t) n t) x (lowest (get_or (table G out items t) (n * items + x) 0 // scale (reduce (get_or (trees t) n t))))
+      → IsDegree G (get_or (trees t) n t) x (lowest (get_or (table G out items t) (n * items + x) 0 ÷ scale (reduce (get_or (trees t) n t))))
   kept-degree t n x l m k o =
       let u = get_or (trees t) n t in
       let number : get_or (table G out items t) (n * items + x) 0 ≡ degree G (reduce u) x =
@@ -226,7 +226,7 @@ module _ (image message : List ℕ) (room : ℕ) (a : Tabled) (e : list_call ima
 
     -- "Its degrees equal the single calls' for each item" in service: the first row over the scale, in lowest terms, is the degree call's answer
     pub list-degree : withdrawn h item ≡ false → (places : ℕ) → a.nodes ≤ places
-        → (m : List ℕ) × (degree_call image message item places ≡ good (record { degree = lowest (get_or a.table item 0 // a.scale); map = m }))
+        → (m : List ℕ) × (degree_call image message item places ≡ good (record { degree = lowest (get_or a.table item 0 ÷ a.scale); map = m }))
     unfolding degree_call
     list-degree w places m = (degree_map G t item, call ∙ ap good answer)
       where
@@ -250,8 +250,8 @@ module _ (image message : List ℕ) (room : ℕ) (a : Tabled) (e : list_call ima
             ∙ ap (λ (b : Bool). cond b 0 (degree G (reduce t) item)) serves
 
         answer : ◌≡◌ {A = Found} (record { degree = answered G t item; map = degree_map G t item })
-            (record { degree = lowest (get_or a.table item 0 // a.scale); map = degree_map G t item })
-        answer = ap₂ (λ (n d : ℕ). record { degree = lowest (n // d); map = degree_map G t item }) (sym number) (sym (ap (λ (z : Tabled). z.scale) same))
+            (record { degree = lowest (get_or a.table item 0 ÷ a.scale); map = degree_map G t item })
+        answer = ap₂ (λ (n d : ℕ). record { degree = lowest (n ÷ d); map = degree_map G t item }) (sym number) (sym (ap (λ (z : Tabled). z.scale) same))
 
     -- and where the degree call would refuse a withdrawn item with 26, each row of the table holds 0
     pub list-withdrawn : withdrawn h item ≡ true → (n : ℕ) → n < a.nodes → get_or a.table (n * a.items + item) 0 ≡ 0

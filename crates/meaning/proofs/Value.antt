@@ -10,7 +10,7 @@ use native.Mathlib.Omega.{arith}
 use Rattle.meaning.specs.Names.{names, common}
 use Rattle.meaning.specs.Tree.{node, Forest, none, more, Concept, count, role_of, role_at, role_at_f}
 use Rattle.meaning.specs.Graph.{Graph}
-use Rattle.meaning.specs.Fraction.{Frac, ◌//◌, ◌⊕◌, Same}
+use Rattle.meaning.specs.Fraction.{Frac, ◌÷◌, ◌⊕◌, Same}
 use Rattle.meaning.specs.Reduce.{scale, scale_f}
 use Rattle.meaning.specs.Partial.{share, PartialMap, add_if, value_of, values_of}
 use Rattle.meaning.specs.Degree.{or_one, best, degree, degree_f}
@@ -21,7 +21,7 @@ use Rattle.meaning.proofs.Scale.{max-one, bare-scale}
 add_same : (p q p' q' v s v' s' : ℕ) → p * s ≡ v * q → p' * s' ≡ v' * q' → (p * q' + p' * q) * (s * s') ≡ (v * s' + s * v') * (q * q')
 add_same p q p' q' v s v' s' e e' = omega (arith, ap (λ (z : ℕ). z * (q' * s')) e, ap (λ (z : ℕ). z * (q * s)) e')
 
-share-same : (n c S D : ℕ) (w : Frac) → Same w (D // S) → (n ≡ 0 → S ≡ 1) → Same (share n (c // 1 ⊕ w)) (or_one n (c * S + D) // (max 1 n * S))
+share-same : (n c S D : ℕ) (w : Frac) → Same w (D ÷ S) → (n ≡ 0 → S ≡ 1) → Same (share n (c ÷ 1 ⊕ w)) (or_one n (c * S + D) ÷ (max 1 n * S))
 share-same zero c S D w e b = omega (arith, b refl)
 share-same (suc n) c S D w e b = rw (max-one n) (omega (arith, ap (λ (z : ℕ). z * suc n) e))
 
@@ -54,12 +54,12 @@ module _ {N : Type 0} (G : Graph N) where
   mutual
     unfolding value_of number scale
 
-    pub value-number : (t : Concept) (x : N) (h : List ℕ → Option N) → Same (value_of G t x h) (number t x h // scale t)
+    pub value-number : (t : Concept) (x : N) (h : List ℕ → Option N) → Same (value_of G t x h) (number t x h ÷ scale t)
     value-number (node a f) x h =
         share-same (names a + count f) (common a (G.names x)) (scale_f f) (number_f f (λ k p. h (k ∷ p))) (values_of G f (λ k p. h (k ∷ p)))
         (values-number f (λ k p. h (k ∷ p))) (λ z. bare-scale f (omega arith))
 
-    values-number : (f : Forest ℕ) (h : ℕ → List ℕ → Option N) → Same (values_of G f h) (number_f f h // scale_f f)
+    values-number : (f : Forest ℕ) (h : ℕ → List ℕ → Option N) → Same (values_of G f h) (number_f f h ÷ scale_f f)
     values-number none h = refl
     values-number (more r t f) h = go (h 0 []) (λ y. value-number t y (h 0)) (values-number f (λ k. h (suc k)))
       where
@@ -69,8 +69,8 @@ module _ {N : Type 0} (G : Graph N) where
         d : ℕ
         d = number_f f (λ k. h (suc k))
 
-        go : (o : Option N) → ((y : N) → Same (value_of G t y (h 0)) (number t y (h 0) // scale t)) → Same w (d // scale_f f)
-            → Same (add_if G o (λ y. value_of G t y (h 0)) w) ((or_zero o (λ y. number t y (h 0)) * scale_f f + scale t * d) // (scale t * scale_f f))
+        go : (o : Option N) → ((y : N) → Same (value_of G t y (h 0)) (number t y (h 0) ÷ scale t)) → Same w (d ÷ scale_f f)
+            → Same (add_if G o (λ y. value_of G t y (h 0)) w) ((or_zero o (λ y. number t y (h 0)) * scale_f f + scale t * d) ÷ (scale t * scale_f f))
         go nowhere k e = omega (arith, ap (λ (z : ℕ). z * scale t) e)
         go (some y) k e =
             let u = value_of G t y (h 0) in

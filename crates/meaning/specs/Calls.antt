@@ -7,7 +7,7 @@ use Rattle.std.proofs.lemmas.List.Edits.{sets}
 use Rattle.meaning.specs.declared.Side.TheVariants.{Requirement as requirement}
 use Rattle.meaning.specs.Refusal.{Answer, good, refused, at, on_call, refuse_if, ◌>>=◌, ◌>>◌}
 use Rattle.meaning.specs.Tree.{Concept, nodes}
-use Rattle.meaning.specs.Fraction.{Frac, ◌//◌, fraction, margin, margin_over}
+use Rattle.meaning.specs.Fraction.{Frac, ◌÷◌, fraction, margin, margin_over}
 use Rattle.meaning.specs.Register.{Register, withdrawn, judged, read_register}
 use Rattle.meaning.specs.Reduce.{reduce, size}
 use Rattle.meaning.specs.Bounds.{most_size}
@@ -66,7 +66,7 @@ margin_call image message item p q = do
   asked_for g item
   fraction on_call p q
   let d = answered (judged g) t item
-  good (record { margin = margin d (p // q); over = margin_over d (p // q) })
+  good (record { margin = margin d (p ÷ q); over = margin_over d (p ÷ q) })
 
 -- ---- yes, with its map, or no
 

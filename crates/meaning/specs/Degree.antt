@@ -4,7 +4,7 @@ use Rattle.std.specs.Prelude.{List, [], ◌∷◌, ℕ, zero, suc, ◌+◌, ◌*
 use Rattle.meaning.specs.Names.{names, common}
 use Rattle.meaning.specs.Tree.{node, Forest, none, more, Concept, count}
 use Rattle.meaning.specs.Graph.{Graph}
-use Rattle.meaning.specs.Fraction.{Frac, ◌//◌, lowest}
+use Rattle.meaning.specs.Fraction.{Frac, ◌÷◌, lowest}
 use Rattle.meaning.specs.Reduce.{reduce, scale, scale_f}
 
 -- "its value is 1 if n is 0"
@@ -32,7 +32,7 @@ module _ {N : Type 0} (G : Graph N) where
 
   -- the degree of x in a concept, that is in its reduced form; and in lowest terms, as it is answered
   abbrev pub degree_of : Concept → N → Frac
-  degree_of t x = degree (reduce t) x // scale (reduce t)
+  degree_of t x = degree (reduce t) x ÷ scale (reduce t)
 
   abbrev pub answered : Concept → N → Frac
   answered t x = lowest (degree_of t x)

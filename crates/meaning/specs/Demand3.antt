@@ -12,7 +12,7 @@ use Rattle.meaning.specs.Tree.{Concept, nodes}
 use Rattle.meaning.specs.Register.{Register, is_fact, judged, well_formed, encode}
 use Rattle.meaning.specs.Degree.{answered}
 use Rattle.meaning.specs.Requirement.{Requirement, member}
-use Rattle.meaning.specs.Fraction.{◌//◌, margin, margin_over}
+use Rattle.meaning.specs.Fraction.{◌÷◌, margin, margin_over}
 use Rattle.meaning.specs.Message.{Part, read_requirement, lawful}
 use Rattle.meaning.specs.Shown.{degree_map, yes_map}
 use Rattle.meaning.specs.Calls.{read_plain, degree_call, margin_call, member_call, decide}
@@ -40,7 +40,7 @@ pub record Shows (n : ℕ) (facts : Facts) (buffer : List ℕ) : Type 0 where
       ≡ good (record { degree = answered (judged register) t item; map = degree_map (judged register) t item })
   pub against : (message : List ℕ) (t : Concept) (item p q : ℕ) → read_plain message ≡ good t → item < n → facts (name_on item withdrawn_name) ≡ false → T (lawful p q)
       → margin_call (image_of buffer) message item p q
-      ≡ good (record { margin = margin (answered (judged register) t item) (p // q); over = margin_over (answered (judged register) t item) (p // q) })
+      ≡ good (record { margin = margin (answered (judged register) t item) (p ÷ q); over = margin_over (answered (judged register) t item) (p ÷ q) })
   pub decision : (message : List ℕ) (q : Requirement) (parts : List Part) (item room : ℕ) → read_requirement message ≡ good (q, parts)
       → item < n → facts (name_on item withdrawn_name) ≡ false → nodes q ≤ room
       → member_call (image_of buffer) message item room ≡ good (decide (member (judged register) q item) (yes_map (judged register) q item))

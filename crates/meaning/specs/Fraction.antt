@@ -11,17 +11,17 @@ pub record Frac : Type 0 where
   pub num : ℕ
   pub den : ℕ
 
-infix 60 ◌//◌
-abbrev pub ◌//◌ : ℕ → ℕ → Frac
-◌//◌ a b = record { num = a; den = b }
+infix 60 ◌÷◌
+abbrev pub ◌÷◌ : ℕ → ℕ → Frac
+◌÷◌ a b = record { num = a; den = b }
 
 infixl 50 ◌⊕◌
 abbrev pub ◌⊕◌ : Frac → Frac → Frac
-◌⊕◌ p q = (p.num * q.den + q.num * p.den) // (p.den * q.den)
+◌⊕◌ p q = (p.num * q.den + q.num * p.den) ÷ (p.den * q.den)
 
 -- p / n
 abbrev pub per : Frac → ℕ → Frac
-per p n = p.num // (p.den * n)
+per p n = p.num ÷ (p.den * n)
 
 -- the same number, and at most as great
 abbrev pub Same : Frac → Frac → Type 0
@@ -45,7 +45,7 @@ gcd a b = gcd_in (suc b) a b
 -- n/d in lowest terms
 unfoldable pub lowest : Frac → Frac
 unfolding gcd
-lowest p = (p.num / gcd p.num p.den) // (p.den / gcd p.num p.den)
+lowest p = (p.num / gcd p.num p.den) ÷ (p.den / gcd p.num p.den)
 
 -- what that is to be: the same number, and no common factor above 1
 pub record Lowest (p low : Frac) : Type 0 where

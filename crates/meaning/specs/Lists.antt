@@ -4,7 +4,7 @@
 -- Assumes nothing.
 use Rattle.std.specs.Prelude.{Bool, true, false, ◌&&◌, cond, List, [], ◌∷◌, ◌++◌, ℕ, suc, ◌+◌, ltb, leb, eqb, length}
 use Rattle.meaning.specs.Tree.{Tree, node, Forest, none, more, Concept}
-use Rattle.meaning.specs.Fraction.{◌//◌}
+use Rattle.meaning.specs.Fraction.{◌÷◌}
 use Rattle.meaning.specs.Requirement.{Threshold, Label, Requirement}
 use Rattle.meaning.specs.Message.{code, comparison}
 
@@ -79,7 +79,7 @@ unfoldable pub concept : List (Listed ℕ) → Concept
 concept xs = first_tree 0 (grown xs)
 
 abbrev pub threshold : Limit → Threshold
-threshold h = record { how = comparison h.how; limit = h.p // h.q; inner = concept h.inner }
+threshold h = record { how = comparison h.how; limit = h.p ÷ h.q; inner = concept h.inner }
 
 -- the thresholds of the i-th node
 unfoldable pub owned : ℕ → List Limit → List Threshold

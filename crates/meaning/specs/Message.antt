@@ -7,7 +7,7 @@ use Rattle.meaning.specs.Refusal.{Answer, good, refused, at, refuse_if, ◌>>=�
 use Rattle.meaning.specs.Bytes.{number, bytes, fields, read_head, unequal, headed}
 use Rattle.meaning.specs.Names.{is_set}
 use Rattle.meaning.specs.Tree.{Tree, node, Forest, none, more, Concept, count, nodes, levels, each, written}
-use Rattle.meaning.specs.Fraction.{◌//◌, fraction, Comparison, less, at_most, greater, at_least}
+use Rattle.meaning.specs.Fraction.{◌÷◌, fraction, Comparison, less, at_most, greater, at_least}
 pub use Rattle.meaning.specs.Fraction.{lawful}
 use Rattle.meaning.specs.Reduce.{reduce, size}
 use Rattle.meaning.specs.Bounds.{most_role, most_levels, most_nodes, most_thresholds, most_size}
@@ -160,7 +160,7 @@ read_threshold s end owner w = do
   refuse_if (ltb v.next (p + 7 + len)) (at requirement 8 v.next)
   refuse_if (ltb most_size (size (reduce t))) (at requirement 14 (p + 7))
   good (
-    record { how = comparison (number s p 1); limit = number s (p + 1) 2 // number s (p + 3) 2; inner = t },
+    record { how = comparison (number s p 1); limit = number s (p + 1) 2 ÷ number s (p + 3) 2; inner = t },
     record {
       next = p + 7 + len;
       nodes = w.nodes;

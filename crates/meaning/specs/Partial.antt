@@ -6,12 +6,12 @@ use Rattle.std.proofs.Math.Option.{Option, some, none as nowhere}
 use Rattle.meaning.specs.Names.{names, common}
 use Rattle.meaning.specs.Tree.{node, Forest, none, more, Concept, count, role_at}
 use Rattle.meaning.specs.Graph.{Graph}
-use Rattle.meaning.specs.Fraction.{Frac, ◌//◌, ◌⊕◌, per, Same, AtMost}
+use Rattle.meaning.specs.Fraction.{Frac, ◌÷◌, ◌⊕◌, per, Same, AtMost}
 use Rattle.meaning.specs.Reduce.{reduce}
 
 -- the value of a node with n names and children, when its held names and the values of its mapped children come to s
 abbrev pub share : ℕ → Frac → Frac
-share zero s = 1 // 1
+share zero s = 1 ÷ 1
 share (suc n) s = per s (suc n)
 
 module _ {N : Type 0} (G : Graph N) where
@@ -32,11 +32,11 @@ module _ {N : Type 0} (G : Graph N) where
     unfolding count
 
     pub value_of : Concept → N → (List ℕ → Option N) → Frac
-    value_of (node a f) x h = share (names a + count f) (common a (G.names x) // 1 ⊕ values_of f (λ j p. h (j ∷ p)))
+    value_of (node a f) x h = share (names a + count f) (common a (G.names x) ÷ 1 ⊕ values_of f (λ j p. h (j ∷ p)))
 
     -- the sum over the mapped children
     pub values_of : Forest ℕ → (ℕ → List ℕ → Option N) → Frac
-    values_of none h = 0 // 1
+    values_of none h = 0 ÷ 1
     values_of (more r t f) h = add_if (h 0 []) (λ y. value_of t y (h 0)) (values_of f (λ j. h (suc j)))
 
   -- Definition 20: d is a number, and the greatest value that a partial map of the reduced concept reaches with its root at x

@@ -5,7 +5,7 @@
 use Rattle.std.specs.Prelude.{Bool, true, false, ◌&&◌, List, [], ◌∷◌, ℕ, eqb, ℤ, pos, negsuc}
 use Rattle.meaning.specs.Refusal.{Answer, good, refused}
 use Rattle.meaning.specs.Tree.{node, none, more, Concept}
-use Rattle.meaning.specs.Fraction.{Frac, ◌//◌, Comparison, less, at_most, greater, at_least}
+use Rattle.meaning.specs.Fraction.{Frac, ◌÷◌, Comparison, less, at_most, greater, at_least}
 use Rattle.meaning.specs.Register.{Link}
 use Rattle.meaning.specs.Register.{encode as image}
 use Rattle.meaning.specs.Requirement.{plain}
@@ -81,35 +81,35 @@ unfoldable pub rows : List Bool
 unfolding R1 Q1
 rows =
     -- Q1 on R1: 2/3, 1/3, 1/3
-    is_found (2 // 3) (0 ∷ 1 ∷ []) (degree_call R1 Q1 0 2)
-    ∷ is_found (1 // 3) (1 ∷ 65535 ∷ []) (degree_call R1 Q1 1 2)
-    ∷ is_found (1 // 3) (2 ∷ 65535 ∷ []) (degree_call R1 Q1 2 2)
+    is_found (2 ÷ 3) (0 ∷ 1 ∷ []) (degree_call R1 Q1 0 2)
+    ∷ is_found (1 ÷ 3) (1 ∷ 65535 ∷ []) (degree_call R1 Q1 1 2)
+    ∷ is_found (1 ÷ 3) (2 ∷ 65535 ∷ []) (degree_call R1 Q1 2 2)
     -- no names, no children: 1/1
-    ∷ is_found (1 // 1) (0 ∷ []) (degree_call R1 (message (plain (leaf 0))) 0 1)
+    ∷ is_found (1 ÷ 1) (0 ∷ []) (degree_call R1 (message (plain (leaf 0))) 0 1)
     -- role 0 to {1} and role 0 to {1,2}, item 0 of R1: 1/2, map 0, 65534, 1
-    ∷ is_found (1 // 2) (0 ∷ 65534 ∷ 1 ∷ []) (degree_call R1 (message (plain (two 0 (leaf 2) 0 (leaf 6)))) 0 3)
+    ∷ is_found (1 ÷ 2) (0 ∷ 65534 ∷ 1 ∷ []) (degree_call R1 (message (plain (two 0 (leaf 2) 0 (leaf 6)))) 0 3)
     -- role 0 to {1} twice: the second is dropped
-    ∷ is_found (1 // 1) (0 ∷ 1 ∷ 65534 ∷ []) (degree_call R1 (message (plain (two 0 (leaf 2) 0 (leaf 2)))) 0 3)
+    ∷ is_found (1 ÷ 1) (0 ∷ 1 ∷ 65534 ∷ []) (degree_call R1 (message (plain (two 0 (leaf 2) 0 (leaf 2)))) 0 3)
     -- role 0 to {1} and role 0 to {2}, one successor holding both: 1/1
-    ∷ is_found (1 // 1) (0 ∷ 1 ∷ 1 ∷ []) (degree_call (reg (0 ∷ 6 ∷ []) (link 0 0 1 ∷ [])) (message (plain (two 0 (leaf 2) 0 (leaf 4)))) 0 3)
+    ∷ is_found (1 ÷ 1) (0 ∷ 1 ∷ 1 ∷ []) (degree_call (reg (0 ∷ 6 ∷ []) (link 0 0 1 ∷ [])) (message (plain (two 0 (leaf 2) 0 (leaf 4)))) 0 3)
     -- role 0 to ({1}, role 1 to {2}, role 1 to {3}); one successor holds 1 and has no links, another lacks 1 and has role 1 to holders of 2 and of 3: 2/3
-    ∷ is_found (2 // 3) (0 ∷ 2 ∷ 3 ∷ 4 ∷ []) (degree_call
+    ∷ is_found (2 ÷ 3) (0 ∷ 2 ∷ 3 ∷ 4 ∷ []) (degree_call
     (reg (0 ∷ 2 ∷ 0 ∷ 4 ∷ 8 ∷ []) (link 0 0 1 ∷ link 0 0 2 ∷ link 2 1 3 ∷ link 2 1 4 ∷ []))
     (message (plain (node 0 (more 0 (node 2 (more 1 (leaf 4) (more 1 (leaf 8) none))) none)))) 0 4)
     -- one item, no names, role 0 to itself: role 0 to (role 0 to {1}): 0/1; without the {1}: 1/1
-    ∷ is_found (0 // 1) (0 ∷ 0 ∷ 0 ∷ []) (degree_call (reg (0 ∷ []) (link 0 0 0 ∷ [])) (message (plain (node 0 (more 0 (node 0 (more 0 (leaf 2) none)) none)))) 0 3)
-    ∷ is_found (1 // 1) (0 ∷ 0 ∷ 0 ∷ []) (degree_call (reg (0 ∷ []) (link 0 0 0 ∷ [])) (message (plain (node 0 (more 0 (node 0 (more 0 (leaf 0) none)) none)))) 0 3)
+    ∷ is_found (0 ÷ 1) (0 ∷ 0 ∷ 0 ∷ []) (degree_call (reg (0 ∷ []) (link 0 0 0 ∷ [])) (message (plain (node 0 (more 0 (node 0 (more 0 (leaf 2) none)) none)))) 0 3)
+    ∷ is_found (1 ÷ 1) (0 ∷ 0 ∷ 0 ∷ []) (degree_call (reg (0 ∷ []) (link 0 0 0 ∷ [])) (message (plain (node 0 (more 0 (node 0 (more 0 (leaf 0) none)) none)))) 0 3)
     -- Q1 against 2/3 at item 0: ≥ and ≤ yes, > and < no
-    ∷ says_yes (member_call R1 (asks at_least C1 (2 // 3)) 0 1)
-    ∷ says_yes (member_call R1 (asks at_most C1 (2 // 3)) 0 1)
-    ∷ says_no (member_call R1 (asks greater C1 (2 // 3)) 0 1)
-    ∷ says_no (member_call R1 (asks less C1 (2 // 3)) 0 1)
+    ∷ says_yes (member_call R1 (asks at_least C1 (2 ÷ 3)) 0 1)
+    ∷ says_yes (member_call R1 (asks at_most C1 (2 ÷ 3)) 0 1)
+    ∷ says_no (member_call R1 (asks greater C1 (2 ÷ 3)) 0 1)
+    ∷ says_no (member_call R1 (asks less C1 (2 ÷ 3)) 0 1)
     -- its margin: against 3/4, −1 over 12; 2/3, 0 over 9; 1/2, 1 over 6
     ∷ is_margin (negsuc 0) 12 (margin_call R1 Q1 0 3 4)
     ∷ is_margin (pos 0) 9 (margin_call R1 Q1 0 2 3)
     ∷ is_margin (pos 1) 6 (margin_call R1 Q1 0 1 2)
     -- equal successors 4 and 2: the map says 2
-    ∷ is_found (1 // 1) (0 ∷ 2 ∷ []) (degree_call
+    ∷ is_found (1 ÷ 1) (0 ∷ 2 ∷ []) (degree_call
     (reg (0 ∷ 0 ∷ 2 ∷ 0 ∷ 2 ∷ []) (link 0 0 2 ∷ link 0 0 4 ∷ [])) (message (plain (node 0 (more 0 (leaf 2) none)))) 0 2)
     ∷ []
 

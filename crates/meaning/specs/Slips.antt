@@ -6,7 +6,7 @@ use Rattle.std.proofs.Math.Option.{Option, some, none as nowhere}
 use Rattle.meaning.specs.Names.{names, common}
 use Rattle.meaning.specs.Tree.{node, Forest, none, more, Concept, label_of, count, under}
 use Rattle.meaning.specs.Graph.{Graph}
-use Rattle.meaning.specs.Fraction.{Frac, ◌//◌}
+use Rattle.meaning.specs.Fraction.{Frac, ◌÷◌}
 use Rattle.meaning.specs.Whole.{any}
 use Rattle.meaning.specs.Reduce.{subsumes, scale, scale_f, reduce_f}
 use Rattle.meaning.specs.Degree.{or_one, best, degree}
@@ -14,7 +14,7 @@ use Rattle.meaning.specs.Shown.{pick}
 
 -- "Scoring the tree as written"
 abbrev pub as_written : {N : Type 0} → Graph N → Concept → N → Frac
-as_written G t x = degree G t x // scale t
+as_written G t x = degree G t x ÷ scale t
 
 -- "Asking distinct successors for distinct children": those in `used` are taken already
 unfoldable pub unused : List ℕ → List ℕ → List ℕ
@@ -49,7 +49,7 @@ module _ (G : Graph ℕ) where
 
 -- "Comparing rounded decimals": to hundredths
 abbrev pub rounded : Frac → Frac
-rounded d = ((d.num * 200 + d.den) / (d.den * 2)) // 100
+rounded d = ((d.num * 200 + d.den) / (d.den * 2)) ÷ 100
 
 -- "Scoring an empty child as 0"
 abbrev pub or_zero : ℕ → ℕ → ℕ

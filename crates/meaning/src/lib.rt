@@ -1,5 +1,6 @@
 // The types that every crate shares. What they mean, and every other definition that a promise cites, is in specs/.
 // The theorems about those definitions are in proofs/.
+#![tactic(auto)]
 
 // Every bound of document 01, by name; specs/Bounds.antt has the same numbers with the document's sentences.
 pub const MOST_ITEMS: usize = 512;

@@ -1,5 +1,7 @@
 // Which items meet a requirement that is held as rows, over a register image that was read.
 // Going down from a set of items, those that meet a node stay; what stays at each node is noted in a table, off which the map of a yes is read.
+#![tactic(auto)]
+
 ghost use Rattle.std.specs.Prelude.{◌≡◌, ◌≤◌, ◌<◌, length, get_or};
 ghost use Rattle.graph.specs.Walked.{walked};
 ghost use Rattle.graph.specs.Sets.{Among};

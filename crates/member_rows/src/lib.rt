@@ -1,5 +1,7 @@
 // The rows of yes and no. Register and requirement are read once, and each node and each threshold is judged once for all items; the rows are then
 // printed off the table of what was found. `listing::plan` has read both before: a refusal here cannot be, and nothing would be printed for it.
+#![tactic(auto)]
+
 ghost use Rattle.std.specs.Prelude.{◌≡◌, List, ℕ, ◌≤◌, ◌<◌, length};
 ghost use Rattle.deciding.specs.BothRead.{Imaged, BothRead};
 ghost use Rattle.verdicts.specs.Told.{Told};

@@ -1,4 +1,6 @@
 // A session whose log is a lent slice of numbers, one for each step (`code` and `decode`).
+#![tactic(auto)]
+
 ghost use Rattle.std.specs.Prelude.{◌≡◌, ◌+◌, ◌*◌, ◌-◌, ◌<◌, get_or};
 ghost use Rattle.meaning.specs.Bounds.{most_items};
 ghost use Rattle.meaning.specs.declared.Step.{Step};

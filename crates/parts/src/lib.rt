@@ -1,4 +1,6 @@
 // The inner concepts of a message's thresholds: where the k-th stands, its bytes as that part of the message, and one of them read again into rows.
+#![tactic(auto)]
+
 ghost use Rattle.std.specs.Prelude.{◌≡◌, ◌+◌, ◌≤◌, length};
 ghost use Rattle.meaning.specs.Message.{read_requirement, inner_part};
 ghost use Rattle.rows.specs.Packed.{names_in, roles_in, ends_in};

@@ -1,4 +1,6 @@
 // A requirement that must be plain: read into rows and marked by the drop rule, with 11 and 14; and a register, then such a requirement.
+#![tactic(auto)]
+
 ghost use Rattle.std.specs.Prelude.{◌≡◌};
 ghost use Rattle.plain.specs.Reading.{rows, plain_refused, PlainDone, BothDone};
 

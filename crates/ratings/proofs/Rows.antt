@@ -12,7 +12,7 @@ use lib.Seq.{length-sets}
 use Rattle.meaning.specs.Bounds.{most_nodes}
 use Rattle.meaning.specs.Tree.{nodes}
 use Rattle.meaning.specs.Register.{Register, withdrawn, judged}
-use Rattle.meaning.specs.Fraction.{Frac, ◌//◌, lowest}
+use Rattle.meaning.specs.Fraction.{Frac, ◌÷◌, lowest}
 use Rattle.meaning.specs.Degree.{answered}
 use Rattle.meaning.specs.Shown.{degree_map, shown, mark_number}
 use Rattle.meaning.specs.Calls.{degree_call}
@@ -92,14 +92,14 @@ module _ {image message : List ℕ} {items : ℕ} {index ends marks : List ℕ} 
 
       -- the row of an item in service: there the graph that is walked is the one that is judged
       pub row_is : {b : Bool} → Image image (λ r. b ≡ withdrawn r item) → b ≡ false
-          → (n num den : ℕ) → n ≡ row_at numbers 512 item → (num ≡ (lowest (n // scale)).num) × (den ≡ (lowest (n // scale)).den)
-          → degree_row item (degree_call image message item most_nodes) ≡ degree_line item (num // den) (take k new)
+          → (n num den : ℕ) → n ≡ row_at numbers 512 item → (num ≡ (lowest (n ÷ scale)).num) × (den ≡ (lowest (n ÷ scale)).den)
+          → degree_row item (degree_call image message item most_nodes) ≡ degree_line item (num ÷ den) (take k new)
       row_is told h n num den en low =
           let serves : Serves g item = sym (told g w.posed.graph.read) ∙ h in
           let asks : Asks g item = record { inside = omega (arith, w.posed.graph.items-are); serves = serves } in
-          let same : lowest (n // scale) ≡ answered (walked g) w.tree item =
-          ap₂ (λ (x y : ℕ). lowest (x // y)) (en ∙ w.graded.numbered item l ∙ sym (degree-in (walked g) w.tree item)) (w.graded.scaled ∙ sym (scale_in_lem w.tree)) in
-          let fraction : (num // den) ≡ answered (judged g) w.tree item = ap₂ ◌//◌ low.0 low.1 ∙ same ∙ answered-agrees (walked-judged g) w.tree item serves in
+          let same : lowest (n ÷ scale) ≡ answered (walked g) w.tree item =
+          ap₂ (λ (x y : ℕ). lowest (x ÷ y)) (en ∙ w.graded.numbered item l ∙ sym (degree-in (walked g) w.tree item)) (w.graded.scaled ∙ sym (scale_in_lem w.tree)) in
+          let fraction : (num ÷ den) ≡ answered (judged g) w.tree item = ap₂ ◌÷◌ low.0 low.1 ∙ same ∙ answered-agrees (walked-judged g) w.tree item serves in
           let map : take k new ≡ degree_map (judged g) w.tree item = map_is ∙ degree_map-agrees (walked-judged g) w.tree item serves in
           ap (degree_row item) (degree-call image message g w.whole item w.tree w.wanted asks (omega (arith, ended, few)))
           ∙ ap₂ (λ (d : Frac) (m : List ℕ). degree_line item d m) (sym fraction) (sym map)

@@ -1,5 +1,7 @@
 // The degrees of all items in a plain requirement, worked out at once: each kept node once at every item, and noted along which links it goes. An item's
 // row of the listing is then read off the numbers and the notes; of a withdrawn one it says so.
+#![tactic(auto)]
+
 ghost use Rattle.std.specs.Prelude.{◌≡◌, List, ℕ, ◌≤◌, ◌<◌, length, get_or};
 ghost use Rattle.meaning.specs.Bounds.{most_nodes};
 ghost use Rattle.meaning.specs.Calls.{degree_call};

@@ -1,6 +1,8 @@
 // Reading the tree of a message: its nodes in reading order, and its thresholds, into lent numbers (the crate `rows` says what stands where).
 // The readers of node, thresholds and children call each other in a cycle, and the bytes left fall at each turn. What stands side by side, children
 // and thresholds, is read in a loop, so that the stack grows with the depth alone.
+#![tactic(auto)]
+
 ghost use Rattle.std.specs.Prelude.{◌≡◌, ◌≤◌, ◌<◌, length};
 ghost use Rattle.meaning.specs.Reduce.{reduce, size};
 ghost use Rattle.reduction.specs.Held.{Held, ForTree};

@@ -1,5 +1,7 @@
 // A session whose log is a lent slice of step records, document 01's own form. Each function takes the slice apart, calls the core on the buffer, and
 // stores or reads one record.
+#![tactic(auto)]
+
 pub mod held; // held.rt: the same for a log held by value
 
 ghost use Rattle.std.specs.Prelude.{◌≡◌, ◌-◌, get_or};

@@ -1,5 +1,7 @@
 // Which nodes of a concept tree are dropped, and its reduced size, over rows in reading order.
 // For each written node: its names, the role of the edge to it, and the index just past its subtree; marks: 1 kept, 0 dropped.
+#![tactic(auto)]
+
 ghost use Rattle.std.specs.Prelude.{◌≡◌, ◌≤◌, ◌<◌, length};
 ghost use Rattle.meaning.specs.Names.{names, within};
 ghost use Rattle.meaning.specs.Reduce.{subsumes, size, reduce};

@@ -1,4 +1,6 @@
 // Reading a register image, whole or in a session's buffer, and reading one fact of an image that was read.
+#![tactic(auto)]
+
 pub mod layout; // layout.rt: where the parts of an image stand
 
 ghost use Rattle.std.specs.Prelude.{◌≡◌, ◌≤◌, ◌<◌, length, get_or};

@@ -1,4 +1,6 @@
 // Reading a requirement message: its head, its tree, and nothing behind it.
+#![tactic(auto)]
+
 ghost use Rattle.std.specs.Prelude.{◌≡◌, ◌≤◌, length};
 ghost use Rattle.meaning.specs.Message.{read_requirement};
 ghost use Rattle.requirement.specs.Message.{refused_at, MessageDone, paper_message, counted};

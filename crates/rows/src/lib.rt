@@ -1,6 +1,8 @@
 // The rows of a requirement that was read, as its readers leave them in 144 lent numbers, and the five arrays that stand in them.
 // The names of the written node n stand at n; the role of the edge to it, and the index just past its subtree, at 64 + n;
 // of the k-th threshold the written node that it is of, and the place of its first byte, at 128 + k. Two numbers in one are the lower byte and the rest.
+#![tactic(auto)]
+
 ghost use Rattle.std.specs.Prelude.{◌≡◌, ◌+◌, ◌*◌, ◌/◌, ◌%◌, ◌≤◌, ◌<◌, length};
 ghost use Rattle.rows.specs.Packed.{names_in, roles_in, ends_in, owners_in, firsts_in};
 

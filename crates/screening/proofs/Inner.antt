@@ -12,7 +12,7 @@ use Rattle.meaning.specs.Bounds.{most_size, most_scale}
 use Rattle.meaning.specs.Tree.{Concept, nodes}
 use Rattle.meaning.specs.Register.{Register}
 use Rattle.graph.specs.Walked.{walked}
-use Rattle.meaning.specs.Fraction.{◌//◌, Frac, Comparison, compares}
+use Rattle.meaning.specs.Fraction.{◌÷◌, Frac, Comparison, compares}
 use Rattle.meaning.specs.Reduce.{reduce, size}
 use Rattle.meaning.specs.InPlace.{scale_in}
 use Rattle.meaning.specs.Degree.{degree_of}
@@ -83,19 +83,19 @@ module _ (s : List ℕ) (p : ℕ) (h : Threshold) (c : StandsAt s p h) (len : �
 module _ (g : Register) (h : Threshold) (s : List ℕ) (p : ℕ) (c : StandsAt s p h) (set : List ℕ) (scale : ℕ) (numbers : List ℕ)
     (w : Worked g h.inner (Member set) 512 scale numbers) where
   pub sifted-passes : (num den : ℕ) → num ≡ number s (p + 1) 2 → den ≡ number s (p + 3) 2
-      → (new : List ℕ) → Sifted (λ x. compares (comparison (get_or s p 0)) (row_at numbers 512 x // scale) (num // den)) set new → Sifted (λ x. passes (walked g) h x) set new
+      → (new : List ℕ) → Sifted (λ x. compares (comparison (get_or s p 0)) (row_at numbers 512 x ÷ scale) (num ÷ den)) set new → Sifted (λ x. passes (walked g) h x) set new
   sifted-passes num den en ed new q = record { each = λ x. q.each x ∙ go x (in_set set x) refl }
     where
-      same : (x : ℕ) → in_set set x ≡ true → compares (comparison (get_or s p 0)) (row_at numbers 512 x // scale) (num // den) ≡ passes (walked g) h x
+      same : (x : ℕ) → in_set set x ≡ true → compares (comparison (get_or s p 0)) (row_at numbers 512 x ÷ scale) (num ÷ den) ≡ passes (walked g) h x
       same x l =
-          let value : row_at numbers 512 x // scale ≡ degree_of (walked g) h.inner x =
-          ap₂ (λ (n m : ℕ). n // m) (w.each x l ∙ sym (degree-in (walked g) h.inner x)) (w.scaled ∙ sym (scale_in_lem h.inner)) in
-          let limit : num // den ≡ h.limit = ap₂ (λ (n m : ℕ). n // m) (en ∙ c.num) (ed ∙ c.den) in
-          ap (λ (how : Comparison). compares how (row_at numbers 512 x // scale) (num // den)) c.how
+          let value : row_at numbers 512 x ÷ scale ≡ degree_of (walked g) h.inner x =
+          ap₂ (λ (n m : ℕ). n ÷ m) (w.each x l ∙ sym (degree-in (walked g) h.inner x)) (w.scaled ∙ sym (scale_in_lem h.inner)) in
+          let limit : num ÷ den ≡ h.limit = ap₂ (λ (n m : ℕ). n ÷ m) (en ∙ c.num) (ed ∙ c.den) in
+          ap (λ (how : Comparison). compares how (row_at numbers 512 x ÷ scale) (num ÷ den)) c.how
           ∙ ap₂ (λ (d t : Frac). compares h.how d t) value limit
 
       go : (x : ℕ) (b : Bool) → in_set set x ≡ b
-          → (b && compares (comparison (get_or s p 0)) (row_at numbers 512 x // scale) (num // den)) ≡ (b && passes (walked g) h x)
+          → (b && compares (comparison (get_or s p 0)) (row_at numbers 512 x ÷ scale) (num ÷ den)) ≡ (b && passes (walked g) h x)
       go x true l = same x l
       go x false l = refl
 

@@ -5,14 +5,14 @@ use Rattle.meaning.specs.Refusal.{good}
 use Rattle.meaning.specs.Bytes.{number}
 use Rattle.meaning.specs.Tree.{node, none, more, Forest}
 use Rattle.meaning.specs.Graph.{Graph}
-use Rattle.meaning.specs.Fraction.{◌//◌, less}
+use Rattle.meaning.specs.Fraction.{◌÷◌, less}
 use Rattle.meaning.specs.Reduce.{reduce, size}
 use Rattle.meaning.specs.Requirement.{Threshold, Label, Requirement, every, passes}
 use Rattle.meaning.specs.Message.{Spot, comparison, read_inner}
 use Rattle.meaning.specs.Bounds.{most_size, most_q}
 
 abbrev pub no_threshold : Threshold
-no_threshold = record { how = less; limit = 0 // 1; inner = node 0 none }
+no_threshold = record { how = less; limit = 0 ÷ 1; inner = node 0 none }
 
 -- a threshold stands at place p of a message: its comparison, p and q, then the length of its inner concept and that concept
 pub record StandsAt (s : List ℕ) (p : ℕ) (h : Threshold) : Type 0 where

@@ -1,8 +1,10 @@
 // Of a set of items stay those that satisfy the thresholds of a node: each inner concept is read again from the message, and their degrees in it are
 // worked out.
+#![tactic(auto)]
+
 ghost use Rattle.std.specs.Prelude.{◌≡◌, true, ◌+◌, ◌≤◌, ◌<◌, length};
 ghost use Rattle.meaning.specs.Bounds.{most_items, most_thresholds, most_q};
-ghost use Rattle.meaning.specs.Fraction.{◌//◌, compares};
+ghost use Rattle.meaning.specs.Fraction.{◌÷◌, compares};
 ghost use Rattle.meaning.specs.Message.{comparison};
 ghost use Rattle.graph.specs.Walked.{walked};
 ghost use Rattle.meaning.specs.Requirement.{Threshold, passes};
@@ -105,7 +107,7 @@ fn grade(
 // Of a set stay the items whose number, which stands from place 512 on, over the scale satisfies a comparison with p / q.
 fn sift(values: &[u32], scale: u64, how: u8, p: u64, q: u64, set: &mut [u64])
     requires { (512 + most_items ≤ length values.now) × (length set.old ≡ 8) × (scale < 4294967296) × (p ≤ most_q) × (q ≤ most_q) }
-    ensures { Sifted (λ x. compares (comparison how) (row_at values.now 512 x // scale) (p // q)) set.old set.new }
+    ensures { Sifted (λ x. compares (comparison how) (row_at values.now 512 x ÷ scale) (p ÷ q)) set.old set.new }
 {
     let mut x = sets::next_in(set, 0);
     while x < meaning::MOST_ITEMS {

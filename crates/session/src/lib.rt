@@ -1,6 +1,8 @@
 // A session of trial edits on the register image that a lent buffer begins with: opening, and the core of edit, undo and keep, which touches no log.
 // It is handed the log's length, the count of steps in use and, for an undo, the last step by value. The crates `numbered` and `recorded` stand over it,
 // each with a log of its own form.
+#![tactic(auto)]
+
 ghost use Rattle.std.specs.Prelude.{◌≡◌, ◌++◌, min, ◌-◌, ◌≤◌, length, take};
 ghost use Rattle.meaning.specs.Bounds.{most_items, most_links, most_steps};
 ghost use Rattle.meaning.specs.Refusal.{on_call};

@@ -1,5 +1,7 @@
 // Setting one fact of the image that a buffer begins with: a name on an item, or a link, is there afterwards or not.
 // Names stay where they stand; links behind the one that comes or goes move by five bytes.
+#![tactic(auto)]
+
 ghost use Rattle.std.specs.Prelude.{◌≡◌, ◌&&◌, ◌+◌, ◌≤◌, ◌<◌, eqb, ltb, length};
 ghost use Rattle.std.proofs.lemmas.List.Edits.{sets};
 ghost use Rattle.meaning.specs.Bounds.{most_items, most_links, most_name, most_role};

@@ -9,7 +9,7 @@ use Rattle.meaning.specs.Refusal.{good}
 use Rattle.meaning.specs.Tree.{Concept}
 use Rattle.meaning.specs.Register.{Register, read_buffer}
 use Rattle.graph.specs.Walked.{walked}
-use Rattle.meaning.specs.Fraction.{◌//◌, lowest}
+use Rattle.meaning.specs.Fraction.{◌÷◌, lowest}
 use Rattle.meaning.specs.Reduce.{reduce}
 use Rattle.meaning.specs.Degree.{answered}
 use Rattle.meaning.specs.InPlace.{size_in, scale_in}
@@ -40,6 +40,6 @@ gradable-of g t h ei el held marked few small = record {
 pub graded-fits : (g : Register) (t : Concept) (x : ℕ) (d : Degree) → Graded g t x d → (0 < d.scale) × (d.number ≤ d.scale)
 graded-fits g t x d h = rw (h.number, h.scale) (scale-in-pos t, degree-in-le (walked g) t x)
 
-pub graded-answer : (g : Register) (t : Concept) (x : ℕ) (d : Degree) → Graded g t x d → lowest (d.number // d.scale) ≡ answered (walked g) t x
+pub graded-answer : (g : Register) (t : Concept) (x : ℕ) (d : Degree) → Graded g t x d → lowest (d.number ÷ d.scale) ≡ answered (walked g) t x
 graded-answer g t x d h =
-    ap₂ (λ (n m : ℕ). lowest (n // m)) (h.number ∙ sym (degree-in (walked g) t x)) (h.scale ∙ sym (scale_in_lem t))
+    ap₂ (λ (n m : ℕ). lowest (n ÷ m)) (h.number ∙ sym (degree-in (walked g) t x)) (h.scale ∙ sym (scale_in_lem t))

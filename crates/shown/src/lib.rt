@@ -1,4 +1,6 @@
 // The degree of one item in a concept tree that is held as rows, over a register image that was read; and the map shown for it.
+#![tactic(auto)]
+
 ghost use Rattle.std.specs.Prelude.{◌≡◌, ℕ, ◌+◌, ◌-◌, ◌≤◌, ◌<◌, length, get_or, replicate};
 ghost use Rattle.std.proofs.Math.Option.{Option, some, none as nowhere};
 ghost use Rattle.std.proofs.lemmas.List.Edits.{sets as stored};

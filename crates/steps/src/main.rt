@@ -1,6 +1,8 @@
 // A session on a log of step records: what each call hands back, then the buffer and the records.
 // It opens the document's register R1 with seven bytes behind it, adds a name, adds a link that stands and undoes that (the link stands), takes a link
 // away and undoes that, keeps, takes a name away, undoes that, and asks for one undo too many.
+#![tactic(auto)]
+
 use meaning::{Fact, Step};
 use recorded::held;
 use session::Counted;

@@ -1,6 +1,8 @@
 // The C boundary: each call of the libraries as a C function, declared in include/svelgandur.h. A call answers in four numbers that the
 // caller lends: the kind of the answer, then three numbers that go with the kind (crate `answers`). Everything handed in is bytes or
 // numbers, so no bit pattern that a caller hands in is undefined.
+#![tactic(auto)]
+
 use answers;
 
 mod asks;

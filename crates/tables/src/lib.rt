@@ -1,6 +1,8 @@
 // The table of a list: for each written node of a concept tree that is held as rows, its number at each item of a register image that was read.
 // Each kept node is worked out at each item once: a child's row gives, along the links of its role, its part of its parent's row. A recursion over
 // the tree; the rows of a dropped node, and of all below it, are zeros. At a withdrawn item each row holds 0 before it is used: so no link to it counts.
+#![tactic(auto)]
+
 ghost use Rattle.std.specs.Prelude.{◌≡◌, cond, List, ℕ, ◌+◌, ◌-◌, ◌*◌, ◌≤◌, ◌<◌, max, length, get_or};
 ghost use Rattle.std.proofs.lemmas.List.Edits.{sets};
 ghost use Rattle.meaning.specs.Names.{common};

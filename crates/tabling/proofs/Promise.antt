@@ -18,7 +18,7 @@ use Rattle.meaning.specs.Graph.{Graph}
 use Rattle.meaning.specs.Register.{withdrawn, judged}
 use Rattle.meaning.specs.Reduce.{reduce, kept, scale}
 use Rattle.meaning.specs.Requirement.{bare}
-use Rattle.meaning.specs.Fraction.{◌//◌, lowest}
+use Rattle.meaning.specs.Fraction.{◌÷◌, lowest}
 use Rattle.meaning.specs.Degree.{degree}
 use Rattle.meaning.specs.Calls.{degree_call}
 use Rattle.meaning.specs.Table.{trees, table, after_list}
@@ -126,7 +126,7 @@ module _ (image message : List ℕ) where
 
       -- "Its degrees equal the single calls' for each item" in service
       pub degree-says : (n k d : ℕ) → r ≡ GoodList n k d → (item places : ℕ) → item < n → out item ≡ false → k ≤ places
-          → (m : List ℕ) × (degree_call image message item places ≡ good (record { degree = lowest (get_or new item 0 // d); map = m }))
+          → (m : List ℕ) × (degree_call image message item places ≡ good (record { degree = lowest (get_or new item 0 ÷ d); map = m }))
       degree-says n k d e item places l o m =
           let z : GoodList items (nodes t) (scale (reduce t)) ≡ GoodList n k d = sym (taken-result x) ∙ e in
           let en : items ≡ n = cc in
@@ -136,7 +136,7 @@ module _ (image message : List ℕ) where
           let within : item < nodes t * items = omega (arith, mul-le-mul_right items (some-nodes t)) in
           let call = list-degree image message (length old) _ (list-taken image message (length old) x) item inside _ x.readable.read o places (omega arith) in
           let same : get_or (table G out items t) item 0 ≡ get_or new item 0 = sym (front item within) in
-          (call.0, call.1 ∙ ap₂ (λ (y v : ℕ). good (record { degree = lowest (y // v); map = call.0 })) same ed)
+          (call.0, call.1 ∙ ap₂ (λ (y v : ℕ). good (record { degree = lowest (y ÷ v); map = call.0 })) same ed)
 
   -- any two results that the promise allows are equal
   pub one-list-result : (old new new' : List ℕ) (r s : Listed) → ListPromise image message old new r → ListPromise image message old new' s → (r ≡ s) × (new ≡ new')

@@ -1,4 +1,6 @@
 // The list call: register and requirement are read, what is refused is tested in the document's order, and the table is filled.
+#![tactic(auto)]
+
 ghost use Rattle.std.specs.Prelude.{◌≡◌};
 ghost use Rattle.tabling.specs.Answers.{list_refused, ListPromise};
 

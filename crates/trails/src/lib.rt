@@ -1,5 +1,7 @@
 // The sets of items that meet the written nodes: how one is narrowed by a node's names and by the set of a child, the table of them all, and the map
 // of a yes that is read off it.
+#![tactic(auto)]
+
 ghost use Rattle.std.specs.Prelude.{◌≡◌, ◌≤◌, ◌<◌, length, get_or};
 ghost use Rattle.std.proofs.lemmas.List.Edits.{sets};
 ghost use Rattle.meaning.specs.Names.{within};

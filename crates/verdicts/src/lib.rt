@@ -1,5 +1,7 @@
 // Which items meet a requirement, for all items at once: each node and each threshold is judged once, and an item's row of the listing is then
 // read off the table of what was found; of a withdrawn one it says so.
+#![tactic(auto)]
+
 ghost use Rattle.std.specs.Prelude.{◌≡◌, List, ℕ, ◌≤◌, ◌<◌, length};
 ghost use Rattle.meaning.specs.Bounds.{most_nodes};
 ghost use Rattle.meaning.specs.Calls.{member_call};

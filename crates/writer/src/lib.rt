@@ -1,5 +1,7 @@
 // Writing the message of a requirement that is handed over as lists of numbers (the crate `lists` says how). What is refused is tested first, in the
 // document's order; then the message is written, and nothing can go wrong any more.
+#![tactic(auto)]
+
 ghost use Rattle.std.specs.Prelude.{◌≡◌, ◌++◌, ◌+◌, ◌*◌, ◌-◌, ◌/◌, ◌≤◌, ◌<◌, T, length};
 ghost use Rattle.std.proofs.lemmas.List.Edits.{sets};
 ghost use Rattle.meaning.specs.Lists.{form, said};

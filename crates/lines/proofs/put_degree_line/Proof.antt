@@ -4,7 +4,7 @@ use borrow.Author.Rules.{rules}
 use Rattle.lines.proofs.put_degree_line.Statement.{statement}
 use Rattle.lines.proofs.put_degree_line.Tie as tie
 use Prim.Native.Nat.{◌≤◌}
-use Rattle.meaning.specs.Fraction.{◌//◌}
+use Rattle.meaning.specs.Fraction.{◌÷◌}
 use Rattle.lines.proofs.Writing.{as-text, as_number, wrote-more, wrote-length}
 use Rattle.lines.proofs.Lines.{degree-line}
 use native.Mathlib.Omega.{arith}
@@ -60,7 +60,7 @@ returns c =
       at-put-number3.put-number3.ensures.1,
       at-put-byte3.put-byte3.ensures.next,
     ) in
-    (as-text (degree-line _ (start.args.num // start.args.den) _) whole, omega (arith, start.requires, near, at-put-map.put_map.ensures.1, at-put-byte4.put-byte4.ensures.next))
+    (as-text (degree-line _ (start.args.num ÷ start.args.den) _) whole, omega (arith, start.requires, near, at-put-map.put_map.ensures.1, at-put-byte4.put-byte4.ensures.next))
 
 pub put-degree-line-spec : {M : Type 1} → statement M
 put-degree-line-spec =

@@ -5,14 +5,14 @@ use Prim.Native.Nat.{ℕ, ◌-◌}
 use native.Mathlib.Omega.{arith}
 use lib.ListN.{length}
 use Rattle.folds.specs.Folded.{row_at}
-use Rattle.meaning.specs.Fraction.{◌//◌, compares}
+use Rattle.meaning.specs.Fraction.{◌÷◌, compares}
 use Rattle.meaning.specs.Message.{comparison}
 use Rattle.screening.proofs.Sifting.{Sifting, sifting-start, sifting-step, sifting-end}
 use borrow.Author.Rules.{rules}
 
 abbrev invariant-loop : tie.invariant-loop
 invariant-loop values scale how p q set₀ x₀ set x =
-    (length set ≡ 8) × Sifting (λ z. compares (comparison how) (row_at values 512 z // scale) (p // q)) set₀ set x
+    (length set ≡ 8) × Sifting (λ z. compares (comparison how) (row_at values 512 z ÷ scale) (p ÷ q)) set₀ set x
 
 abbrev decreases-loop : tie.decreases-loop
 decreases-loop values scale how p q set₀ x₀ set x =
@@ -48,7 +48,7 @@ sift-spec =
     let turn = at-loop-test.before in
     let start = turn.before.before.before.before.before in
     let a = start.args in
-    let same = at-satisfies.satisfies.ensures ∙ ap (λ (z : ℕ). compares (comparison a.how) (z // a.scale) (a.p // a.q)) at-quad.quad.ensures.0 in (
+    let same = at-satisfies.satisfies.ensures ∙ ap (λ (z : ℕ). compares (comparison a.how) (z ÷ a.scale) (a.p ÷ a.q)) at-quad.quad.ensures.0 in (
       at-retain.retain.auto.0 ∙ turn.loop.invariant.0,
       sifting-step _ _ _ _ _ _ _ turn.loop.invariant.1 at-loop-test.loop-test.true at-retain.retain.ensures same
           c.next-in2.ensures,
