@@ -1,4 +1,4 @@
--- `readers::size_in_lem` meets its contract: the arrays that stand in the rows hold the tree.
+-- `readers::size_in` meets its contract: the arrays that stand in the rows hold the tree.
 -- Assumes nothing.
 use borrow.Author.Rules.{rules}
 use Rattle.readers.proofs.size_in.Statement.{statement}
