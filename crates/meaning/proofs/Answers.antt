@@ -4,19 +4,17 @@
 -- Assumes nothing.
 use mathlib.Core.Path.{◌≡◌, refl, sym, ap, ◌∙◌, subst}
 use mathlib.Core.Bool.{Bool, true, false}
-use mathlib.Core.List.{List, [], ◌++◌}
+use mathlib.Core.List.{List, ◌++◌}
 use mathlib.Core.Option.{some}
 use Prim.Native.Nat.{ℕ, ◌≤◌, ◌<◌}
 use native.Mathlib.Nat.{zero-add}
 use native.Mathlib.Omega.{arith}
 use lib.Dec.{T, ltb}
-use lib.IntN.{ℤ}
 use lib.ListN.{length, drop, length-map}
 use lib.Seq.{sets, sets-eq}
 use Rattle.meaning.specs.Refusal.{Answer, good, ◌>>=◌, ◌>>◌}
 use Rattle.meaning.specs.Tree.{Concept, nodes}
-use Rattle.meaning.specs.Graph.{Graph}
-use Rattle.meaning.specs.Fraction.{Frac, ◌÷◌, lawful, fraction, Lowest, margin, margin_over}
+use Rattle.meaning.specs.Fraction.{Frac, ◌÷◌, lawful, Lowest, margin, margin_over}
 use Rattle.meaning.specs.Register.{Register, withdrawn, judged, read_register}
 use Rattle.meaning.specs.Partial.{IsDegree}
 use Rattle.meaning.specs.Degree.{degree_of, answered}

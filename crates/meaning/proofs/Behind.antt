@@ -1,7 +1,7 @@
 -- Every byte of a session's buffer after an accepted call. Opening: the image, and zeros behind it. An edit or undo: the image of the register
 -- afterwards; "Taking a link away, by undo too, zeros the 5 bytes freed; other bytes behind the image stay", whatever stood there.
 -- Assumes nothing.
-use mathlib.Core.Path.{◌≡◌, refl, sym, ap, ◌∙◌, subst}
+use mathlib.Core.Path.{◌≡◌, sym, ap, ◌∙◌, subst}
 use mathlib.Core.Bool.{Bool, false}
 use mathlib.Core.List.{List, ◌++◌}
 use Prim.Native.Nat.{ℕ, ◌+◌, ◌-◌, ◌≤◌, ◌<◌, max}

@@ -3,7 +3,7 @@
 -- Small inputs are computed; large registers and the longest message are built by functions, and laws say what they are.
 -- Assumes nothing.
 use mathlib.Core.Path.{◌≡◌, refl, sym, ap, ◌∙◌, subst}
-use mathlib.Core.Bool.{Bool, true, false, ◌&&◌, ◌||◌, cond}
+use mathlib.Core.Bool.{Bool, true, false, ◌&&◌, cond}
 use mathlib.Core.List.{List, [], ◌∷◌, ◌++◌}
 use mathlib.Core.Option.{Option, some}
 use mathlib.Core.Option.{none as nowhere}
@@ -11,7 +11,7 @@ use Prim.Native.Nat.{ℕ, zero, suc, ◌+◌, ◌*◌, ◌≤◌, ◌<◌}
 use native.Mathlib.Omega.{arith}
 use lib.Count.{ones}
 use lib.Dec.{T, ltb, leb, eqb, eqb_refl, ltb→lt, lt→ltb, le→leb}
-use lib.ListN.{length, replicate, length-append, length-replicate}
+use lib.ListN.{length, length-append}
 use Rattle.meaning.specs.declared.Side.TheVariants.{Register as register, Requirement as requirement, Call as call}
 use Rattle.meaning.specs.Refusal.{Answer, good, refused, at, refuse_if, ◌>>=◌, ◌>>◌}
 use Rattle.meaning.specs.Bytes.{number, bytes, fields, read_head, headed}
@@ -30,11 +30,11 @@ use Rattle.meaning.specs.Message.{encode as message}
 use Rattle.meaning.specs.Bounds.{most_items, most_links, most_thresholds}
 use Rattle.meaning.specs.Session.{link}
 use Rattle.meaning.specs.Calls.{asked_for, read_plain, margin_call}
-use Rattle.meaning.specs.Sheet.{R1, Q1, leaf, all_true}
+use Rattle.meaning.specs.Sheet.{R1, Q1, all_true}
 use Rattle.meaning.proofs.Tests.{both-and, or_left, or_right, holds}
 use Rattle.meaning.proofs.Reading.{total, le-of-not-below}
 use Rattle.meaning.proofs.Head.{headed-length}
-use Rattle.meaning.proofs.Image.{Right, wrote, well, image-length, image-read, items_above, links-above}
+use Rattle.meaning.proofs.Image.{wrote, well, image-length, image-read, items_above, links-above}
 use Rattle.meaning.proofs.MessageTree.{owned, tree-length}
 use Rattle.meaning.proofs.MessageLabel.{bounded-close, concept-length, threshold-length, outer_kind}
 use Rattle.meaning.proofs.Message.{parts_in, read-encode}

@@ -13,7 +13,7 @@ use lib.ListN.{length}
 use Rattle.meaning.specs.declared.Fact.{Fact}
 use Rattle.meaning.specs.declared.Fact.TheVariants.{Name as name_on, Link as link_of}
 use Rattle.meaning.specs.declared.Step.{Step}
-use Rattle.meaning.specs.Refusal.{Answer, good, ◌>>=◌, ◌>>◌}
+use Rattle.meaning.specs.Refusal.{Answer, good}
 use Rattle.meaning.specs.Bytes.{Bytes}
 use Rattle.meaning.specs.Tree.{nodes}
 use Rattle.meaning.specs.Register.{Register, is_fact, any_link, well_formed, encode, read_register, read_buffer}

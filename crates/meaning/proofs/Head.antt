@@ -8,7 +8,7 @@ use native.Mathlib.Omega.{arith}
 use lib.Dec.{ltb, eqb, eqb→eq}
 use lib.ListN.{length, get_or, length-append}
 use Rattle.meaning.specs.declared.Side.{Side}
-use Rattle.meaning.specs.Refusal.{good, refused, at, refuse_if, ◌>>=◌, ◌>>◌}
+use Rattle.meaning.specs.Refusal.{good, refused, at, refuse_if, ◌>>◌}
 use Rattle.meaning.specs.Bytes.{number, bytes, Bytes, read_head, unequal, headed}
 use Rattle.meaning.proofs.Tests.{is-not, of-not}
 use Rattle.meaning.proofs.Reading.{good-inj, pass, passed, stop, below, number-one, not-below, le-of-not-below, not-not, not-unequal}

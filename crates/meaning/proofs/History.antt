@@ -4,13 +4,13 @@
 use mathlib.Core.Path.{◌≡◌, refl, sym, ap, ap₂, ◌∙◌, subst}
 use mathlib.Core.Bool.{Bool, true, false, cond}
 use mathlib.Core.List.{List, [], ◌∷◌, ◌++◌}
-use Prim.Native.Nat.{ℕ, suc, ◌+◌, ◌-◌, ◌≤◌, ◌<◌}
+use Prim.Native.Nat.{ℕ, suc, ◌≤◌, ◌<◌}
 use native.Mathlib.Omega.{arith}
 use lib.ListN.{length, get_or, set, length-set}
 use lib.Seq.{get_or-set_same, get_or-set_other}
 use Rattle.meaning.specs.declared.Fact.{Fact}
 use Rattle.meaning.specs.declared.Step.{Step}
-use Rattle.meaning.specs.Refusal.{Answer, good, refused, ◌>>=◌, ◌>>◌}
+use Rattle.meaning.specs.Refusal.{Answer, good, refused}
 use Rattle.meaning.specs.Register.{Register, is_fact, encode, read_buffer}
 use Rattle.meaning.specs.Session.{Facts, same_fact, Edit, edited, set_fact, cleared, rewritten, room, no_place, Changed, open_call, edit_call, undo_call, keep_call}
 use Rattle.meaning.specs.Session.{no_steps, counted, buffer_opened, buffer_after, step_of, log_after, Session, Call, opens, edits, undoes, keeps, no_step, last_step}

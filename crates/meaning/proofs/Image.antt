@@ -12,7 +12,7 @@ use native.Mathlib.Omega.{arith}
 use lib.Dec.{T, ltb, leb, ltb→lt, leb→le, lt→ltb, le→leb}
 use lib.ListN.{length, get_or, length-append}
 use Rattle.meaning.specs.declared.Side.TheVariants.{Register as register}
-use Rattle.meaning.specs.Refusal.{good, refused, at, ◌>>=◌, ◌>>◌}
+use Rattle.meaning.specs.Refusal.{good, refused, at}
 use Rattle.meaning.specs.Bytes.{number, bytes, Bytes, read_head, unequal, more_than}
 use Rattle.meaning.specs.Names.{is_set}
 use Rattle.meaning.specs.Register.{Link, Register, above, all_sets, links_of, well_formed, link_bytes, items_bytes, links_bytes, encode, link_at}

@@ -3,12 +3,12 @@
 use mathlib.Core.Path.{◌≡◌, refl, sym, ap, ◌∙◌, subst}
 use mathlib.Core.Bool.{Bool, true, false, ◌&&◌}
 use mathlib.Core.List.{List, [], ◌∷◌, ◌++◌}
-use Prim.Native.Nat.{ℕ, suc, ◌+◌, ◌≤◌, ◌<◌, max}
+use Prim.Native.Nat.{ℕ, suc, ◌+◌, ◌≤◌, ◌<◌}
 use native.Mathlib.Omega.{arith}
 use native.Mathlib.Decide.{dec_lt}
 use lib.Dec.{T, ltb, leb, leb→le, le→leb}
 use lib.ListN.{length, length-append}
-use Rattle.meaning.specs.Refusal.{good, on_call, refuse_if, ◌>>◌}
+use Rattle.meaning.specs.Refusal.{good, on_call, refuse_if}
 use Rattle.meaning.specs.Bounds.{most_role, most_levels, most_nodes}
 use Rattle.meaning.specs.Tree.{Tree, node, Forest, none, more, nodes, nodes_f, levels, levels_f, each, each_f}
 use Rattle.meaning.specs.Lists.{Listed, listed, listed_f}

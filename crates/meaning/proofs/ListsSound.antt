@@ -8,17 +8,17 @@ use native.Mathlib.Omega.{arith}
 use native.Mathlib.Decide.{ℕ_discrete}
 use lib.Dec.{T, ltb, leb, eqb, leb→le, le→leb, ltb→lt, lt→ltb}
 use lib.ListN.{length, length-append}
-use Rattle.meaning.specs.Refusal.{good, on_call, refuse_if, ◌>>◌}
+use Rattle.meaning.specs.Refusal.{good, on_call, refuse_if}
 use Rattle.meaning.specs.Names.{is_set}
-use Rattle.meaning.specs.Bounds.{most_levels, most_nodes, most_thresholds, most_size}
-use Rattle.meaning.specs.Tree.{Tree, node, Forest, none, more, Concept, written, written_f}
+use Rattle.meaning.specs.Bounds.{most_thresholds, most_size}
+use Rattle.meaning.specs.Tree.{Tree, node, Forest, none, more, written, written_f}
 use Rattle.meaning.specs.Reduce.{reduce, size}
 use Rattle.meaning.specs.Requirement.{Threshold, Label, Requirement, every}
-use Rattle.meaning.specs.Message.{lawful, code, comparison, bounded, sound_inner, sound_threshold, sound_label, joined, thresholds_of, sound}
+use Rattle.meaning.specs.Message.{lawful, code, bounded, sound_inner, sound_threshold, sound_label, joined, thresholds_of, sound}
 use Rattle.meaning.specs.Lists.{Listed, Limit, Lists, go_on, form_tree, stand_at, form, grown, first_tree, concept, threshold, owned, labelled, said}
 use Rattle.meaning.specs.Lists.{listed, listed_f, limit_of, limits_at, limits_of, names_only, lists_of}
 use Rattle.meaning.specs.Writing.{node_fits, nodes_fit, limit_fits, own_fit, lists_fit}
-use Rattle.meaning.proofs.Tests.{and_both, both-and, is_true, of-not}
+use Rattle.meaning.proofs.Tests.{and_both, both-and, of-not}
 use Rattle.meaning.proofs.Reading.{not_good, pass, passed, went, gone, not-below, le-of-not-below, not-le, lt_of_not_le, not-not}
 use Rattle.meaning.proofs.MessageLabel.{bounded-close, bounded-open, decoded, sound-inner}
 use Rattle.meaning.proofs.Message.{sound-open}

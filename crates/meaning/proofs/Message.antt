@@ -9,7 +9,7 @@ use lib.Dec.{T, leb, leb→le, le→leb}
 use lib.ListN.{length, get_or, take, drop, length-append}
 use Rattle.meaning.specs.declared.Side.TheVariants.{Requirement as requirement}
 use Rattle.meaning.specs.declared.Refusal.{Refusal}
-use Rattle.meaning.specs.Refusal.{good, refused, ◌>>=◌, ◌>>◌}
+use Rattle.meaning.specs.Refusal.{good, refused}
 use Rattle.meaning.specs.Bytes.{Bytes}
 use Rattle.meaning.specs.Names.{is_set}
 use Rattle.meaning.specs.Tree.{node, Forest, none, more, nodes, levels, written, written_f}

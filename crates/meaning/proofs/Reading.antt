@@ -13,7 +13,7 @@ use lib.ListN.{get_or-append}
 use lib.Seq.{get_or-append-add, get_or-take, get_or-drop, ext_get_or}
 use Rattle.meaning.specs.declared.Side.{Side}
 use Rattle.meaning.specs.declared.Refusal.{Refusal}
-use Rattle.meaning.specs.Refusal.{Answer, good, refused, at, refuse_if, ◌>>=◌, ◌>>◌}
+use Rattle.meaning.specs.Refusal.{Answer, good, refused, refuse_if, ◌>>=◌, ◌>>◌}
 use Rattle.meaning.specs.Bytes.{number, bytes, Bytes, fields, unequal, headed}
 use Rattle.meaning.proofs.Tests.{is_true, is_false, of-not}
 

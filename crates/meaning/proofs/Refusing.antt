@@ -26,7 +26,7 @@ use Rattle.meaning.specs.Refusing.{CallTakes, CallRow, UndoTakes, UndoRow, earli
 -- the order of the tests on inputs that break two rules at once, by computation: checked before the laws
 pub use Rattle.meaning.proofs.SessionOrders.{session-orders}
 use Rattle.meaning.proofs.Tests.{holds, is_true, is_false, is-eqb, true-false}
-use Rattle.meaning.proofs.Reading.{not_good, good-inj, pass, stop, stopped, took, below, not-below, at_most, not-le, le-of-not-below, lt_of_not_le}
+use Rattle.meaning.proofs.Reading.{not_good, pass, stop, stopped, took, below, not-below, at_most, not-le, le-of-not-below, lt_of_not_le}
 
 -- ---- an answer and its rows
 

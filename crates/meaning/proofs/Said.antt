@@ -1,13 +1,10 @@
 -- The lists of a requirement say that requirement.
 -- Assumes nothing.
-use mathlib.Core.Path.{◌≡◌, refl, sym, ap, ap₂, ◌∙◌, subst}
+use mathlib.Core.Path.{◌≡◌, refl, ap, ap₂, ◌∙◌}
 use mathlib.Core.List.{List, [], ◌∷◌, ◌++◌, append-nil}
-use Prim.Native.Nat.{ℕ, suc, ◌≤◌, ◌<◌}
+use Prim.Native.Nat.{ℕ, suc, ◌<◌}
 use native.Mathlib.Omega.{arith}
-use lib.Dec.{eqb}
 use Rattle.meaning.specs.Requirement.{Threshold, Label, Requirement}
-use Rattle.meaning.specs.Fraction.{Comparison}
-use Rattle.meaning.specs.Message.{code, comparison}
 use Rattle.meaning.specs.Lists.{Listed, Limit, concept, threshold, owned, labelled, said, listed, limit_of, limits_at, limits_of, names_only, lists_of}
 use Rattle.meaning.proofs.MessageLabel.{decoded}
 use Rattle.meaning.proofs.Lists.{same, other, first-listed}

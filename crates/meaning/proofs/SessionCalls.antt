@@ -9,7 +9,7 @@ use lib.Dec.{T}
 use lib.ListN.{length, drop, length-append, length-replicate, replicate-append-replicate}
 use lib.Seq.{drop-append-add, take_at}
 use Rattle.meaning.specs.declared.Step.{Step}
-use Rattle.meaning.specs.Refusal.{good, ◌>>=◌, ◌>>◌}
+use Rattle.meaning.specs.Refusal.{good}
 use Rattle.meaning.specs.Bytes.{number, bytes, headed}
 use Rattle.meaning.specs.Register.{Register, well_formed, items_bytes, links_bytes, encode, read_buffer}
 use Rattle.meaning.specs.Session.{Edit, set_fact, zeros, cleared, rewritten, image_of, room, out_of_range, role_above, no_place, Changed, open_call, edit_call, undo_call}

@@ -2,7 +2,7 @@
 -- neighbours in each call's order; and each bound of a count and of a place, from both sides. One table, proved by computation.
 -- (Of undo's 17 for the count and 19 no input breaks both: a count of 0 is above nothing.)
 -- Assumes nothing.
-use mathlib.Core.Bool.{Bool, true, false, ◌&&◌}
+use mathlib.Core.Bool.{Bool, true, false}
 use mathlib.Core.List.{List, [], ◌∷◌, ◌++◌}
 use Prim.Native.Nat.{ℕ}
 use lib.Dec.{T, eqb}
@@ -13,8 +13,8 @@ use Rattle.meaning.specs.declared.Step.{Step}
 use Rattle.meaning.specs.Refusal.{Answer, good, refused, refuse_if, ◌>>=◌, ◌>>◌}
 use Rattle.meaning.specs.Bytes.{number, bytes, fields, read_head, headed}
 use Rattle.meaning.specs.Register.{Register, any_link, is_fact, items_bytes, links_bytes, encode, read_items, read_link, read_links, read_body, read_register_by, read_buffer}
-use Rattle.meaning.specs.Session.{Edit, zeros, insert, without, set_fact, cleared, rewritten, no_place, Changed, open_call, edit_call, undo_call, keep_call}
-use Rattle.meaning.specs.Session.{no_steps, counted, buffer_opened, buffer_after, log_after, Session, edits, undoes, no_step, answer, buffer, log, next, play}
+use Rattle.meaning.specs.Session.{Edit, zeros, insert, without, set_fact, rewritten, no_place, Changed, open_call, edit_call, undo_call, keep_call}
+use Rattle.meaning.specs.Session.{counted, buffer_after, log_after, edits, undoes, no_step, answer, buffer, log, next, play}
 use Rattle.meaning.specs.Sheet.{all_true}
 use Rattle.meaning.proofs.Orders.{same_side, is, one_item, link_bytes}
 

@@ -1,7 +1,7 @@
 -- A session can be worked: an edit of a fact in range, with room in the log and in the buffer, is accepted, and afterwards that fact is what the
 -- edit makes it and every other is what it was. From any buffer that holds a register (`edit-works`), and so from every opened one (`opened-works`).
 -- Assumes nothing.
-use mathlib.Core.Path.{◌≡◌, refl, sym, ap, ◌∙◌, subst}
+use mathlib.Core.Path.{◌≡◌, sym, ap, ◌∙◌, subst}
 use mathlib.Core.Logic.{◌⊎◌}
 use mathlib.Core.Bool.{Bool, true, false}
 use mathlib.Core.List.{List, ◌++◌}
@@ -19,7 +19,7 @@ use Rattle.meaning.specs.Session.{answer, buffer, log, count_after, next}
 use Rattle.meaning.specs.Refusing.{Inside, RoleFits, HasRoom, EditTakes}
 use Rattle.meaning.proofs.Reading.{stands_self, stands-left}
 use Rattle.meaning.proofs.Image.{buffer-read, read-buffer}
-use Rattle.meaning.proofs.SessionFacts.{Sounds, sounds, set-items, set-facts, placed, set-well}
+use Rattle.meaning.proofs.SessionFacts.{sounds, set-items, set-facts, placed, set-well}
 use Rattle.meaning.proofs.SessionCalls.{edit-passed, alone, alone-length, alone-read}
 use Rattle.meaning.proofs.Refusing.{edit-takes}
 use Rattle.meaning.proofs.Demand3.{open_next}

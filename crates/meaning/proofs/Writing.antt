@@ -1,22 +1,20 @@
 -- The call that writes: what it writes reads back, a requirement that was read is written again byte for byte, and when it refuses.
 -- Assumes nothing.
-use mathlib.Core.Path.{◌≡◌, refl, sym, ap, ◌∙◌, subst}
-use mathlib.Core.Bool.{Bool, true, false, ◌&&◌, not}
+use mathlib.Core.Path.{◌≡◌, sym, ap, ◌∙◌, subst}
+use mathlib.Core.Bool.{◌&&◌, not}
 use mathlib.Core.List.{List, ◌++◌}
-use Prim.Native.Nat.{ℕ, zero, suc, ◌+◌, ◌*◌, ◌≤◌, ◌<◌}
-use native.Mathlib.Omega.{arith}
+use Prim.Native.Nat.{ℕ, zero, suc, ◌*◌, ◌≤◌, ◌<◌}
 use lib.Dec.{T, ltb, lt→ltb}
 use lib.ListN.{length, get_or, drop}
-use Rattle.meaning.specs.Refusal.{good, on_call, refuse_if, ◌>>◌}
+use Rattle.meaning.specs.Refusal.{good}
 use Rattle.meaning.specs.Bytes.{Bytes}
 use Rattle.meaning.specs.Names.{is_set}
 use Rattle.meaning.specs.Requirement.{Requirement}
-use Rattle.meaning.specs.Message.{Part, sound, encode, read_requirement}
-use Rattle.meaning.specs.Lists.{Listed, Limit, Lists, form, said, lists_of}
+use Rattle.meaning.specs.Message.{Part, encode, read_requirement}
+use Rattle.meaning.specs.Lists.{Lists, form, said, lists_of}
 use Rattle.meaning.specs.Writing.{nodes_from, limits_from, lists_in, node_numbers, limit_numbers, inner_numbers, whole, lists_fit, write_call, after_write}
 use Rattle.meaning.proofs.Tests.{and_both, both-and, of-not}
 use Rattle.meaning.proofs.Reading.{good-inj, pass, passed, went, gone, not-below, le-of-not-below, not-not}
-use Rattle.meaning.proofs.MessageLabel.{decoded}
 use Rattle.meaning.proofs.Answers.{lent}
 use Rattle.meaning.proofs.Message.{parts_in, read-encode, read_back}
 use Rattle.meaning.proofs.ListsFit.{Ok}

@@ -2,7 +2,7 @@
 -- Assumes nothing.
 use Rattle.std.specs.Prelude.{Bool, not, List, [], ◌∷◌, ◌++◌, ℕ, zero, suc, ◌+◌, ◌*◌, ◌-◌, ◌/◌, ◌%◌, ◌<◌, ltb, eqb, length, get_or}
 use Rattle.meaning.specs.declared.Side.{Side}
-use Rattle.meaning.specs.Refusal.{Answer, good, at, refuse_if, ◌>>=◌, ◌>>◌}
+use Rattle.meaning.specs.Refusal.{Answer, good, at, refuse_if, ◌>>◌}
 
 -- the number that the w bytes from place p on hold
 unfoldable pub number : List ℕ → ℕ → ℕ → ℕ

@@ -2,7 +2,7 @@
 -- "It hands over a list of nodes in reading order (names, depth, role to the parent, not read at the root) and for each threshold its node,
 -- comparison, p, q and the list of its inner concept."
 -- Assumes nothing.
-use Rattle.std.specs.Prelude.{Bool, true, false, ◌&&◌, cond, List, [], ◌∷◌, ◌++◌, ℕ, suc, ◌+◌, ltb, leb, eqb, length}
+use Rattle.std.specs.Prelude.{Bool, true, false, ◌&&◌, cond, List, [], ◌∷◌, ◌++◌, ℕ, suc, ltb, leb, eqb, length}
 use Rattle.meaning.specs.Tree.{Tree, node, Forest, none, more, Concept}
 use Rattle.meaning.specs.Fraction.{◌÷◌}
 use Rattle.meaning.specs.Requirement.{Threshold, Label, Requirement}

@@ -1,0 +1,62 @@
+use mathlib.Core.Path.{◌≡◌, sym, ◌∙◌, ap}
+use Prim.Native.Nat.{ℕ, ◌-◌, ◌≤◌, ◌<◌}
+use native.Mathlib.Omega.{arith}
+use lib.ListN.{length}
+use Rattle.meaning.proofs.Head.{head-short, head-version, head-length, head-good}
+use Rattle.meaning.specs.Refusal.{Answer, good}
+use Rattle.meaning.specs.Bytes.{number}
+use Rattle.fields.specs.Head.{wrong_in}
+use Rattle.fields.proofs.Wrong.{wrong-longer, wrong-shorter, right-front, right-whole}
+use Rattle.fields.proofs.read_head.Goals as goal
+
+-- a head's end as a number of its own, so that a wrong end is a false equation of numbers
+ends_at : {a b : ℕ} {r : Answer ℕ} → r ≡ good b → a ≡ b → good a ≡ r
+ends_at h e = ap good e ∙ sym h
+
+pub returns-then-n-lt3 : goal.returns-then-n-lt3
+returns-then-n-lt3 c =
+    let h : length c.args.s.now < 3 = omega arith in record {
+      result_value = λ side. sym (head-short side (wrong_in c.args.session) c.args.s.now h);
+      ends_within = tt;
+    }
+
+pub returns-then-s-ne1 : goal.returns-then-s-ne1
+returns-then-s-ne1 c =
+    let h : 3 ≤ length c.args.s.now = omega arith in record {
+      result_value = λ side. sym (head-version side (wrong_in c.args.session) c.args.s.now h c.if-s-ne1.true);
+      ends_within = tt;
+    }
+
+pub returns-then-n-len : goal.returns-then-n-len
+returns-then-n-len c =
+    let h : 3 ≤ length c.args.s.now = omega arith in
+    let l : length c.args.s.now - 3 < number c.args.s.now 1 2 = omega (arith, c.two-len.ensures.value) in record {
+      result_value = λ side. sym (head-length side (wrong_in c.args.session) c.args.s.now h c.if-s-ne1.false (wrong-longer c.args.session _ _ l));
+      ends_within = tt;
+    }
+
+pub returns-then-session : goal.returns-then-session
+returns-then-session c =
+    let h : 3 ≤ length c.args.s.now = omega arith in
+    let l : number c.args.s.now 1 2 ≤ length c.args.s.now - 3 = omega (arith, c.two-len.ensures.value) in record {
+      result_value = λ side. ends_at (head-good side (wrong_in c.args.session) c.args.s.now h c.if-s-ne1.false
+          (right-front c.args.session _ _ c.if-session.true l)) (omega (arith, c.two-len.ensures.value));
+      ends_within = omega arith;
+    }
+
+pub returns-then-len-n : goal.returns-then-len-n
+returns-then-len-n c =
+    let h : 3 ≤ length c.args.s.now = omega arith in
+    let l : number c.args.s.now 1 2 < length c.args.s.now - 3 = omega (arith, c.two-len.ensures.value) in record {
+      result_value = λ side. sym (head-length side (wrong_in c.args.session) c.args.s.now h c.if-s-ne1.false (wrong-shorter c.args.session _ _ c.if-session.false l));
+      ends_within = tt;
+    }
+
+pub returns : goal.returns
+returns c =
+    let h : 3 ≤ length c.args.s.now = omega arith in
+    let l : number c.args.s.now 1 2 ≡ length c.args.s.now - 3 = omega (arith, c.two-len.ensures.value) in record {
+      result_value = λ side. ends_at (head-good side (wrong_in c.args.session) c.args.s.now h c.if-s-ne1.false
+          (right-whole c.args.session _ _ c.if-session.false l)) (omega (arith, c.two-len.ensures.value));
+      ends_within = omega arith;
+    }
