@@ -1,6 +1,6 @@
 -- The end of each test at a link, as the code comes to it.
 -- Assumes nothing.
-use mathlib.Core.Path.{◌≡◌, refl, sym, ap, ◌∙◌, subst}
+use mathlib.Core.Path.{◌≡◌, refl, ap, ◌∙◌, subst}
 use mathlib.Core.Bool.{not}
 use mathlib.Core.List.{List, [], ◌∷◌}
 use mathlib.Core.Option.{Option, some}
@@ -10,7 +10,7 @@ use native.Mathlib.Decide.{dec_lt}
 use lib.Dec.{ltb, leb}
 use lib.ListN.{get_or}
 use Rattle.meaning.specs.declared.Side.TheVariants.{Register as register}
-use Rattle.meaning.specs.Refusal.{Answer, good, refused, at, refuse_if, ◌>>=◌, ◌>>◌}
+use Rattle.meaning.specs.Refusal.{Answer, good, refused, at, refuse_if, ◌>>◌}
 use Rattle.meaning.specs.Bounds.{most_items, most_role}
 use Rattle.meaning.specs.Bytes.{number, fields, Bytes}
 use Rattle.meaning.specs.Register.{Link, link_at, above, read_link}
