@@ -1,0 +1,80 @@
+-- `fixed::threshold` meets its contract: 12, 1, 13, what is wrong with its fraction, and 1, as the reader of a threshold gives them, and where its inner
+-- concept ends.
+-- Assumes nothing.
+use mathlib.Core.Path.{sym, ap, ◌∙◌}
+use Prim.Native.Nat.{ℕ, ◌+◌, ◌-◌, ◌≤◌, ◌<◌}
+use native.Mathlib.Omega.{arith}
+use Rattle.meaning.specs.declared.Side.TheVariants.{Requirement as requirement}
+use Rattle.meaning.specs.Refusal.{refused, at}
+use Rattle.meaning.specs.Bytes.{number}
+use Rattle.fixed.proofs.Thresholds.{threshold-many, threshold-cut-end, threshold-how, threshold-fraction, threshold-length-cut, threshold-past}
+use Rattle.fixed.proofs.Thresholds.{wrong-here, rule-kept}
+use Rattle.fixed.proofs.threshold.Goals as goal
+
+pub returns-then-parts-ge-MOST_THRESHOLDS : goal.returns-then-parts-ge-MOST_THRESHOLDS
+returns-then-parts-ge-MOST_THRESHOLDS c =
+    let a = c.args in
+    λ owner n ps l. threshold-many a.s.now a.end owner a.at n ps (omega (arith, l, c.if-parts-ge-MOST_THRESHOLDS.true))
+
+pub returns-then-end-at-lt5 : goal.returns-then-end-at-lt5
+returns-then-end-at-lt5 c =
+    let a = c.args in
+    let room : a.parts < 16 = c.if-parts-ge-MOST_THRESHOLDS.false in
+    let cut : a.end - a.at < 5 = c.if-end-at-lt5.true in
+    let place = ap (λ (q : ℕ). refused (at requirement 1 q)) (sym c.threshold_cut.ensures) in
+    λ owner n ps l. (threshold-cut-end a.s.now a.end owner a.at n ps (omega (arith, l)) c.requires.before cut ∙ place)
+
+pub returns-then-one-gt3 : goal.returns-then-one-gt3
+returns-then-one-gt3 c =
+    let a = c.args in
+    let room : a.parts < 16 = c.if-parts-ge-MOST_THRESHOLDS.false in
+    let fits : a.at + 5 ≤ a.end = omega (arith, c.if-end-at-lt5.false, c.requires.before) in
+    let above : 3 < number a.s.now a.at 1 = omega (arith, c.if-one-gt3.true, c.one.ensures.value) in
+    λ owner n ps l. threshold-how a.s.now a.end owner a.at n ps (omega (arith, l)) fits above
+
+pub returns-then-number-ne0 : goal.returns-then-number-ne0
+returns-then-number-ne0 c =
+    let a = c.args in
+    let room : a.parts < 16 = c.if-parts-ge-MOST_THRESHOLDS.false in
+    let fits : a.at + 5 ≤ a.end = omega (arith, c.if-end-at-lt5.false, c.requires.before) in
+    let compared : number a.s.now a.at 1 ≤ 3 = omega (arith, c.if-one-gt3.false, c.one.ensures.value) in
+    let found = wrong-here _ _ _ _ _ c.two.ensures.value c.two-2.ensures.value c.wrong-number.ensures in
+    λ owner n ps l. (threshold-fraction a.s.now a.end owner a.at n ps (omega (arith, l, room)) fits compared
+    c.wrong-number.result found c.if-number-ne0.true ∙ ap (λ (q : ℕ). refused (at requirement c.wrong-number.result q)) (sym c.fault_place.ensures))
+
+pub returns-then-end-at-lt7 : goal.returns-then-end-at-lt7
+returns-then-end-at-lt7 c =
+    let a = c.args in
+    let room : a.parts < 16 = c.if-parts-ge-MOST_THRESHOLDS.false in
+    let fits : a.at + 5 ≤ a.end = omega (arith, c.if-end-at-lt5.false, c.requires.before) in
+    let compared : number a.s.now a.at 1 ≤ 3 = omega (arith, c.if-one-gt3.false, c.one.ensures.value) in
+    let rule = rule-kept _ _ _ _ _ c.two.ensures.value c.two-2.ensures.value c.wrong-number.ensures compared c.if-number-ne0.false in
+    let cut : a.end < a.at + 7 = omega (arith, c.if-end-at-lt7.true, c.requires.before) in
+    λ owner n ps l. threshold-length-cut a.s.now a.end owner a.at n ps (omega (arith, l, room)) fits rule cut
+
+pub returns-then-end-at : goal.returns-then-end-at
+returns-then-end-at c =
+    let a = c.args in
+    let room : a.parts < 16 = c.if-parts-ge-MOST_THRESHOLDS.false in
+    let fits : a.at + 5 ≤ a.end = omega (arith, c.if-end-at-lt5.false, c.requires.before) in
+    let compared : number a.s.now a.at 1 ≤ 3 = omega (arith, c.if-one-gt3.false, c.one.ensures.value) in
+    let rule = rule-kept _ _ _ _ _ c.two.ensures.value c.two-2.ensures.value c.wrong-number.ensures compared c.if-number-ne0.false in
+    let long : a.at + 7 ≤ a.end = omega (arith, c.if-end-at-lt7.false, c.requires.before) in
+    let past : a.end < a.at + 7 + number a.s.now (a.at + 5) 2 = omega (arith, c.if-end-at.true, c.two-len.ensures.value, long) in
+    λ owner n ps l. threshold-past a.s.now a.end owner a.at n ps (omega (arith, l, room)) fits rule long past
+
+pub returns : goal.returns
+returns c =
+    let a = c.args in
+    let room : a.parts < 16 = c.if-parts-ge-MOST_THRESHOLDS.false in
+    let fits : a.at + 5 ≤ a.end = omega (arith, c.if-end-at-lt5.false, c.requires.before) in
+    let compared : number a.s.now a.at 1 ≤ 3 = omega (arith, c.if-one-gt3.false, c.one.ensures.value) in
+    let rule = rule-kept _ _ _ _ _ c.two.ensures.value c.two-2.ensures.value c.wrong-number.ensures compared c.if-number-ne0.false in
+    let long : a.at + 7 ≤ a.end = omega (arith, c.if-end-at-lt7.false, c.requires.before) in
+    record {
+      room = room;
+      fits = long;
+      ruled = rule;
+      stops = ap (λ (k : ℕ). a.at + 7 + k) c.two-len.ensures.value;
+      inside = omega (arith, c.if-end-at.false, long);
+    }
