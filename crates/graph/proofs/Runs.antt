@@ -10,11 +10,10 @@ use lib.ListN.{length, get_or, drop, length-drop}
 use lib.Seq.{get_or-drop}
 use borrow.Author.Tests.{eq-eqb, ne_eqb}
 use Rattle.meaning.specs.Bytes.{Bytes}
-use Rattle.meaning.specs.Refusal.{good}
-use Rattle.meaning.specs.Register.{Link, Register, targets, read_buffer}
+use Rattle.meaning.specs.Register.{Link, targets}
 use Rattle.register.specs.Image.{no_link, Begins}
 use Rattle.register.proofs.Targets.{targets-before, targets-behind, targets-step}
-use Rattle.graph.specs.Judged.{Judged, start_no, end_no, role_no, values_from, spanned, Runs, Opens, Parted}
+use Rattle.graph.specs.Judged.{Judged, start_no, role_no, values_from, spanned, Opens, Parted}
 use Rattle.graph.proofs.Rising.{roles-rise}
 
 module _ (ls : List Link) (i r : ℕ) where

@@ -48,14 +48,14 @@ pub struct Refusal {
 }
 
 // Document 01, "Session": a fact, "which is either a name on an item or a link".
-#[derive(Drop)]
+#[derive(Clone, Copy)]
 pub enum Fact {
     Name { item: usize, name: usize },
     Link { from: usize, role: usize, to: usize },
 }
 
 // A step of a session: its fact, "and whether that fact was there before".
-#[derive(Drop)]
+#[derive(Clone, Copy)]
 pub struct Step {
     pub fact: Fact,
     pub was: bool,

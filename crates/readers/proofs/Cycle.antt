@@ -1,7 +1,7 @@
 -- One turn of the cycle: what a reader leaves, from what those that it calls left.
 -- Assumes nothing.
 use mathlib.Core.Path.{◌≡◌, refl, sym, ap, ◌∙◌, subst}
-use mathlib.Core.Bool.{Bool, true, false}
+use mathlib.Core.Bool.{Bool, true}
 use mathlib.Core.List.{List, [], ◌∷◌, ◌++◌}
 use mathlib.Core.Option.{some}
 use mathlib.Core.Option.{none as nowhere}
@@ -23,7 +23,7 @@ use Rattle.fixed.specs.declared.NodeFields.TheVariants.{Refused as RefusedNode}
 use Rattle.fixed.specs.declared.EdgeFields.TheVariants.{Refused as RefusedEdge}
 use Rattle.fixed.specs.declared.ThresholdFields.TheVariants.{Refused as RefusedThreshold}
 use Rattle.rows.specs.Packed.{names_in, roles_in, ends_in}
-use Rattle.readers.specs.Reading.{spot, Start, PartsHeld, RowsKept, refusal_of, node_in, children_in, ReadGood, Outcome}
+use Rattle.readers.specs.Reading.{spot, Start, PartsHeld, refusal_of, node_in, children_in, ReadGood, Outcome}
 use Rattle.readers.specs.Reading.{NodeHeld, NodeDone, ForestHeld, ChildrenDone, PartsGood, PartsOutcome, ThresholdsDone, ThresholdDone, InnerOutcome, InnerDone}
 use Rattle.fixed.specs.Fixed.{NodeOpen, NodeFixed, EdgeOpen, EdgeFixed, ThresholdOpen, ThresholdFixed}
 use Rattle.reduction.specs.Held.{Held, ForTree}

@@ -1,5 +1,2 @@
-pub mod Walk
-pub mod Local
-pub mod Log
 pub mod Recorded
 pub mod Played

@@ -2,7 +2,7 @@
 -- follow meaning's history (`follows`). So demand 3 holds of them (`demand-3`), and an accepted edit that has something to change changes the image,
 -- the first and each later one (`edit-moves`), and so does an undo (`undo-moves`). Nothing is assumed of the log and the count that are lent.
 -- Assumes nothing.
-use mathlib.Core.Path.{◌≡◌, refl, sym, ap, ap₂, ◌∙◌}
+use mathlib.Core.Path.{◌≡◌, refl, ap, ap₂, ◌∙◌}
 use mathlib.Core.List.{List, [], ◌∷◌}
 use Prim.Native.Nat.{ℕ}
 use lib.ListN.{length}
@@ -10,7 +10,7 @@ use Rattle.meaning.specs.declared.Step.{Step}
 use Rattle.meaning.specs.Refusal.{Answer, good}
 use Rattle.meaning.specs.Bytes.{Bytes}
 use Rattle.meaning.specs.Register.{Register, is_fact, read_buffer}
-use Rattle.meaning.specs.Session.{Edit, Session, Call, opens, edits, undoes, keeps, image_of, answer, buffer, log, count_after, next, play, kept_if, accepted}
+use Rattle.meaning.specs.Session.{Edit, Session, Call, opens, edits, undoes, image_of, answer, next, play, kept_if, accepted}
 use Rattle.meaning.specs.Session.{Standing, nothing, told, standing, standing_facts}
 use Rattle.meaning.specs.Demand3.{Shows}
 use Rattle.session.specs.declared.Counted.{Counted}

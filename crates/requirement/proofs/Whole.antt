@@ -9,7 +9,7 @@ use lib.Dec.{ltb}
 use lib.ListN.{length}
 use Rattle.meaning.specs.declared.Side.TheVariants.{Requirement as requirement}
 use Rattle.meaning.specs.declared.Refusal.{Refusal}
-use Rattle.meaning.specs.Refusal.{Answer, good, refused, at, ◌>>=◌, ◌>>◌}
+use Rattle.meaning.specs.Refusal.{Answer, good, refused, at, ◌>>=◌}
 use Rattle.meaning.specs.Bytes.{Bytes, read_head, unequal}
 use Rattle.meaning.proofs.Head.{read-head}
 use Rattle.meaning.specs.Tree.{Tree, node, Forest, none, more, Concept, nodes, nodes_f, relabel, relabel_f}

@@ -3,7 +3,7 @@
 use mathlib.Core.Path.{◌≡◌, refl, sym, ap, ap₂, ◌∙◌, subst}
 use mathlib.Core.Bool.{Bool, true, false, ◌||◌}
 use mathlib.Core.List.{List, ◌++◌}
-use Prim.Native.Nat.{ℕ, ◌+◌, ◌*◌, ◌-◌, ◌≤◌, ◌<◌, min}
+use Prim.Native.Nat.{ℕ, ◌+◌, ◌-◌, ◌≤◌, ◌<◌, min}
 use native.Mathlib.Omega.{arith}
 use lib.Dec.{ltb, leb, eqb, eqb→eq}
 use lib.ListN.{length, take, drop}
@@ -20,7 +20,6 @@ use Rattle.meaning.specs.Session.{open_call, edit_call, undo_call, keep_call, no
 use Rattle.meaning.proofs.Tests.{is_false, neither}
 use Rattle.meaning.proofs.Reading.{good-inj, pass, stop, stopped, took, taken, below, not-below, at_most, not-le}
 use Rattle.meaning.proofs.Image.{image-length, image-fits}
-use Rattle.meaning.proofs.SessionCalls.{edit-passed}
 use Rattle.meaning.proofs.SessionFacts.{Sounds, sounds}
 use Rattle.fields.specs.Head.{wrong_in}
 use Rattle.register.specs.declared.Reading.{Reading}

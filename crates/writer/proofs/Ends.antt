@@ -17,14 +17,6 @@ use Rattle.writer.specs.declared.Written.{Written}
 use Rattle.writer.specs.declared.Written.TheVariants.{Good as GoodWritten}
 use Rattle.writer.specs.Promise.{long, written_refused, WritePromise}
 
-pub denied : (b : Bool) → not b ≡ true → b ≡ false
-denied true e = sym e
-denied false e = refl
-
-pub affirmed : (b : Bool) → not b ≡ false → b ≡ true
-affirmed true e = refl
-affirmed false e = sym e
-
 pub told-refused : (n : ℕ) → (n ≡ 0 → ⊥) → told n ≡ refused (on_call n)
 told-refused zero d = absurd (d refl)
 told-refused (suc n) d = refl

@@ -44,7 +44,7 @@ each_all hs inner n b j k (suc m) left w h i s f =
     let l = leb→le (inners_at hs j) left p.0 in
     let o = stand-open n b (limit_at hs inner j k) (limits_from hs inner (suc j) (k + inners_at hs j) m) s in
     let one : One hs inner j k = record { whole = omega (arith, h); room = omega (arith, i, l); forms = o.2 } in
-    (one, f.0, each_all hs inner n _ (suc j) (k + inners_at hs j) m (left - inners_at hs j) p.1 (omega (arith, h)) (omega (arith, i, l)) o.3 f.1)
+    (one, f.0, each_all hs inner n (limit_at hs inner j k).owner (suc j) (k + inners_at hs j) m (left - inners_at hs j) p.1 (omega (arith, h)) (omega (arith, i, l)) o.3 f.1)
 
 pub record Given (nodes hs inner : List ℕ) : Type 0 where
   pub some : 0 < length nodes / 3

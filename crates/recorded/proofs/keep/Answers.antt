@@ -1,0 +1,8 @@
+-- `recorded::keep` meets its contract: what the core answers is what the face promises.
+-- Assumes nothing.
+use Rattle.recorded.proofs.Recorded.{keep-promised}
+use Rattle.recorded.proofs.keep.Goals as goal
+
+pub returns : goal.returns
+returns c =
+    keep-promised c.args.s.now c.args.log.now c.args.count _ c.keep_in.ensures

@@ -1,0 +1,12 @@
+use Rattle.fields.proofs.Known.{bytes-known}
+use Rattle.setting.proofs.Set.{asked_is}
+use Rattle.setting.proofs.Chains.{insert-chain}
+use Rattle.setting.proofs.insert.Goals as goal
+
+pub returns : goal.returns
+returns c =
+    let a = c.args in
+    let p = c.requires in
+    λ g e l en small.
+    insert-chain a.s.now (bytes-known a.s.now c.slice_known-1.given) a.items a.links a.k _ _ g e (asked_is p.of_size g e)
+    c.link_at-at.ensures c.image_len-end.ensures _ _ _ _ l p.k_le_links.0 p.k_le_links.3 en small c.move_up.ensures c.put.ensures c.put_counts.ensures

@@ -1,0 +1,11 @@
+-- `writer::put_labelled` meets its contract: a node's ten bytes, and its thresholds.
+-- Assumes nothing.
+use Rattle.limits.proofs.Inner.{behind-fixed}
+use Rattle.writer.proofs.put_labelled.Goals as goal
+
+pub returns : goal.returns
+returns c =
+    record {
+      value = c.put_limits.ensures.value;
+      out_after = behind-fixed c.args.nodes.now c.args.out.now _ _ _ _ _ _ _ c.put_node.ensures c.put_limits.ensures.out_after;
+    }
