@@ -1,8 +1,10 @@
 -- `answers::of_margin` meets its contract: the numbers of a margin.
 -- Assumes nothing.
-use mathlib.Core.Path.{◌∙◌, ap}
+use mathlib.Core.Path.{sym, ◌∙◌, ap}
 use lib.IntN.{nat_abs}
-use Rattle.answers.specs.Numbers.{below_zero}
+use Rattle.asking.specs.declared.Margin.{Margin}
+use Rattle.asking.specs.Answers.{paper_margin}
+use Rattle.answers.specs.Numbers.{numbers, below_zero, margin_numbers}
 use Rattle.answers.proofs.Margins.{small, read_back, small-again, margin-told}
 use borrow.Author.Rules.{rules}
 use Rattle.answers.proofs.of_margin.Goals as goal
@@ -19,3 +21,7 @@ returns-in-Good c =
     let size = c.magnitude.ensures ∙ ap nat_abs (read_back z within) in
     let sign = c.below_zero.ensures ∙ ap below_zero (read_back z within) in
     margin-told _ z o c.magnitude.result c.below_zero.result _ (search rules) size sign c.in-Good.is
+
+pub returns-in-Refused : goal.returns-in-Refused
+returns-in-Refused c =
+    c.refuse.ensures ∙ ap (λ (x : Margin). numbers margin_numbers (paper_margin x)) (sym c.in-Refused.is)
