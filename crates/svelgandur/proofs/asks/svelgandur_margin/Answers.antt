@@ -8,9 +8,8 @@ use Rattle.svelgandur.proofs.asks.svelgandur_margin.Goals as goal
 
 pub of_margin-requires : goal.of_margin-requires
 of_margin-requires c =
-    let it = c.args in
     small-enough c.margin_of-r.result
-    (margin-within it.image.now it.message.now it.item it.p it.q c.margin_of-r.result c.margin_of-r.ensures)
+    (margin-within c.args.image.now c.args.message.now c.args.item c.args.p c.args.q c.margin_of-r.result c.margin_of-r.ensures)
 
 pub returns : goal.returns
 returns c =

@@ -6,5 +6,4 @@ use Rattle.svelgandur.proofs.trial.svelgandur_undo.Goals as goal
 
 pub returns : goal.returns
 returns c =
-    let d = c.undo-r.ensures.promised in
-    (c.of_count.ensures ∙ ap (numbers in_use) d.0, d.1)
+    (c.of_count.ensures ∙ ap (numbers in_use) c.undo-r.ensures.promised.0, c.undo-r.ensures.promised.1)
