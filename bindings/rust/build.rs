@@ -1,4 +1,4 @@
-//! Links the static library, which `rt staticlib svelgandur` writes.
+//! Links the static library, which `tools/staticlib` writes.
 
 use std::path::Path;
 
@@ -9,7 +9,7 @@ fn main() {
     println!("cargo:rerun-if-changed={}", library.display());
     if !library.exists() {
         panic!(
-            "{} is not there: 'rt staticlib svelgandur' makes it",
+            "{} is not there: 'tools/staticlib' makes it",
             library.display()
         );
     }

@@ -2,7 +2,7 @@
  * The degree of each item of a register in a plain requirement, and then a
  * trial edit: what if an item had one link more?
  *
- *   rt staticlib svelgandur
+ *   tools/staticlib
  *   cc -std=c99 -Iinclude examples/c/degree.c target/staticlib/libsvelgandur.a -o target/degree
  *   target/degree examples/house.register examples/doubled.requirement 2 0 10
  *

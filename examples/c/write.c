@@ -2,7 +2,7 @@
  * A requirement written from lists, as a form would hand them over: the pass
  * mark of examples/pass.requirement, byte for byte.
  *
- *   rt staticlib svelgandur
+ *   tools/staticlib
  *   cc -std=c99 -Iinclude examples/c/write.c target/staticlib/libsvelgandur.a -o target/write
  *   target/write | cmp - examples/pass.requirement
  */

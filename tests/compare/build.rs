@@ -1,4 +1,4 @@
-//! Links the static library, which `rt staticlib svelgandur` writes; or, where
+//! Links the static library, which `tools/staticlib` writes; or, where
 //! SVELGANDUR_SHARED names a folder, the libsvelgandur.so there in its place
 //! (`bench/check` has the yardstick compared so).
 

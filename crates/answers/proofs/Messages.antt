@@ -6,9 +6,7 @@ use mathlib.Core.List.{List, [], ◌∷◌, Memᴰ}
 use Prim.Native.Nat.{ℕ, zero, suc, ◌≤◌}
 use native.Mathlib.Omega.{arith}
 use lib.Dec.{T, eqb, eqb→eq}
-use lib.ListN.{length}
 use Rattle.meaning.specs.Refusal.{Answer, good, refused}
-use Rattle.meaning.specs.Tree.{nodes}
 use Rattle.meaning.specs.Requirement.{Requirement}
 use Rattle.meaning.specs.Message.{Part, read_requirement}
 use Rattle.meaning.proofs.Tests.{is_true, is_false}

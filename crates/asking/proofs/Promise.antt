@@ -15,7 +15,7 @@ use lib.IntN.{ℤ, pos, nat_abs}
 use lib.ListN.{length, length-map}
 use lib.Seq.{sets}
 use Rattle.meaning.specs.declared.Refusal.{Refusal}
-use Rattle.meaning.specs.Refusal.{Answer, good, refused, on_call, ◌>>=◌, ◌>>◌}
+use Rattle.meaning.specs.Refusal.{Answer, good, refused, on_call, ◌>>=◌}
 use Rattle.meaning.specs.Bytes.{Bytes}
 use Rattle.meaning.specs.Tree.{Concept, nodes, role_at, subtree}
 use Rattle.meaning.specs.Graph.{Graph}

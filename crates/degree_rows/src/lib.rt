@@ -6,9 +6,12 @@ ghost use Rattle.std.specs.Prelude.{◌≡◌, List, ℕ, ◌≤◌, ◌<◌, le
 ghost use Rattle.ratings.specs.Rated.{Rated, Sought};
 
 use plain::Both;
+use std::io;
+use std::io::Write;
 
-// Prints the row of one item, and says whether it could.
-fn print_degree(
+// Prints the row of one item.
+fn print_degree<W: Write>(
+    output: &mut W,
     image: &[u8],
     items: usize,
     index: &[u16],
@@ -18,7 +21,7 @@ fn print_degree(
     numbers: &[u32],
     scale: u64,
     item: usize,
-) -> bool
+) -> io::Result<()>
     requires by_index { (m : List ℕ) × Rated image.now m items index.now ends.now marks.now scale notes.now numbers.now }
     requires item_lt { (item < items) × (length numbers.now ≡ 3584) }
 {
@@ -26,11 +29,12 @@ fn print_degree(
     let k = ratings::row(
         &mut line, image, items, index, ends, marks, notes, numbers, scale, item,
     );
-    io::write_all(libc::STDOUT_FILENO, &line[..k])
+    output.write_all(&line[..k])
 }
 
 // Prints the rows of the first so many items, up to the first that cannot be written.
-fn print_degrees(
+fn print_degrees<W: Write>(
+    output: &mut W,
     image: &[u8],
     items: usize,
     index: &[u16],
@@ -40,22 +44,23 @@ fn print_degrees(
     numbers: &[u32],
     scale: u64,
     rows: usize,
-) -> bool
+) -> io::Result<()>
     requires by_index { (m : List ℕ) × Rated image.now m items index.now ends.now marks.now scale notes.now numbers.now }
     requires rows_le { (rows ≤ items) × (length numbers.now ≡ 3584) }
 {
     let mut i = 0;
     while i < rows {
-        if !print_degree(image, items, index, ends, marks, notes, numbers, scale, i) {
-            return false;
-        }
+        print_degree(
+            output, image, items, index, ends, marks, notes, numbers, scale, i,
+        )?;
         i += 1;
     }
-    true
+    Ok(())
 }
 
 // Works out all items of an image and a requirement that were read, and prints the rows.
-fn print_rated(
+fn print_rated<W: Write>(
+    output: &mut W,
     image: &[u8],
     items: usize,
     links: usize,
@@ -64,7 +69,7 @@ fn print_rated(
     ends: &[u8; 64],
     marks: &[u8; 64],
     rows: usize,
-) -> bool
+) -> io::Result<()>
     requires by_index { (m : List ℕ) × Sought image.now m items links names.now roles.now ends.now marks.now }
     requires rows_le { rows ≤ items }
 {
@@ -84,6 +89,7 @@ fn print_rated(
         &mut numbers[..3584],
     );
     print_degrees(
+        output,
         image,
         items,
         &index[..graph::INDEX],
@@ -97,7 +103,12 @@ fn print_rated(
 }
 
 // A row is planned for items alone.
-fn print_read(image: &[u8], message: &[u8], rows: usize) -> bool {
+fn print_read<W: Write>(
+    output: &mut W,
+    image: &[u8],
+    message: &[u8],
+    rows: usize,
+) -> io::Result<()> {
     let mut names = [0u64; 64];
     let mut roles = [0u8; 64];
     let mut ends = [0u8; 64];
@@ -112,17 +123,19 @@ fn print_read(image: &[u8], message: &[u8], rows: usize) -> bool {
             nodes: _,
         } => {
             if items < rows {
-                return true;
+                return Ok(());
             }
-            print_rated(image, items, links, &names, &roles, &ends, &marks, rows)
+            print_rated(
+                output, image, items, links, &names, &roles, &ends, &marks, rows,
+            )
         }
-        Both::Refused { refusal: _ } => true,
+        Both::Refused { refusal: _ } => Ok(()),
     }
 }
 
 // The input is a register of so many bytes, and the requirement behind it.
-pub fn print(input: &[u8], end: usize, rows: usize) -> bool
+pub fn print<W: Write>(output: &mut W, input: &[u8], end: usize, rows: usize) -> io::Result<()>
     requires { end ≤ length input.now }
 {
-    print_read(&input[..end], &input[end..], rows)
+    print_read(output, &input[..end], &input[end..], rows)
 }

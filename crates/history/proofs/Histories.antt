@@ -1,52 +1,16 @@
 -- The calls of a history one by one, as the program comes to them.
 -- Assumes nothing.
 use mathlib.Core.Path.{◌≡◌, refl, sym, ap, ◌∙◌, subst}
-use mathlib.Core.Bool.{Bool, true, false, cond}
 use mathlib.Core.List.{List, [], ◌∷◌}
 use Prim.Native.Nat.{ℕ, suc, ◌+◌, ◌≤◌, ◌<◌}
 use native.Mathlib.Omega.{arith}
-use lib.Dec.{eqb, eqb→eq}
-use Rattle.meaning.specs.declared.Fact.TheVariants.{Name as name_on, Link as link_of}
 use lib.ListN.{length, get_or, drop, length-drop}
 use lib.Seq.{drop-cons}
-use Rattle.meaning.specs.Session.{Call, opens, edits, undoes, keeps, Session, play}
-use Rattle.meaning.proofs.Tests.{is_true, is_false, is-eqb}
+use Rattle.meaning.specs.Session.{Call, Session, play}
 use Rattle.session.specs.declared.Counted.{Counted}
-use Rattle.session.specs.Calls.{an_edit}
 use Rattle.numbered.specs.Played.{Lent, lent, Called, steps}
 use Rattle.numbered.proofs.Played.{one-call}
 use Rattle.history.specs.Histories.{call_of, calls_of}
-
--- ---- the call of a kind
-
-found : (k n : ℕ) (x y : Call) → k ≡ n → cond (eqb k n) x y ≡ x
-found k n x y e = ap (λ (b : Bool). cond b x y) (is_true (eqb k n) (is-eqb e))
-
-passed : (k n : ℕ) (x y : Call) → (k ≡ n → ⊥) → cond (eqb k n) x y ≡ y
-passed k n x y h = ap (λ (b : Bool). cond b x y) (is_false (eqb k n) (λ t. h (eqb→eq k n t)))
-
--- the k-th letter is met, and none before it
-module _ (kind a b c : ℕ) where
-  pub first : kind ≡ 111 → call_of kind a b c ≡ opens
-  first e = found kind 111 _ _ e
-
-  pub second : (kind ≡ 111 → ⊥) → kind ≡ 110 → call_of kind a b c ≡ edits (an_edit (name_on a b) true)
-  second h1 e = passed kind 111 _ _ h1 ∙ found kind 110 _ _ e
-
-  pub third : (kind ≡ 111 → ⊥) → (kind ≡ 110 → ⊥) → kind ≡ 78 → call_of kind a b c ≡ edits (an_edit (name_on a b) false)
-  third h1 h2 e = passed kind 111 _ _ h1 ∙ passed kind 110 _ _ h2 ∙ found kind 78 _ _ e
-
-  pub fourth : (kind ≡ 111 → ⊥) → (kind ≡ 110 → ⊥) → (kind ≡ 78 → ⊥) → kind ≡ 108 → call_of kind a b c ≡ edits (an_edit (link_of a b c) true)
-  fourth h1 h2 h3 e = passed kind 111 _ _ h1 ∙ passed kind 110 _ _ h2 ∙ passed kind 78 _ _ h3 ∙ found kind 108 _ _ e
-
-  pub fifth : (kind ≡ 111 → ⊥) → (kind ≡ 110 → ⊥) → (kind ≡ 78 → ⊥) → (kind ≡ 108 → ⊥) → kind ≡ 76 → call_of kind a b c ≡ edits (an_edit (link_of a b c) false)
-  fifth h1 h2 h3 h4 e = passed kind 111 _ _ h1 ∙ passed kind 110 _ _ h2 ∙ passed kind 78 _ _ h3 ∙ passed kind 108 _ _ h4 ∙ found kind 76 _ _ e
-
-  pub sixth : (kind ≡ 111 → ⊥) → (kind ≡ 110 → ⊥) → (kind ≡ 78 → ⊥) → (kind ≡ 108 → ⊥) → (kind ≡ 76 → ⊥) → kind ≡ 117 → call_of kind a b c ≡ undoes
-  sixth h1 h2 h3 h4 h5 e = passed kind 111 _ _ h1 ∙ passed kind 110 _ _ h2 ∙ passed kind 78 _ _ h3 ∙ passed kind 108 _ _ h4 ∙ passed kind 76 _ _ h5 ∙ found kind 117 _ _ e
-
-  pub none-of-them : (kind ≡ 111 → ⊥) → (kind ≡ 110 → ⊥) → (kind ≡ 78 → ⊥) → (kind ≡ 108 → ⊥) → (kind ≡ 76 → ⊥) → (kind ≡ 117 → ⊥) → call_of kind a b c ≡ keeps
-  none-of-them h1 h2 h3 h4 h5 h6 = passed kind 111 _ _ h1 ∙ passed kind 110 _ _ h2 ∙ passed kind 78 _ _ h3 ∙ passed kind 108 _ _ h4 ∙ passed kind 76 _ _ h5 ∙ passed kind 117 _ _ h6
 
 pub called : {s t : Lent} {r : Counted} {c d : Call} → d ≡ c → Called s c r t → Called s d r t
 called {s} {t} {r} e h = subst (λ (z : Call). Called s z r t) (sym e) h

@@ -2,7 +2,7 @@
 // answer, then the whole buffer and the log in hex.
 #![tactic(auto)]
 
-ghost use Rattle.std.specs.Prelude.{◌≡◌};
+ghost use Rattle.std.specs.Prelude.{◌≡◌, ◌≤◌, length};
 ghost use Rattle.meaning.specs.Session.{play, count_after};
 ghost use Rattle.session.specs.Calls.{paper_count};
 ghost use Rattle.numbered.specs.Played.{lent, steps, Called};
@@ -10,10 +10,12 @@ ghost use Rattle.history.specs.Histories.{call_of, calls_of};
 
 use meaning::Fact;
 use session::Counted;
+use std::io::Read;
 
-fn write_byte(b: u8) {
+// A write that fails is passed over: the history runs on.
+fn write_byte(rt: &impl Print, b: u8) {
     let one = [b];
-    io::write_all(1, &one);
+    let _done = rt.write_all(&one);
 }
 
 // A byte as a number.
@@ -23,41 +25,34 @@ fn wide(b: u8) -> usize
     b as usize
 }
 
-fn print_buffer(s: &[u8]) {
-    let mut i = 0;
-    while i < s.len() {
-        io::print_hex(1, wide(s[i]) as u64, 2);
-        i += 1;
+fn print_buffer(rt: &impl Print, s: &[u8]) {
+    for b in s {
+        let _done = print!(rt; "{b:02x}");
     }
-    write_byte(b'\n');
+    write_byte(rt, b'\n');
 }
 
-fn print_log(log: &[u64]) {
-    io::write_all(1, b"log");
-    let mut i = 0;
-    while i < log.len() {
-        write_byte(b' ');
-        io::print_hex(1, log[i], 11);
-        i += 1;
+fn print_log(rt: &impl Print, log: &[u64]) {
+    let _done = print!(rt; "log");
+    for step in log {
+        write_byte(rt, b' ');
+        let _done = print!(rt; "{step:011x}");
     }
-    write_byte(b'\n');
+    write_byte(rt, b'\n');
 }
 
 // Prints an answer. The count for the next call is the one that was handed back, and after a refusal that of this call.
-fn print_answer(r: Counted, count: usize) -> usize
+fn print_answer(rt: &impl Print, r: Counted, count: usize) -> usize
     ensures { result ≡ count_after count (paper_count r) }
 {
     match r {
         Counted::Good { count: handed } => {
-            io::write_all(1, b"count ");
-            io::print_decimal(1, handed as u64);
-            write_byte(b'\n');
+            let _done = println!(rt; "count {handed}");
             handed
         }
         Counted::Refused { refusal } => {
-            io::write_all(1, b"refused ");
-            io::print_decimal(1, refusal.number as u64);
-            write_byte(b'\n');
+            let number = refusal.number;
+            let _done = println!(rt; "refused {number}");
             count
         }
     }
@@ -104,7 +99,7 @@ fn call(
 }
 
 // Runs a history, four bytes for each call: its kind, a, b and c. What is lent afterwards is what the history makes of it.
-fn run(history: &[u8], s: &mut [u8], log: &mut [u64]) -> usize
+fn run(rt: &impl Print, history: &[u8], s: &mut [u8], log: &mut [u64]) -> usize
     ensures { steps (lent s.new log.new result) ≡ play (steps (lent s.old log.old 0)) (calls_of history.now) }
 {
     let mut count = 0;
@@ -115,20 +110,43 @@ fn run(history: &[u8], s: &mut [u8], log: &mut [u64]) -> usize
         let b = wide(history[i + 2]);
         let c = wide(history[i + 3]);
         let r = call(s, log, count, kind, a, b, c);
-        count = print_answer(r, count);
-        print_buffer(s);
-        print_log(log);
+        count = print_answer(rt, r, count);
+        print_buffer(rt, s);
+        print_log(rt, log);
         i += 4;
     }
     count
 }
 
+// One read into a part of a buffer: how many bytes came, none where it failed.
+fn read_some<R: Read>(input: &mut R, part: &mut [u8]) -> usize
+    ensures { result ≤ length part.new }
+{
+    input.read(part).unwrap_or(0)
+}
+
+// Reads until the buffer is full, the input ends or a read fails, and says how many bytes stand at its front.
+fn read_full<R: Read>(input: &mut R, buffer: &mut [u8]) -> usize
+    ensures { result ≤ length buffer.new }
+{
+    let mut count = 0;
+    while count < buffer.len() {
+        let more = read_some(input, &mut buffer[count..]);
+        if more == 0 {
+            break;
+        }
+        count += more;
+    }
+    count
+}
+
 // The image comes first on standard input, with the bytes behind it, 50 in all; the rest is the history.
-fn main() {
+fn main(rt: HostRuntime) {
     let mut buffer = [0u8; 50];
     let mut history = [0u8; 128];
     let mut log = [0u64; 4];
-    io::read_full(0, &mut buffer);
-    let n = io::read_full(0, &mut history);
-    run(&history[..n], &mut buffer, &mut log);
+    let mut input = rt.stdin();
+    read_full(&mut input, &mut buffer);
+    let n = read_full(&mut input, &mut history);
+    run(&rt, &history[..n], &mut buffer, &mut log);
 }

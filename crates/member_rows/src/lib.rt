@@ -8,9 +8,12 @@ ghost use Rattle.verdicts.specs.Told.{Told};
 
 use register::Reading;
 use requirement::Message;
+use std::io;
+use std::io::Write;
 
-// Prints the row of one item, and says whether it could.
-fn print_member(
+// Prints the row of one item.
+fn print_member<W: Write>(
+    output: &mut W,
     image: &[u8],
     items: usize,
     index: &[u16],
@@ -19,7 +22,7 @@ fn print_member(
     ends: &[u8; 64],
     met: &[u64],
     item: usize,
-) -> bool
+) -> io::Result<()>
     requires by_index { (m : List ℕ) × Told image.now m items index.now names.now roles.now ends.now met.now }
     requires item_lt { (item < items) × (length met.now ≡ 512) }
 {
@@ -27,11 +30,12 @@ fn print_member(
     let k = verdicts::row(
         &mut line, image, items, index, names, roles, ends, met, item,
     );
-    io::write_all(libc::STDOUT_FILENO, &line[..k])
+    output.write_all(&line[..k])
 }
 
 // Prints the rows of the first so many items, up to the first that cannot be written.
-fn print_members(
+fn print_members<W: Write>(
+    output: &mut W,
     image: &[u8],
     items: usize,
     index: &[u16],
@@ -40,22 +44,21 @@ fn print_members(
     ends: &[u8; 64],
     met: &[u64],
     rows: usize,
-) -> bool
+) -> io::Result<()>
     requires by_index { (m : List ℕ) × Told image.now m items index.now names.now roles.now ends.now met.now }
     requires rows_le { (rows ≤ items) × (length met.now ≡ 512) }
 {
     let mut i = 0;
     while i < rows {
-        if !print_member(image, items, index, names, roles, ends, met, i) {
-            return false;
-        }
+        print_member(output, image, items, index, names, roles, ends, met, i)?;
         i += 1;
     }
-    true
+    Ok(())
 }
 
 // Judges all items of an image and a message that were read, and prints the rows.
-fn print_judged(
+fn print_judged<W: Write>(
+    output: &mut W,
     image: &[u8],
     items: usize,
     links: usize,
@@ -63,7 +66,7 @@ fn print_judged(
     packed: &[u64],
     parts: usize,
     rows: usize,
-) -> bool
+) -> io::Result<()>
     requires both_read { BothRead image.now items links message.now packed.now parts }
     requires in_bounds { (144 ≤ length packed.now) × (rows ≤ items) }
 {
@@ -78,37 +81,51 @@ fn print_judged(
     verdicts::judge(
         image, items, &index, message, &names, &roles, &ends, &owners, &firsts, parts, &mut met,
     );
-    print_members(image, items, &index, &names, &roles, &ends, &met, rows)
+    print_members(
+        output, image, items, &index, &names, &roles, &ends, &met, rows,
+    )
 }
 
 // The same, of an image that was read. A row is planned for items alone.
-fn print_read(image: &[u8], items: usize, links: usize, message: &[u8], rows: usize) -> bool
+fn print_read<W: Write>(
+    output: &mut W,
+    image: &[u8],
+    items: usize,
+    links: usize,
+    message: &[u8],
+    rows: usize,
+) -> io::Result<()>
     requires { Imaged image.now items links }
 {
     if items < rows {
-        return true;
+        return Ok(());
     }
     let mut packed = [0u64; 144];
     let m = requirement::read_message(message, &mut packed);
     match m {
         Message::Good { nodes: _, parts } => {
-            print_judged(image, items, links, message, &packed, parts, rows)
+            print_judged(output, image, items, links, message, &packed, parts, rows)
         }
-        Message::Refused { refusal: _ } => true,
+        Message::Refused { refusal: _ } => Ok(()),
     }
 }
 
-fn print_image(image: &[u8], message: &[u8], rows: usize) -> bool {
+fn print_image<W: Write>(
+    output: &mut W,
+    image: &[u8],
+    message: &[u8],
+    rows: usize,
+) -> io::Result<()> {
     let r = register::read(image, false);
     match r {
-        Reading::Good { items, links } => print_read(image, items, links, message, rows),
-        Reading::Refused { refusal: _ } => true,
+        Reading::Good { items, links } => print_read(output, image, items, links, message, rows),
+        Reading::Refused { refusal: _ } => Ok(()),
     }
 }
 
 // The input is a register of so many bytes, and the requirement behind it.
-pub fn print(input: &[u8], end: usize, rows: usize) -> bool
+pub fn print<W: Write>(output: &mut W, input: &[u8], end: usize, rows: usize) -> io::Result<()>
     requires { end ≤ length input.now }
 {
-    print_image(&input[..end], &input[end..], rows)
+    print_image(output, &input[..end], &input[end..], rows)
 }

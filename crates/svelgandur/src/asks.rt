@@ -5,8 +5,7 @@ use answers;
 
 // The degree of an item in a plain requirement, in lowest terms, and its map.
 // Good: 1, numerator, denominator, places written. Refused: 0, side, number, place; the map is then untouched.
-#[unsafe(no_mangle)]
-pub extern "C" fn svelgandur_degree(
+pub fn svelgandur_degree(
     image: &[u8],
     message: &[u8],
     item: u64,
@@ -21,8 +20,7 @@ pub extern "C" fn svelgandur_degree(
 
 // The margin of an item's degree in a plain requirement against p/q.
 // Good: 1, magnitude of the margin, what it is over, 1 where it is below zero and else 0. Refused: 0, side, number, place.
-#[unsafe(no_mangle)]
-pub extern "C" fn svelgandur_margin(
+pub fn svelgandur_margin(
     image: &[u8],
     message: &[u8],
     item: u64,

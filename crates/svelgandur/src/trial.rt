@@ -8,8 +8,7 @@ use answers;
 use meaning::Fact;
 
 // Opens the image that the buffer begins with: all behind it becomes zeros. The count is 0.
-#[unsafe(no_mangle)]
-pub extern "C" fn svelgandur_open(buffer: &mut [u8], answer: &mut [u64; 4])
+pub fn svelgandur_open(buffer: &mut [u8], answer: &mut [u64; 4])
     ensures { OpenPromise buffer.old buffer.new answer.new }
 {
     let r = session::open(buffer);
@@ -17,8 +16,7 @@ pub extern "C" fn svelgandur_open(buffer: &mut [u8], answer: &mut [u64; 4])
 }
 
 // Adds a name to an item, or takes it away where `adds` is 0.
-#[unsafe(no_mangle)]
-pub extern "C" fn svelgandur_edit_name(
+pub fn svelgandur_edit_name(
     buffer: &mut [u8],
     log: &mut [u64],
     count: u64,
@@ -39,8 +37,7 @@ pub extern "C" fn svelgandur_edit_name(
 }
 
 // Adds a link, or takes it away where `adds` is 0.
-#[unsafe(no_mangle)]
-pub extern "C" fn svelgandur_edit_link(
+pub fn svelgandur_edit_link(
     buffer: &mut [u8],
     log: &mut [u64],
     count: u64,
@@ -63,8 +60,7 @@ pub extern "C" fn svelgandur_edit_link(
 }
 
 // Takes the last step in use back.
-#[unsafe(no_mangle)]
-pub extern "C" fn svelgandur_undo(buffer: &mut [u8], log: &[u64], count: u64, answer: &mut [u64; 4])
+pub fn svelgandur_undo(buffer: &mut [u8], log: &[u64], count: u64, answer: &mut [u64; 4])
     ensures { UndoPromise buffer.old log.now count buffer.new answer.new }
 {
     let r = numbered::undo(buffer, log, count as usize);
@@ -72,8 +68,7 @@ pub extern "C" fn svelgandur_undo(buffer: &mut [u8], log: &[u64], count: u64, an
 }
 
 // Keeps all edits: none can be taken back any more. The count is 0.
-#[unsafe(no_mangle)]
-pub extern "C" fn svelgandur_keep(buffer: &[u8], log: &[u64], count: u64, answer: &mut [u64; 4])
+pub fn svelgandur_keep(buffer: &[u8], log: &[u64], count: u64, answer: &mut [u64; 4])
     ensures { KeepPromise buffer.now log.now count answer.new }
 {
     let r = numbered::keep(buffer, log, count as usize);

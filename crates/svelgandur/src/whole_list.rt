@@ -5,8 +5,7 @@ use answers;
 
 // The number of each written node of a plain requirement at each item.
 // Good: 1, items, written nodes, the scale of the root. Refused: 0, side, number, place; the table is then untouched.
-#[unsafe(no_mangle)]
-pub extern "C" fn svelgandur_list(
+pub fn svelgandur_list(
     image: &[u8],
     message: &[u8],
     table: &mut [u32],

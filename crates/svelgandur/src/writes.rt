@@ -5,8 +5,7 @@ use answers;
 
 // Writes the message of a requirement that is handed over as lists.
 // Good: 1, bytes written, 0, 0. Refused: 0, side, number, place.
-#[unsafe(no_mangle)]
-pub extern "C" fn svelgandur_write_requirement(
+pub fn svelgandur_write_requirement(
     nodes: &[u64],
     thresholds: &[u64],
     inner: &[u64],

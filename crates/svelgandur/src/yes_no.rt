@@ -5,8 +5,7 @@ use answers;
 
 // Whether an item meets a requirement; a yes writes the map.
 // Yes: 1, places written, 0, 0. No: 2, 0, 0, 0. Refused: 0, side, number, place.
-#[unsafe(no_mangle)]
-pub extern "C" fn svelgandur_member(
+pub fn svelgandur_member(
     image: &[u8],
     message: &[u8],
     item: u64,

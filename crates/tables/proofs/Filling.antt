@@ -28,7 +28,7 @@ use Rattle.degrees.specs.Gradable.{Gradable}
 use Rattle.degrees.proofs.Folding.{rest-next}
 use Rattle.tables.specs.Rows.{Names, row_tops, folded, closed, Folding, Worked}
 use Rattle.tables.proofs.Stored.{sets-again, own-names}
-use Rattle.tables.proofs.Sofar.{table-size, Sofar, sofar-start, sofar-skip, child, tree, turned, sums, sofar-child, sofar-scale, sofar-last}
+use Rattle.tables.proofs.Sofar.{table-size, Sofar, sofar-start, sofar-skip, child, turned, sums, sofar-child, sofar-scale, sofar-last}
 
 -- what has a table: a tree in rows that are marked by the drop rule, put to a register whose links are in order
 abbrev TreeOf : List ℕ → ℕ → List ℕ → List ℕ → List ℕ → List ℕ → List ℕ → List ℕ → ℕ → ℕ → Type 0

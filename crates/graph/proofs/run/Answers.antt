@@ -4,7 +4,6 @@ use Rattle.graph.proofs.run.Goals as goal
 pub from_role-r-requires : goal.from_role-r-requires
 from_role-r-requires c =
     c.requires
-    -- TODO fields: judged item_lt
 
 pub skip_higher-end-requires : goal.skip_higher-end-requires
 skip_higher-end-requires c =

@@ -1,0 +1,41 @@
+use mathlib.Core.Path.{refl}
+use native.Mathlib.Omega.{arith}
+use lib.ListN.{length-set}
+use Rattle.meaning.specs.Register.{withdrawn}
+use Rattle.graph.proofs.Asked.{item-inside}
+use Rattle.tables.proofs.Stored.{stored-start, stored_more, stored-ahead, stored-upto, closed-served, closed-here}
+use Rattle.tables.proofs.close.Goals as goal
+
+pub fill_empty-requires : goal.fill_empty-requires
+fill_empty-requires c =
+    (omega arith, omega (arith, c.requires.served.1))
+
+pub returns-then-served : goal.returns-then-served
+returns-then-served c =
+    λ g h. closed-served (withdrawn g) c.args.n c.args.at c.args.items _ c.args.table.now _ (c.requires.served.0 c.if-served.true g h)
+    (omega arith) c.fill_empty.ensures
+
+pub loop-x-init : goal.loop-x-init
+loop-x-init c =
+    (omega arith, refl, λ g h. stored-start _ _ _ _ refl)
+
+pub is_out-requires : goal.is_out-requires
+is_out-requires c =
+    item-inside _ c.requires.asked c.loop-x-test.true
+
+pub loop-x-preserved : goal.loop-x-preserved
+loop-x-preserved c = (
+  omega arith,
+  simp length-set c.loop-x.invariant.1,
+  λ g h. stored_more _ _ _ _ _ _ _ (c.loop-x.invariant.2 g h) refl
+      (closed-here _ c.args.n _ _ _ _ c.last.ensures (c.is_out.ensures g h)
+      (stored-ahead _ _ _ _ _ (c.loop-x.invariant.2 g h))),
+)
+
+pub shape_of-table : goal.shape_of-table
+shape_of-table c =
+    c.loop-x.invariant.1
+
+pub returns : goal.returns
+returns c =
+    λ g h. stored-upto _ _ _ _ _ _ (c.loop-x.invariant.2 g h) (omega (arith, c.loop-x-test.false))
