@@ -2,13 +2,12 @@
 -- and the row says so.
 -- Assumes nothing.
 use mathlib.Core.Path.{◌≡◌, sym, ap, ap₂, ◌∙◌}
-use mathlib.Core.Bool.{Bool, true, false, not}
+use mathlib.Core.Bool.{Bool, true, false}
 use mathlib.Core.List.{List}
 use Prim.Native.Nat.{ℕ, ◌≤◌, ◌<◌}
 use native.Mathlib.Omega.{arith}
 use lib.ListN.{length, get_or, take}
 use lib.Seq.{sets, length-sets}
-use borrow.Author.Tests.{not-true, not-false}
 use Rattle.meaning.specs.Bounds.{most_nodes}
 use Rattle.meaning.specs.Refusal.{good}
 use Rattle.meaning.specs.Tree.{nodes}
@@ -84,13 +83,10 @@ module _ {image message : List ℕ} {items : ℕ} {index names roles ends met : 
           (sym (yes_map-agrees (walked-judged g) q item serves))
 
       -- where the test for a no holds, and where it does not
-      pub no_row : {t : Bool} → t ≡ true → t ≡ not b → member_row item (member_call image message item most_nodes) ≡ no_line item
-      no_row n turned = ap (member_row item) (its false (not-true b (sym turned ∙ n)))
+      pub no_row : b ≡ false → member_row item (member_call image message item most_nodes) ≡ no_line item
+      no_row e₀ = ap (member_row item) (its false e₀)
 
-      module _ {t : Bool} (n : t ≡ false) (turned : t ≡ not b) where
-        pub yes : b ≡ true
-        yes = not-false b (sym turned ∙ n)
-
+      module _ (yes : b ≡ true) where
         abbrev pub charted : Charted image items index names roles ends met 0 17 item
         charted = record { tree = q; posed = k.posed; right = k.table.right item (sym e ∙ yes); inside = l; yes = sym says ∙ yes }
 
