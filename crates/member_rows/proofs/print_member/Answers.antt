@@ -1,5 +1,5 @@
 -- `member_rows::print_member` meets its contract: the row fits the line.
-use Rattle.std.proofs.Common.{◌≤◌, length, sym, length-take-le}
+use Rattle.std.proofs.Common.{sym, length-take-le}
 use Rattle.member_rows.proofs.print_member.Goals as goal
 
 pub slice_bounds-line-end : goal.slice_bounds-line-end

@@ -7,5 +7,5 @@ use Rattle.member_rows.proofs.print_read.Goals as goal
 pub print_judged-requires : goal.print_judged-requires
 print_judged-requires g c = record {
   both_read = both_read c.requires (understood _ _ c.read_message-m.ensures c.in-Good.is) (bytes-known c.args.image.now c.type_inv.image);
-  in_bounds = (omega (arith, c.read_message-m.auto.packed), omega (arith, c.if-items-rows.false));
+  in_bounds = (omega (arith, c.read_message-m.auto.rows), omega (arith, c.if-items-rows.false));
 }
