@@ -1,0 +1,9 @@
+-- `svelgandur::trial::svelgandur_undo` meets its contract: the numbers written and the buffer are those of the call.
+-- Assumes nothing.
+use mathlib.Core.Path.{◌∙◌, ap}
+use Rattle.answers.specs.Numbers.{numbers, in_use}
+use Rattle.svelgandur.proofs.trial.svelgandur_undo.Goals as goal
+
+pub returns : goal.returns
+returns c =
+    (c.of_count.ensures ∙ ap (numbers in_use) c.undo-r.ensures.promised.0, c.undo-r.ensures.promised.1)
