@@ -77,7 +77,9 @@ const INPUT: [Way; 3] = [
     },
 ];
 
-/// What the program meets where nobody reads its output any more.
+/// What the program meets where nobody reads its output any more. The kit has
+/// every program pass over that signal, as Rust does, so it says its line
+/// whether the shell had it do so before or not.
 const READER_GONE: [Way; 2] = [
     Way {
         before: "trap '' PIPE; exec \"$0\"",
@@ -85,7 +87,7 @@ const READER_GONE: [Way; 2] = [
     },
     Way {
         before: "exec \"$0\"",
-        says: None,
+        says: Some("list: standard output: Broken pipe\n"),
     },
 ];
 
