@@ -73,7 +73,8 @@ sound-limit k i h l w =
     let e : first_tree 0 (grown (listed 0 0 h.inner)) ≡ h.inner = first-listed 0 h.inner 0 0 in
     pass _ _ _ (not-le _ _ l) ∙ pass _ _ _ (not-below 3 (code h.how) (decoded h.how).1)
     ∙ pass (not (lawful h.limit.num h.limit.den)) _ _ (not-not (lawful h.limit.num h.limit.den) p.0)
-    ∙ went _ _ (fit-nodes 0 (listed 0 0 h.inner) f.0) ∙ last-pass (ltb most_size (size (reduce (first_tree 0 (grown (listed 0 0 h.inner)))))) 14 (rw e (not-below most_size (size (reduce h.inner)) q.1))
+    ∙ went _ _ (fit-nodes 0 (listed 0 0 h.inner) f.0)
+    ∙ last-pass (ltb most_size (size (reduce (first_tree 0 (grown (listed 0 0 h.inner)))))) 14 (rw e (not-below most_size (size (reduce h.inner)) q.1))
 
 -- ---- all thresholds
 

@@ -227,7 +227,8 @@ calls =
 pub orders : T (all_true (registers ++ messages ++ calls))
 unfolding
     registers messages calls is is_tabled same_side besides some_one root asked limited repeat empty chain fan wide wide_asked one_item link_bytes R1 Q1
-    all_true same_list asked_for degree_call margin_call member_call list_call rows_of up_to trees kept read_plain read_requirement read_register_by read_body read_items read_link read_links read_head number bytes fields headed
-    image message node_bytes thresholds_bytes items_bytes links_bytes read_node read_children no_thresholds read_threshold read_thresholds with_thresholds shown yes_by degree best lowest gcd wrong_with
-    reduce kept_of dropped size scale meets_by any every targets except count under nodes relabel ones refuse_if ◌>>=◌ ◌>>◌
+    all_true same_list asked_for degree_call margin_call member_call list_call rows_of up_to trees kept
+    read_plain read_requirement read_register_by read_body read_items read_link read_links read_head number bytes fields headed
+    image message node_bytes thresholds_bytes items_bytes links_bytes read_node read_children no_thresholds read_threshold read_thresholds with_thresholds
+    shown yes_by degree best lowest gcd wrong_with reduce kept_of dropped size scale meets_by any every targets except count under nodes relabel ones refuse_if ◌>>=◌ ◌>>◌
 orders = tt

@@ -4,7 +4,9 @@
 
 ghost use Rattle.meaning.specs.declared.Fact.{Fact};
 ghost use Rattle.answers.specs.Numbers.{is_adding};
-ghost use Rattle.svelgandur.specs.Promises.{RegisterPromise, RequirementPromise, InnerPromise, WritePromise, DegreePromise, MarginPromise, MemberPromise, ListPromise, OpenPromise, EditPromise, UndoPromise, KeepPromise};
+ghost use Rattle.svelgandur.specs.Promises.{RegisterPromise, RequirementPromise, InnerPromise, WritePromise};
+ghost use Rattle.svelgandur.specs.Promises.{DegreePromise, MarginPromise, MemberPromise, ListPromise};
+ghost use Rattle.svelgandur.specs.Promises.{OpenPromise, EditPromise, UndoPromise, KeepPromise};
 
 use svelgandur::{asks, trial, whole_list, writes, yes_no};
 

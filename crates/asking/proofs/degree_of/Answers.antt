@@ -27,7 +27,8 @@ returns-then-map-nodes c =
     let read : Known c.args.image.now c.args.message.now _ _ c.read_both-b.ensures _ _ _ c.in-Good.is =
     known _ _ _ _ _ _ _ _ _ (bytes-known c.args.image.now c.type_inv.image) in
     let w = read in
-    degree-no-room _ _ _ w (asks _ _ _ w _ c.refusal_of-number.ensures c.if-number-ne0.false) _ (omega (arith, c.if-map-nodes.true)) c.degree_refused-then-map-nodes.result c.degree_refused-then-map-nodes.ensures
+    degree-no-room _ _ _ w (asks _ _ _ w _ c.refusal_of-number.ensures c.if-number-ne0.false) _ (omega (arith, c.if-map-nodes.true))
+    c.degree_refused-then-map-nodes.result c.degree_refused-then-map-nodes.ensures
 
 pub shown_at-d-requires : goal.shown_at-d-requires
 shown_at-d-requires c =

@@ -73,12 +73,17 @@ others-bounds-roles-child t c =
 
 pub others-fold-requires : goal.others-fold-requires
 others-fold-requires t c =
-    let p = child-folding _ (at-hand c.loop-c.invariant c.loop-c-test.true _ c.passed.ensures c.if-passed.false) _ _ _ _ _ c.octet-role.ensures.value c.reach-source.ensures.done c.reach-source.ensures.standing
+    let p = child-folding _ (at-hand c.loop-c.invariant c.loop-c-test.true _ c.passed.ensures c.if-passed.false) _ _ _ _ _
+    c.octet-role.ensures.value c.reach-source.ensures.done c.reach-source.ensures.standing
     c.reach-source.auto.numbers in record { folding = p.0; items = p.1 }
 
 pub others-overflow_mul-product : goal.others-overflow_mul-product
 others-overflow_mul-product t c =
-    omega (arith, child-product _ (at-hand c.loop-c.invariant c.loop-c-test.true _ c.passed.ensures c.if-passed.false) _ _ _ _ _ c.octet-role.ensures.value c.reach-source.ensures.done c.reach-source.ensures.standing)
+    omega (
+      arith,
+      child-product _ (at-hand c.loop-c.invariant c.loop-c-test.true _ c.passed.ensures c.if-passed.false) _ _ _ _ _
+          c.octet-role.ensures.value c.reach-source.ensures.done c.reach-source.ensures.standing,
+    )
 
 pub others-overflow_add-n-in-loop-c : goal.others-overflow_add-n-in-loop-c
 others-overflow_add-n-in-loop-c t c =
@@ -90,7 +95,8 @@ others-loop-c-smaller t c =
 
 pub others-loop-c-preserved : goal.others-loop-c-preserved
 others-loop-c-preserved t c =
-    child-next _ (at-hand c.loop-c.invariant c.loop-c-test.true _ c.passed.ensures c.if-passed.false) _ _ _ _ _ c.octet-role.ensures.value c.reach-source.ensures.done c.reach-source.ensures.standing _ c.octet-c.ensures.value _ _
+    child-next _ (at-hand c.loop-c.invariant c.loop-c-test.true _ c.passed.ensures c.if-passed.false) _ _ _ _ _
+    c.octet-role.ensures.value c.reach-source.ensures.done c.reach-source.ensures.standing _ c.octet-c.ensures.value _ _
     c.reach-source.auto.notes c.reach-source.auto.numbers
     c.fold.auto.notes c.fold.auto.numbers c.fold.ensures
 

@@ -80,7 +80,10 @@ overflow_sub-left t c =
 pub fill-scale-requires : goal.fill-scale-requires
 fill-scale-requires t c = (
   omega (arith, (here c.requires.gradable).0, c.decreases),
-  (kid-asked c.loop-c.invariant c.loop-c-test.true c.if-marks-row-eq0.false c.loop-c.invariant.asked, (c.requires.names.0, c.requires.names.1, kid-room c.loop-c.invariant c.loop-c-test.true c.if-marks-row-eq0.false)),
+  (
+    kid-asked c.loop-c.invariant c.loop-c-test.true c.if-marks-row-eq0.false c.loop-c.invariant.asked,
+    (c.requires.names.0, c.requires.names.1, kid-room c.loop-c.invariant c.loop-c-test.true c.if-marks-row-eq0.false),
+  ),
 )
 
 pub bounds-roles-row : goal.bounds-roles-row
