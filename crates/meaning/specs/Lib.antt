@@ -1,5 +1,6 @@
 pub mod Bounds
 pub mod Refusal
+pub mod Rules
 pub mod Bytes
 pub mod Names
 pub mod Tree

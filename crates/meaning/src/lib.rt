@@ -2,6 +2,10 @@
 // The theorems about those definitions are in proofs/.
 #![tactic(auto)]
 
+ghost use Rattle.std.specs.Prelude.{◌≡◌};
+ghost use Rattle.meaning.specs.Refusal.{on_call};
+ghost use Rattle.meaning.specs.Rules.{number_of, refusal_on};
+
 // Every bound of document 01, by name; specs/Bounds.antt has the same numbers with the document's sentences.
 pub const MOST_ITEMS: usize = 512;
 
@@ -32,30 +36,104 @@ pub const NOWHERE: usize = 65535;
 pub const DROPPED: usize = 65534;
 
 // Document 01, "Refusal numbers": the side that a refusal is on.
-#[derive(Drop)]
+#[derive(Clone, Copy, Debug, PartialEq, Eq)]
 pub enum Side {
     Register,
     Requirement,
     Call,
 }
 
+// The rows of the document's table, each with its number there: what is wrong where one is broken.
+#[derive(Clone, Copy, Debug, PartialEq, Eq)]
+pub enum Rule {
+    CutShort = 1,
+    Version = 2,
+    Length = 3,
+    Count = 4,
+    NoSuchEnd = 5,
+    Order = 6,
+    RoleAbove = 7,
+    LeftOver = 8,
+    TooDeep = 9,
+    TooManyNodes = 10,
+    NotPlain = 11,
+    TooManyThresholds = 12,
+    NoComparison = 13,
+    TooLarge = 14,
+    OutOfRange = 15,
+    MapTooShort = 16,
+    StepsBeyondLog = 17,
+    LogFull = 18,
+    NothingToUndo = 19,
+    NoPlaceForLink = 20,
+    OutputTooShort = 21,
+    NoRequirement = 22,
+    DenominatorOut = 23,
+    AboveOne = 24,
+    NotLowest = 25,
+    Withdrawn = 26,
+}
+
+// What is wrong in an input whose side its reader knows: a rule that is broken, and the byte place from the input's first byte.
+#[derive(Clone, Copy, Debug, PartialEq, Eq)]
+pub struct Fault {
+    pub rule: Rule,
+    pub place: usize,
+}
+
 // A refusal: its side, its number in the document's table, and the byte place from that side's first byte.
-#[derive(Drop)]
+#[derive(Clone, Copy, Debug, PartialEq, Eq)]
 pub struct Refusal {
     pub side: Side,
     pub number: usize,
     pub place: usize,
 }
 
+impl Rule {
+    // Its number in the document's table.
+    pub fn number(self) -> usize
+        ensures { result ≡ number_of self }
+    {
+        self as usize
+    }
+
+    // It is broken at a place.
+    pub fn at(self, place: usize) -> Fault
+        ensures { result ≡ record { rule = self; place = place } }
+    {
+        Fault { rule: self, place }
+    }
+
+    // A call breaks it: its side has no bytes, so the place is 0.
+    pub fn of_call(self) -> Refusal
+        ensures { result ≡ on_call (number_of self) }
+    {
+        self.at(0).on(Side::Call)
+    }
+}
+
+impl Fault {
+    // The refusal that it is on a side.
+    pub fn on(self, side: Side) -> Refusal
+        ensures { result ≡ refusal_on side self }
+    {
+        Refusal {
+            side,
+            number: self.rule.number(),
+            place: self.place,
+        }
+    }
+}
+
 // Document 01, "Session": a fact, "which is either a name on an item or a link".
-#[derive(Clone, Copy)]
+#[derive(Clone, Copy, Debug, PartialEq, Eq)]
 pub enum Fact {
     Name { item: usize, name: usize },
     Link { from: usize, role: usize, to: usize },
 }
 
 // A step of a session: its fact, "and whether that fact was there before".
-#[derive(Clone, Copy)]
+#[derive(Clone, Copy, Debug, PartialEq, Eq)]
 pub struct Step {
     pub fact: Fact,
     pub was: bool,
