@@ -6,6 +6,29 @@
 ghost use Rattle.std.specs.Prelude.{◌≡◌, ◌+◌, ◌*◌, ◌/◌, ◌%◌, ◌≤◌, ◌<◌, length};
 ghost use Rattle.rows.specs.Packed.{names_in, roles_in, ends_in, owners_in, firsts_in};
 
+// A concept tree, node after node in reading order: the names of each written node, the role of the edge to it, and the index just past its subtree.
+#[derive(Drop)]
+pub struct Tree {
+    pub names: [u64; 64],
+    pub roles: [u8; 64],
+    pub ends: [u8; 64],
+}
+
+// A tree with the marks of the drop rule: of each written node 1 where it is kept, 0 where it is dropped.
+#[derive(Drop)]
+pub struct Reduced {
+    pub tree: Tree,
+    pub marks: [u8; 64],
+}
+
+// The thresholds of a requirement: the written node that each is of, the place of its first byte, and how many there are.
+#[derive(Drop)]
+pub struct Parts {
+    pub owners: [u8; 16],
+    pub firsts: [u16; 16],
+    pub count: usize,
+}
+
 pub const LEN: usize = 144;
 
 pub const EDGES: usize = 64;
