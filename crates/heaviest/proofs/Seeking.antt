@@ -9,6 +9,8 @@ use native.Mathlib.Decide.{ℕ_discrete}
 use native.Mathlib.Omega.{arith}
 use lib.Dec.{eqb, ltb}
 use lib.ListN.{get_or}
+use Rattle.std.specs.Prelude.{Option, Some, None}
+use Rattle.std.proofs.lemmas.Option.{none-some, same_Some}
 use borrow.Author.Tests.{eqb-true, lt-ltb, ltb-true, ltb-false}
 use Rattle.meaning.specs.Tree.{Concept, children}
 use Rattle.meaning.specs.Rows.{HoldsF}
@@ -30,29 +32,29 @@ module _ {ends : List ℕ} {node : ℕ} (k : Written ends node) (marks : List �
   pub start-inside : (node < e) × (e ≤ 64)
   start-inside = ((opened k.names k.roles ends k.tree k.left node e k.held).inside, k.few)
 
-  -- the children before row c are looked at; the one of most rows so far is at row h, or h is e where all are dropped
-  pub record Sought (h most c : ℕ) : Type 0 where
+  -- the children before row c are looked at; o is the one of most rows so far, or none where all are dropped
+  pub record Sought (o : Option ℕ) (most c : ℕ) : Type 0 where
     pub at : c < e → (u : Concept) × Stands ends (children k.tree) (node + 1) c u
-    pub empty : h ≡ e → most ≡ 0
-    pub none : h ≡ e → (d : ℕ) (u : Concept) → Stands ends (children k.tree) (node + 1) d u → d < c → get_or marks d 0 ≡ 0
-    pub some : (h ≡ e → ⊥) → (get_or marks h 0 ≡ 0 → ⊥) × ((u : Concept) × Stands ends (children k.tree) (node + 1) h u)
-    pub size : (h ≡ e → ⊥) → most ≡ get_or ends h 0 - h
+    pub empty : o ≡ None → most ≡ 0
+    pub none : o ≡ None → (d : ℕ) (u : Concept) → Stands ends (children k.tree) (node + 1) d u → d < c → get_or marks d 0 ≡ 0
+    pub some : (h : ℕ) → o ≡ Some h → (get_or marks h 0 ≡ 0 → ⊥) × ((u : Concept) × Stands ends (children k.tree) (node + 1) h u)
+    pub size : (h : ℕ) → o ≡ Some h → most ≡ get_or ends h 0 - h
     pub above : (d : ℕ) (u : Concept) → Stands ends (children k.tree) (node + 1) d u → d < c → (get_or marks d 0 ≡ 0 → ⊥) → get_or ends d 0 - d ≤ most
 
   place : (c : ℕ) (u : Concept) → Child c u → Place k.names k.roles ends (k.left - 1) (node + 1) e c u
   place c u s = stands-place k.names k.roles ends (children k.tree) (k.left - 1) (node + 1) e c u rows s
 
-  pub sought-start : Sought e 0 (node + 1)
+  pub sought-start : Sought None 0 (node + 1)
   sought-start = record {
     at = λ l. stands-first k.names k.roles ends (children k.tree) (k.left - 1) (node + 1) e rows l;
     empty = λ z. refl;
     none = λ z d u s l. absurd (let q = (place d u s).behind in omega arith);
-    some = λ z. absurd (z refl);
-    size = λ z. absurd (z refl);
+    some = λ h z. absurd (none-some h z);
+    size = λ h z. absurd (none-some h z);
     above = λ d u s l. absurd (let q = (place d u s).behind in omega arith);
   }
 
-  module _ {h most c : ℕ} (w : Sought h most c) (l : c < e) where
+  module _ {o : Option ℕ} {most c : ℕ} (w : Sought o most c) (l : c < e) where
     pub sought-inside : (c < get_or ends c 0) × (get_or ends c 0 ≤ e)
     sought-inside = let q = w.at l in let p = place c q.0 q.1 in (p.inside, p.within)
 
@@ -75,7 +77,7 @@ module _ {ends : List ℕ} {node : ℕ} (k : Written ends node) (marks : List �
             omega arith)
         which false t = let y = ltb-false c d t in omega (arith, q)
 
-    passed : (r : Bool) → r ≡ (eqb (get_or marks c 0) 0 || not (ltb most (get_or ends c 0 - c))) → r ≡ true → Sought h most (get_or ends c 0)
+    passed : (r : Bool) → r ≡ (eqb (get_or marks c 0) 0 || not (ltb most (get_or ends c 0 - c))) → r ≡ true → Sought o most (get_or ends c 0)
     passed r er t = record {
       at = next;
       empty = w.empty;
@@ -85,7 +87,7 @@ module _ {ends : List ℕ} {node : ℕ} (k : Written ends node) (marks : List �
       above = λ d u s m n. higher d u s m n (ℕ_discrete d c);
     }
       where
-        go : h ≡ get_or ends node 0 → (d : ℕ) (u : Concept) → Child d u → d < get_or ends c 0 → Dec (d ≡ c) → get_or marks d 0 ≡ 0
+        go : o ≡ None → (d : ℕ) (u : Concept) → Child d u → d < get_or ends c 0 → Dec (d ≡ c) → get_or marks d 0 ≡ 0
         go z d u s m (yes q) =
             let here : get_or marks c 0 ≡ 0 =
             dropped-here (get_or marks c 0) (eqb (get_or marks c 0) 0) (ltb 0 (get_or ends c 0 - c)) refl refl
@@ -104,13 +106,14 @@ module _ {ends : List ℕ} {node : ℕ} (k : Written ends node) (marks : List �
             (small (get_or marks c 0) most (eqb (get_or marks c 0) 0) (ltb most (get_or ends c 0 - c)) refl refl (sym er ∙ t) (λ z. n (ap (λ (y : ℕ). get_or marks y 0) q ∙ z)))
         higher d u s m n (no q) = w.above d u s (earlier d u s m q) n
 
-    taken : (r : Bool) → r ≡ (eqb (get_or marks c 0) 0 || not (ltb most (get_or ends c 0 - c))) → r ≡ false → Sought c (get_or ends c 0 - c) (get_or ends c 0)
+    taken : (r : Bool) → r ≡ (eqb (get_or marks c 0) 0 || not (ltb most (get_or ends c 0 - c))) → r ≡ false → Sought (Some c) (get_or ends c 0 - c) (get_or ends c 0)
     taken r q t = record {
       at = next;
-      empty = λ z. absurd (let y : c ≡ e = z in omega arith);
-      none = λ z. absurd (let y : c ≡ e = z in omega arith);
-      some = λ z. (kept (get_or marks c 0) (sym q ∙ t), w.at l);
-      size = λ z. refl;
+      empty = λ z. absurd (none-some c (sym z));
+      none = λ z. absurd (none-some c (sym z));
+      some = λ h z.
+          subst (λ (y : ℕ). (get_or marks y 0 ≡ 0 → ⊥) × ((u : Concept) × Child y u)) (same_Some c h z) (kept (get_or marks c 0) (sym q ∙ t), w.at l);
+      size = λ h z. ap (λ (y : ℕ). get_or ends y 0 - y) (same_Some c h z);
       above = λ d u s m n. higher d u s m n (ℕ_discrete d c);
     }
       where
@@ -133,28 +136,28 @@ module _ {ends : List ℕ} {node : ℕ} (k : Written ends node) (marks : List �
       told : r ≡ (eqb (get_or marks c 0) 0 || not (ltb most (get_or ends c 0 - c)))
       told = er ∙ ap (λ (z : ℕ). eqb (get_or marks c 0) 0 || not (ltb most (z - c))) ej
 
-      pub sought-pass : r ≡ true → Sought h most j
-      sought-pass t = subst (λ (z : ℕ). Sought h most z) (sym ej) (passed r told t)
+      pub sought-pass : r ≡ true → Sought o most j
+      sought-pass t = subst (λ (z : ℕ). Sought o most z) (sym ej) (passed r told t)
 
-      pub sought-take : r ≡ false → Sought c (j - c) j
-      sought-take t = subst (λ (z : ℕ). Sought c (z - c) z) (sym ej) (taken r told t)
+      pub sought-take : r ≡ false → Sought (Some c) (j - c) j
+      sought-take t = subst (λ (z : ℕ). Sought (Some c) (z - c) z) (sym ej) (taken r told t)
 
-  pub sought-end : (h most c : ℕ) → Sought h most c → e ≤ c → Heavy ends marks k.tree node h
-  sought-end h most c w l = record {
+  pub sought-end : (o : Option ℕ) (most c : ℕ) → Sought o most c → e ≤ c → Heavy ends marks k.tree node o
+  sought-end o most c w l = record {
     none = λ z d u s. w.none z d u s (let p = place d u s in omega (arith, p.inside, p.within));
     some = w.some;
-    most = λ z d u s n. rw (← w.size z) (w.above d u s (let p = place d u s in omega (arith, p.inside, p.within)) n);
+    most = λ h z d u s n. rw (← w.size h z) (w.above d u s (let p = place d u s in omega (arith, p.inside, p.within)) n);
   }
 
 -- ---- all children, one after the other
 
 -- they end at row e
-pub record Seeking (ends marks : List ℕ) (node e h most c : ℕ) : Type 0 where
+pub record Seeking (ends marks : List ℕ) (node e : ℕ) (o : Option ℕ) (most c : ℕ) : Type 0 where
   pub asked : Written ends node
   pub ended : e ≡ get_or ends node 0
-  pub each : (k : Written ends node) → Sought k marks h most c
+  pub each : (k : Written ends node) → Sought k marks o most c
 
-module _ {ends marks : List ℕ} {node e h most c : ℕ} (w : Seeking ends marks node e h most c) where
+module _ {ends marks : List ℕ} {node e : ℕ} {o : Option ℕ} {most c : ℕ} (w : Seeking ends marks node e o most c) where
   module _ (l : c < e) where
     among : c < get_or ends node 0
     among = omega (arith, w.ended)
@@ -166,11 +169,11 @@ module _ {ends marks : List ℕ} {node e h most c : ℕ} (w : Seeking ends marks
     seeking-inside j ej = let q = sought-inside w.asked marks (w.each w.asked) among in (omega (arith, q.0), omega (arith, q.0))
 
     module _ (j : ℕ) (ej : j ≡ get_or ends c 0) (r : Bool) (er : r ≡ (eqb (get_or marks c 0) 0 || not (ltb most (j - c)))) where
-      pub seeking-pass : r ≡ true → Seeking ends marks node e h most j
+      pub seeking-pass : r ≡ true → Seeking ends marks node e o most j
       seeking-pass t = record { asked = w.asked; ended = w.ended; each = λ k. sought-pass k marks (w.each k) among j ej r er t }
 
-      pub seeking-take : r ≡ false → Seeking ends marks node e c (j - c) j
+      pub seeking-take : r ≡ false → Seeking ends marks node e (Some c) (j - c) j
       seeking-take t = record { asked = w.asked; ended = w.ended; each = λ k. sought-take k marks (w.each k) among j ej r er t }
 
-  pub seeking-end : e ≤ c → (k : Written ends node) → Heavy ends marks k.tree node h
-  seeking-end l k = sought-end k marks h most c (w.each k) (omega (arith, w.ended))
+  pub seeking-end : e ≤ c → (k : Written ends node) → Heavy ends marks k.tree node o
+  seeking-end l k = sought-end k marks o most c (w.each k) (omega (arith, w.ended))

@@ -1,6 +1,6 @@
 -- A node's children by their rows, and the one with the most of them.
 -- Assumes nothing.
-use Rattle.std.specs.Prelude.{◌≡◌, ◌⊎◌, List, ℕ, ◌+◌, ◌-◌, ◌≤◌, get_or}
+use Rattle.std.specs.Prelude.{◌≡◌, ◌⊎◌, List, Option, Some, None, ℕ, ◌+◌, ◌-◌, ◌≤◌, get_or}
 use Rattle.meaning.specs.Bounds.{most_nodes}
 use Rattle.meaning.specs.Tree.{Forest, none, more, Concept, children}
 use Rattle.meaning.specs.Rows.{Holds}
@@ -23,8 +23,8 @@ pub record Written (ends : List ℕ) (node : ℕ) : Type 0 where
 abbrev pub Most : List ℕ → List ℕ → Concept → ℕ → ℕ → Type 0
 Most ends marks t node h = (c : ℕ) (u : Concept) → Stands ends (children t) (node + 1) c u → (get_or marks c 0 ≡ 0 → ⊥) → get_or ends c 0 - c ≤ get_or ends h 0 - h
 
--- a kept child of the tree at a row, of which none has more rows; or, where no child is kept, the row behind it
-pub record Heavy (ends marks : List ℕ) (t : Concept) (node h : ℕ) : Type 0 where
-  pub none : h ≡ get_or ends node 0 → (c : ℕ) (u : Concept) → Stands ends (children t) (node + 1) c u → get_or marks c 0 ≡ 0
-  pub some : (h ≡ get_or ends node 0 → ⊥) → (get_or marks h 0 ≡ 0 → ⊥) × ((u : Concept) × Stands ends (children t) (node + 1) h u)
-  pub most : (h ≡ get_or ends node 0 → ⊥) → Most ends marks t node h
+-- some kept child of the tree at a row, of which none has more rows; or none, where no child is kept
+pub record Heavy (ends marks : List ℕ) (t : Concept) (node : ℕ) (o : Option ℕ) : Type 0 where
+  pub none : o ≡ None → (c : ℕ) (u : Concept) → Stands ends (children t) (node + 1) c u → get_or marks c 0 ≡ 0
+  pub some : (h : ℕ) → o ≡ Some h → (get_or marks h 0 ≡ 0 → ⊥) × ((u : Concept) × Stands ends (children t) (node + 1) h u)
+  pub most : (h : ℕ) → o ≡ Some h → Most ends marks t node h

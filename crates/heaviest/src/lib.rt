@@ -4,32 +4,32 @@
 ghost use Rattle.std.specs.Prelude.{◌≡◌, ◌||◌, not, ◌-◌, eqb, ltb};
 ghost use Rattle.heaviest.specs.Heavy.{Written, Heavy};
 
+use rows::Reduced;
+
 // A child is no heavier than one before, or dropped.
 fn lighter(mark: u8, rows: usize, most: usize) -> bool
     ensures { result ≡ (eqb mark 0 || not (ltb most rows)) }
 {
-    if mark == 0 {
-        return true;
-    }
-    rows <= most
+    mark == 0 || rows <= most
 }
 
-// Of the kept children of a node, the first of those with the most rows; where none is kept, the row behind the node's own.
-pub fn heaviest(ends: &[u8; 64], marks: &[u8; 64], node: usize) -> usize
-    requires { Written ends.now node }
-    ensures { (k : Written ends.now node) → Heavy ends.now marks.now k.tree node result }
+// Of the kept children of a node, the first of those with the most rows; none where none is kept.
+pub fn heaviest(of: &Reduced, node: usize) -> Option<usize>
+    requires { Written of.now.tree.ends node }
+    ensures { (k : Written of.now.tree.ends node) → Heavy of.now.tree.ends of.now.marks k.tree node result }
 {
-    let e = fields::octet(ends[node]);
-    let mut heavy = e;
+    let e = usize::from(of.tree.ends[node]);
+    let mut heavy = None;
     let mut most = 0;
     let mut c = node + 1;
+    // Kept: no count of an index: from a child to the next one it goes as many rows as that child has.
     while c < e {
         let at = c;
-        c = fields::octet(ends[at]);
-        if lighter(marks[at], c - at, most) {
+        c = usize::from(of.tree.ends[at]);
+        if lighter(of.marks[at], c - at, most) {
             continue;
         }
-        heavy = at;
+        heavy = Some(at);
         most = c - at;
     }
     heavy
@@ -39,8 +39,5 @@ pub fn heaviest(ends: &[u8; 64], marks: &[u8; 64], node: usize) -> usize
 pub fn passed(mark: u8, at: usize, heavy: usize) -> bool
     ensures { result ≡ (eqb mark 0 || eqb at heavy) }
 {
-    if mark == 0 {
-        return true;
-    }
-    at == heavy
+    mark == 0 || at == heavy
 }

@@ -4,7 +4,7 @@ use Rattle.heaviest.proofs.heaviest.Given as goal
 
 abbrev pub invariant-loop-c : goal.invariant-loop-c
 invariant-loop-c l =
-    Seeking l.ends l.marks l.node l.e l.heavy l.most l.c
+    Seeking l.of.tree.ends l.of.marks l.node l.e l.heavy l.most l.c
 
 abbrev pub decreases-loop-c : goal.decreases-loop-c
 decreases-loop-c l =
