@@ -1,10 +1,12 @@
-// The rows of a requirement that was read, as its readers leave them in 144 lent numbers, and the five arrays that stand in them.
+// The rows of a requirement that was read, as its readers leave them in 144 lent numbers, and the tree and the thresholds that stand in them.
 // The names of the written node n stand at n; the role of the edge to it, and the index just past its subtree, at 64 + n;
 // of the k-th threshold the written node that it is of, and the place of its first byte, at 128 + k. Two numbers in one are the lower byte and the rest.
 #![tactic(auto)]
 
 ghost use Rattle.std.specs.Prelude.{◌≡◌, ◌+◌, ◌*◌, ◌/◌, ◌%◌, ◌≤◌, ◌<◌, length};
 ghost use Rattle.rows.specs.Packed.{names_in, roles_in, ends_in, owners_in, firsts_in};
+
+use std::array;
 
 // A concept tree, node after node in reading order: the names of each written node, the role of the edge to it, and the index just past its subtree.
 #[derive(Drop)]
@@ -62,72 +64,34 @@ fn high_pair(x: u64) -> u16
     (x / 256 % 65536) as u16
 }
 
-// The names of each written node.
-pub fn names(rows: &[u64]) -> [u64; 64]
-    requires { 144 ≤ length rows.now }
-    ensures { result ≡ names_in rows.now }
-{
-    let mut out = [0u64; 64];
-    let mut i = 0;
-    while i < meaning::MOST_NODES {
-        out[i] = rows[i];
-        i += 1;
+impl Tree {
+    // The tree that stands in the rows.
+    pub fn of(rows: &[u64]) -> Tree
+        requires { 144 ≤ length rows.now }
+        ensures names { result.names ≡ names_in rows.now }
+        ensures roles { result.roles ≡ roles_in rows.now }
+        ensures ends { result.ends ≡ ends_in rows.now }
+    {
+        Tree {
+            names: array::from_fn(|n| rows[n]),
+            roles: array::from_fn(|n| low(rows[EDGES + n])),
+            ends: array::from_fn(|n| high(rows[EDGES + n])),
+        }
     }
-    out
 }
 
-// The role of the edge to each.
-pub fn roles(rows: &[u64]) -> [u8; 64]
-    requires { 144 ≤ length rows.now }
-    ensures { result ≡ roles_in rows.now }
-{
-    let mut out = [0u8; 64];
-    let mut i = 0;
-    while i < meaning::MOST_NODES {
-        out[i] = low(rows[EDGES + i]);
-        i += 1;
+impl Parts {
+    // The thresholds that stand in the rows, of which there are `count`.
+    pub fn of(rows: &[u64], count: usize) -> Parts
+        requires { 144 ≤ length rows.now }
+        ensures owners { result.owners ≡ owners_in rows.now }
+        ensures firsts { result.firsts ≡ firsts_in rows.now }
+        ensures count { result.count ≡ count }
+    {
+        Parts {
+            owners: array::from_fn(|k| low(rows[PARTS + k])),
+            firsts: array::from_fn(|k| high_pair(rows[PARTS + k])),
+            count,
+        }
     }
-    out
-}
-
-// The index just past the subtree of each.
-pub fn ends(rows: &[u64]) -> [u8; 64]
-    requires { 144 ≤ length rows.now }
-    ensures { result ≡ ends_in rows.now }
-{
-    let mut out = [0u8; 64];
-    let mut i = 0;
-    while i < meaning::MOST_NODES {
-        out[i] = high(rows[EDGES + i]);
-        i += 1;
-    }
-    out
-}
-
-// The written node that each threshold is of.
-pub fn owners(rows: &[u64]) -> [u8; 16]
-    requires { 144 ≤ length rows.now }
-    ensures { result ≡ owners_in rows.now }
-{
-    let mut out = [0u8; 16];
-    let mut i = 0;
-    while i < meaning::MOST_THRESHOLDS {
-        out[i] = low(rows[PARTS + i]);
-        i += 1;
-    }
-    out
-}
-
-// The place of the first byte of each threshold.
-pub fn firsts(rows: &[u64]) -> [u16; 16]
-    requires { 144 ≤ length rows.now }
-    ensures { result ≡ firsts_in rows.now }
-{
-    let mut out = [0u16; 16];
-    let mut i = 0;
-    while i < meaning::MOST_THRESHOLDS {
-        out[i] = high_pair(rows[PARTS + i]);
-        i += 1;
-    }
-    out
 }
