@@ -7,7 +7,10 @@ ghost use Rattle.std.specs.Prelude.{◌≡◌, ◌+◌, ◌%◌, ◌≤◌, ◌<
 ghost use Rattle.std.proofs.lemmas.List.Edits.{sets};
 ghost use Rattle.meaning.specs.declared.Side.{Side};
 ghost use Rattle.meaning.specs.Bytes.{number, bytes, read_head};
-ghost use Rattle.fields.specs.Head.{paper_head, wrong_in, EndsWithin};
+ghost use Rattle.meaning.specs.Rules.{paper_on};
+ghost use Rattle.fields.specs.Head.{wrong_in, EndsWithin};
+
+use meaning::{Fault, Rule};
 
 // A number of 8, 16 or 32 bits as one of 64.
 pub fn octet(x: u8) -> usize
@@ -37,7 +40,7 @@ pub fn one(s: &[u8], at: usize) -> usize
     ensures value { result ≡ number s.now at 1 }
     ensures upper_bound { result < 256 }
 {
-    octet(s[at])
+    usize::from(s[at])
 }
 
 // The number in two bytes.
@@ -46,7 +49,7 @@ pub fn two(s: &[u8], at: usize) -> usize
     ensures value { result ≡ number s.now at 2 }
     ensures upper_bound { result < 65536 }
 {
-    octet(s[at]) * 256 + octet(s[at + 1])
+    usize::from(u16::from_be_bytes([s[at], s[at + 1]]))
 }
 
 // The number in eight bytes.
@@ -54,11 +57,16 @@ pub fn eight(s: &[u8], at: usize) -> u64
     requires { at + 8 ≤ length s.now }
     ensures { result ≡ number s.now at 8 }
 {
-    let a = two(s, at) as u64;
-    let b = two(s, at + 2) as u64;
-    let c = two(s, at + 4) as u64;
-    let d = two(s, at + 6) as u64;
-    ((a * 65536 + b) * 65536 + c) * 65536 + d
+    u64::from_be_bytes([
+        s[at],
+        s[at + 1],
+        s[at + 2],
+        s[at + 3],
+        s[at + 4],
+        s[at + 5],
+        s[at + 6],
+        s[at + 7],
+    ])
 }
 
 // The lowest byte of a number.
@@ -73,55 +81,34 @@ pub fn put(s: &mut [u8], at: usize, width: usize, n: usize)
     requires { at + width ≤ length s.old }
     ensures { s.new ≡ sets s.old at (bytes width n) }
 {
-    let mut i = width;
     let mut rest = n;
-    while 0 < i {
-        i -= 1;
+    for i in (0..width).rev() {
         s[at + i] = low(rest);
         rest = rest / 256;
     }
 }
 
-// A head: where what it heads ends, or the number and place of its fault.
-#[derive(Drop)]
-pub enum Head {
-    Good { end: usize },
-    Refused { number: usize, place: usize },
-}
-
-// Reads the head of a whole input, or in a session of what a buffer begins with.
-pub fn read_head(s: &[u8], session: bool) -> Head
-    ensures result_value { (side : Side) → paper_head side result ≡ read_head side (wrong_in session) s.now }
+// Reads the head of a whole input, or in a session of what a buffer begins with: where what it heads ends.
+pub fn read_head(s: &[u8], session: bool) -> Result<usize, Fault>
+    ensures result_value { (side : Side) → paper_on side result ≡ read_head side (wrong_in session) s.now }
     ensures ends_within { EndsWithin (length s.now) result }
 {
     let n = s.len();
     if n < 3 {
-        return Head::Refused {
-            number: 1,
-            place: 0,
-        };
+        return Err(Rule::CutShort.at(0));
     }
     if s[0] != 1 {
-        return Head::Refused {
-            number: 2,
-            place: 0,
-        };
+        return Err(Rule::Version.at(0));
     }
     let len = two(s, 1);
     if n - 3 < len {
-        return Head::Refused {
-            number: 3,
-            place: 1,
-        };
+        return Err(Rule::Length.at(1));
     }
     if session {
-        return Head::Good { end: 3 + len };
+        return Ok(3 + len);
     }
     if len < n - 3 {
-        return Head::Refused {
-            number: 3,
-            place: 1,
-        };
+        return Err(Rule::Length.at(1));
     }
-    Head::Good { end: 3 + len }
+    Ok(3 + len)
 }

@@ -16,14 +16,14 @@ ends_at h e = ap good e ∙ sym h
 pub returns-then-n-lt3 : goal.returns-then-n-lt3
 returns-then-n-lt3 c =
     let h : length c.args.s.now < 3 = omega arith in record {
-      result_value = λ side. sym (head-short side (wrong_in c.args.session) c.args.s.now h);
+      result_value = λ side. rw c.at.ensures (sym (head-short side (wrong_in c.args.session) c.args.s.now h));
       ends_within = tt;
     }
 
 pub returns-then-s-ne1 : goal.returns-then-s-ne1
 returns-then-s-ne1 c =
     let h : 3 ≤ length c.args.s.now = omega arith in record {
-      result_value = λ side. sym (head-version side (wrong_in c.args.session) c.args.s.now h c.if-s-ne1.true);
+      result_value = λ side. rw c.at-then-s-ne1.ensures (sym (head-version side (wrong_in c.args.session) c.args.s.now h c.if-s-ne1.true));
       ends_within = tt;
     }
 
@@ -31,7 +31,7 @@ pub returns-then-n-len : goal.returns-then-n-len
 returns-then-n-len c =
     let h : 3 ≤ length c.args.s.now = omega arith in
     let l : length c.args.s.now - 3 < number c.args.s.now 1 2 = omega (arith, c.two-len.ensures.value) in record {
-      result_value = λ side. sym (head-length side (wrong_in c.args.session) c.args.s.now h c.if-s-ne1.false (wrong-longer c.args.session _ _ l));
+      result_value = λ side. rw c.at-then-n-len.ensures (sym (head-length side (wrong_in c.args.session) c.args.s.now h c.if-s-ne1.false (wrong-longer c.args.session _ _ l)));
       ends_within = tt;
     }
 
@@ -48,7 +48,7 @@ pub returns-then-len-n : goal.returns-then-len-n
 returns-then-len-n c =
     let h : 3 ≤ length c.args.s.now = omega arith in
     let l : number c.args.s.now 1 2 < length c.args.s.now - 3 = omega (arith, c.two-len.ensures.value) in record {
-      result_value = λ side. sym (head-length side (wrong_in c.args.session) c.args.s.now h c.if-s-ne1.false (wrong-shorter c.args.session _ _ c.if-session.false l));
+      result_value = λ side. rw c.at-then-len-n.ensures (sym (head-length side (wrong_in c.args.session) c.args.s.now h c.if-s-ne1.false (wrong-shorter c.args.session _ _ c.if-session.false l)));
       ends_within = tt;
     }
 
