@@ -9,16 +9,20 @@ ghost use Rattle.meaning.specs.Bounds.{most_q, most_scale, most_margin};
 ghost use Rattle.meaning.specs.Fraction.{◌÷◌, gcd, wrong_with, compares, margin, margin_over};
 ghost use Rattle.meaning.specs.Fraction.{lowest as lowest_of};
 ghost use Rattle.meaning.specs.Message.{comparison};
+ghost use Rattle.meaning.specs.Rules.{told};
+ghost use Rattle.fractions.specs.Compare.{compared};
+
+use meaning::Rule;
 
 // A fraction.
-#[derive(Drop)]
+#[derive(Clone, Copy, Debug, PartialEq, Eq)]
 pub struct Fraction {
     pub num: u64,
     pub den: u64,
 }
 
 // A fraction with a sign: a margin, and what it is over.
-#[derive(Drop)]
+#[derive(Clone, Copy, Debug, PartialEq, Eq)]
 pub struct Signed {
     pub num: i64,
     pub den: u64,
@@ -50,24 +54,45 @@ pub fn lowest(num: u64, den: u64) -> Fraction
     }
 }
 
-// What is wrong with the fraction p/q of a threshold, by its number, and 0 where nothing is: 23 (q is 0 or too large), 24 (p exceeds q), 25 (they share
-// a factor above 1).
-pub fn wrong(p: usize, q: usize) -> usize
-    ensures { result ≡ wrong_with p q }
+// What is wrong with the fraction p/q of a threshold: q is 0 or too large, p exceeds q, or they share a factor above 1.
+pub fn wrong(p: usize, q: usize) -> Result<(), Rule>
+    ensures { told result ≡ wrong_with p q }
 {
     if q < 1 {
-        return 23;
+        return Err(Rule::DenominatorOut);
     }
     if meaning::MOST_Q < q {
-        return 23;
+        return Err(Rule::DenominatorOut);
     }
     if q < p {
-        return 24;
+        return Err(Rule::AboveOne);
     }
     if common_divisor(p, q) != 1 {
-        return 25;
+        return Err(Rule::NotLowest);
     }
-    0
+    Ok(())
+}
+
+// How a threshold compares, in the order of the document's numbers.
+#[derive(Clone, Copy, Debug, PartialEq, Eq)]
+enum Comparison {
+    Less,
+    AtMost,
+    Greater,
+    AtLeast,
+}
+
+impl From<u8> for Comparison {
+    ghost from_gives = { λ how c. compared c ≡ comparison how };
+
+    fn from(how: u8) -> Comparison {
+        match how {
+            0 => Comparison::Less,
+            1 => Comparison::AtMost,
+            2 => Comparison::Greater,
+            _ => Comparison::AtLeast,
+        }
+    }
 }
 
 // Whether number / scale satisfies a comparison with p / q, by cross-multiplication: 0 is <, 1 is ≤, 2 is >, 3 is ≥.
@@ -77,16 +102,12 @@ pub fn satisfies(how: u8, number: u64, scale: u64, p: u64, q: u64) -> bool
 {
     let own = number * q;
     let limit = p * scale;
-    if how == 0 {
-        return own < limit;
+    match Comparison::from(how) {
+        Comparison::Less => own < limit,
+        Comparison::AtMost => own <= limit,
+        Comparison::Greater => limit < own,
+        Comparison::AtLeast => limit <= own,
     }
-    if how == 1 {
-        return own <= limit;
-    }
-    if how == 2 {
-        return limit < own;
-    }
-    limit <= own
 }
 
 // The margin of a degree num/den against a threshold p/q: num times q minus p times den, over den times q.

@@ -1,16 +1,12 @@
 -- `fractions::common_divisor` meets its contract: the divisor stays the same at each turn, and the second number falls.
 -- Assumes nothing.
-use mathlib.Core.Path.{◌≡◌, refl, sym, ◌∙◌, ap}
+use mathlib.Core.Path.{◌≡◌, sym, ◌∙◌, ap}
 use Prim.Native.Nat.{◌<◌}
 use native.Mathlib.Nat.{mod-lt}
 use native.Mathlib.Omega.{arith}
 use Rattle.meaning.specs.Fraction.{gcd}
 use Rattle.meaning.proofs.Euclid.{gcd-last, gcd-turn}
 use Rattle.fractions.proofs.common_divisor.Goals as goal
-
-pub loop-b-init : goal.loop-b-init
-loop-b-init c =
-    refl
 
 pub loop-b-smaller : goal.loop-b-smaller
 loop-b-smaller c =
