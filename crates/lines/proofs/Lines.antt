@@ -1,37 +1,14 @@
--- The pieces of a line: a side's word, a place of a map, the places one after the other.
+-- The pieces of a line: the places of a map one after the other, and an item's line.
 -- Assumes nothing.
-use mathlib.Core.Path.{◌≡◌, refl, sym, ap, subst, ◌∙◌}
+use mathlib.Core.Path.{◌≡◌, refl, sym, ap, ◌∙◌}
 use mathlib.Core.List.{List, [], ◌∷◌, ◌++◌, append_assoc, append-nil}
-use Prim.Native.Nat.{ℕ, suc, ◌+◌, ◌-◌, ◌≤◌, ◌<◌}
+use Prim.Native.Nat.{ℕ, ◌+◌, ◌<◌}
 use native.Mathlib.Numerals.{add-one}
-use native.Mathlib.Omega.{arith}
-use lib.ListN.{length, get_or, take, drop, length-drop}
-use lib.Seq.{take-suc, take_all, length-take-le}
-use borrow.Author.Tests.{ne_eqb}
-use Rattle.meaning.specs.declared.Side.{Side}
-use Rattle.meaning.specs.declared.Side.TheVariants.{Register, Requirement, Call}
-use Rattle.lines.specs.Text.{Wrote, decimal}
-use Rattle.meaning.specs.declared.Refusal.{Refusal}
+use lib.ListN.{length, get_or, take}
+use lib.Seq.{take-suc}
+use Rattle.lines.specs.Text.{decimal}
 use Rattle.meaning.specs.Fraction.{Frac}
-use Rattle.lines.proofs.Writing.{as-text}
-use Rattle.lines.specs.Lines.{side_word, refused_word, at_word, yes_word, refusal_line, place, places, shown_map, degree_line, yes_line, item_line}
-
--- ---- a place
-
-pub place-unmapped : (v : ℕ) → v ≡ 65535 → place v ≡ 45 ∷ []
-unfolding place
-place-unmapped v e = rw e
-
-pub place-dropped : (v : ℕ) → v ≡ 65534 → place v ≡ 61 ∷ []
-unfolding place
-place-dropped v e = rw e
-
-pub place-item : (v : ℕ) → (v ≡ 65535 → ⊥) → (v ≡ 65534 → ⊥) → place v ≡ decimal v
-unfolding place
-place-item v n m = rw (ne_eqb v 65535 n, ne_eqb v 65534 m)
-
-pub wrote-place : {a b : List ℕ} {at r to v : ℕ} → to ≡ v → (to ≡ 65535 → ⊥) → (to ≡ 65534 → ⊥) → Wrote a b at (decimal to) r → Wrote a b at (place v) r
-wrote-place {a} {b} {at} {r} {to} {v} e n m w = subst (λ (z : ℕ). Wrote a b at (place z) r) e (as-text (place-item to n m) w)
+use Rattle.lines.specs.Lines.{yes_word, place, places, shown_map, degree_line, yes_line, item_line}
 
 -- ---- the places from the second on
 
@@ -48,34 +25,6 @@ pub places-next : (m : List ℕ) (i : ℕ) → i < length m → places (take (i 
 places-next m i l =
     ap (λ (k : ℕ). places (take k m)) (add-one i) ∙ ap places (take-suc m i 0 l) ∙ places-append (take i m) (get_or m i 0 ∷ [])
     ∙ ap (λ (z : List ℕ). places (take i m) ++ z) (places-one (get_or m i 0))
-
-pub places-none : (m : List ℕ) → places (take 0 m) ≡ []
-unfolding places
-places-none m = refl
-
-pub shown-none : (m : List ℕ) → length m ≡ 0 → shown_map m ≡ []
-unfolding shown_map
-shown-none [] e = refl
-shown-none (v ∷ vs) e = absurd (omega arith)
-
-pub shown-some : (m : List ℕ) → (length m ≡ 0 → ⊥) → shown_map m ≡ place (get_or m 0 0) ++ places (take (length m - 1) (drop 1 m))
-unfolding shown_map
-shown-some [] n = absurd (n refl)
-shown-some (v ∷ vs) n = ap (λ (z : List ℕ). place v ++ places z) (sym (take_all (suc (length vs) - 1) vs (omega arith)))
-
-pub length_rest : (m : List ℕ) → length (take (length m - 1) (drop 1 m)) ≡ length m - 1
-length_rest m = length-take-le (length m - 1) (drop 1 m) (omega (arith, length-drop 1 m))
-
--- ---- a refusal's line
-
-pub side-most : (s : Side) → length (side_word s) ≤ 11
-side-most Register = omega arith
-side-most Requirement = omega arith
-side-most Call = omega arith
-
-pub refusal-line : (r : Refusal) → refusal_line r ≡ side_word r.side ++ refused_word ++ decimal r.number ++ at_word ++ decimal r.place ++ (10 ∷ [])
-unfolding refusal_line
-refusal-line r = refl
 
 -- ---- an item's line
 

@@ -1,6 +1,6 @@
--- The row of an item: what the calls answer for it, where the map has room for all 64 nodes; and a row at the front of a buffer.
+-- The row of an item: what the calls answer for it, where the map has room for all 64 nodes.
 -- Assumes nothing.
-use Rattle.std.specs.Prelude.{◌≡◌, Bool, true, false, cond, List, ℕ, ◌≤◌, eqb, length, take}
+use Rattle.std.specs.Prelude.{Bool, true, false, cond, List, ℕ, eqb}
 use Rattle.meaning.specs.declared.Refusal.{Refusal}
 use Rattle.meaning.specs.Refusal.{Answer, good, refused}
 use Rattle.meaning.specs.Calls.{Found, degree_call, Decision, met, unmet, member_call}
@@ -26,8 +26,3 @@ member_row i (refused r) = refused_row i r
 abbrev pub row_of : Bool → List ℕ → List ℕ → ℕ → List ℕ
 row_of true image message i = degree_row i (degree_call image message i most_nodes)
 row_of false image message i = member_row i (member_call image message i most_nodes)
-
--- the first r bytes of a buffer are the text
-pub record Begins (buffer text : List ℕ) (r : ℕ) : Type 0 where
-  pub fits : r ≤ length buffer
-  pub is : take r buffer ≡ text

@@ -1,148 +1,147 @@
-// The lines of a listing, as text in a lent buffer: a refusal's, and an item's with its degree or with yes or no, and its map, or with `withdrawn`.
-// A line is written from the buffer's first byte on; what is answered is how long it is.
+// The lines of a listing, as text in memory of their own: a refusal's, and an item's with its degree or with yes or no, and its map, or with `withdrawn`.
+// Kept: pieces pushed one after the other, and no `write!` with a `Display`: what `write!` promises of a writer holds where it answers Ok, and no promise
+// says when it does; so the clause `text` of each line here, that the line is whole, would not follow.
 #![tactic(auto)]
 
-ghost use Rattle.std.specs.Prelude.{◌≡◌, ◌+◌, ◌*◌, ◌≤◌, length};
+ghost use Rattle.std.specs.Prelude.{◌≡◌, ◌+◌, ◌*◌, ◌≤◌, ◌++◌, length};
 ghost use Rattle.meaning.specs.Bounds.{most_nodes};
 ghost use Rattle.meaning.specs.Fraction.{◌÷◌};
-ghost use Rattle.lines.specs.Text.{Wrote};
 ghost use Rattle.lines.specs.Lines.{line_room, side_word, refusal_line, place, places, shown_map, degree_line, yes_line, item_line, no_line, withdrawn_line};
 
-use crate::text::{put_byte, put_digits, put_number, put_word};
-use fields;
 use meaning;
 use meaning::{Refusal, Side};
 
 pub mod text;
 
-// No line is longer: two numbers of a fraction, an item, and a map of 64 places.
-pub const ROOM: usize = 448;
+pub use text::{Line, ROOM};
 
 // The word for a side.
-fn put_side(out: &mut [u8], at: usize, side: Side) -> usize
-    requires { at + 11 ≤ length out.old }
-    ensures wrote { Wrote out.old out.new at (side_word side) result }
-    ensures upper_bound { result ≤ at + 11 }
+fn word_of(side: Side) -> &'static [u8]
+    ensures word { result.now ≡ side_word side }
+    ensures upper_bound { length result.now ≤ 11 }
 {
     match side {
-        Side::Register => put_word(out, at, b"register"),
-        Side::Requirement => put_word(out, at, b"requirement"),
-        Side::Call => put_word(out, at, b"call"),
+        Side::Register => b"register",
+        Side::Requirement => b"requirement",
+        Side::Call => b"call",
     }
 }
 
 // One line for a refusal.
-pub fn put_refusal(line: &mut [u8], refusal: Refusal) -> usize
-    requires { line_room ≤ length line.old }
-    ensures wrote { Wrote line.old line.new 0 (refusal_line refusal) result }
-    ensures upper_bound { result ≤ line_room }
+#[tactic(auto, using(crate::proofs::Writing::decimal_most), unfolding(crate::specs::Lines::refusal_line))]
+pub fn refusal_line(refusal: Refusal) -> Line
+    ensures text { result ≡ refusal_line refusal }
+    ensures upper_bound { length result ≤ line_room }
 {
-    let side = refusal.side;
-    let mut k = put_side(line, 0, side);
-    k = put_word(line, k, b" refused ");
-    k = put_number(line, k, refusal.number as u64);
-    k = put_word(line, k, b" at ");
-    k = put_number(line, k, refusal.place as u64);
-    put_byte(line, k, b'\n')
+    let mut line = Line::new();
+    line.push_word(word_of(refusal.side));
+    line.push_word(b" refused ");
+    line.push_number(refusal.number as u64);
+    line.push_word(b" at ");
+    line.push_number(refusal.place as u64);
+    line.push(b'\n');
+    line
 }
 
 // One place of a map.
-fn put_place(out: &mut [u8], at: usize, v: u16) -> usize
-    requires { at + 5 ≤ length out.old }
-    ensures wrote { Wrote out.old out.new at (place v) result }
-    ensures upper_bound { result ≤ at + 5 }
+#[tactic(auto, using(crate::proofs::Writing::decimal_short), unfolding(crate::specs::Lines::place))]
+fn push_place(line: &mut Line, to: u16)
+    requires { length line.old + 5 ≤ line_room }
+    ensures text { line.new ≡ line.old ++ place to }
+    ensures upper_bound { length line.new ≤ length line.old + 5 }
 {
-    let to = fields::pair(v);
-    if to == meaning::NOWHERE {
-        return put_byte(out, at, b'-');
+    match usize::from(to) {
+        meaning::NOWHERE => line.push(b'-'),
+        meaning::DROPPED => line.push(b'='),
+        item => line.push_number(item as u64),
     }
-    if to == meaning::DROPPED {
-        return put_byte(out, at, b'=');
-    }
-    put_digits(out, at, 20, to as u64)
 }
 
 // The places of a map from the second on, each after a comma.
-fn put_places(out: &mut [u8], at: usize, map: &[u16]) -> usize
-    requires { at + 6 * length map.now ≤ length out.old }
-    ensures wrote { Wrote out.old out.new at (places map.now) result }
-    ensures upper_bound { result ≤ at + 6 * length map.now }
+#[tactic(auto, unfolding(crate::specs::Lines::places))]
+fn push_places(line: &mut Line, map: &[u16])
+    requires { length line.old + 6 * length map.now ≤ line_room }
+    ensures text { line.new ≡ line.old ++ places map.now }
+    ensures upper_bound { length line.new ≤ length line.old + 6 * length map.now }
 {
-    let mut k = at;
-    let mut i = 0;
-    while i < map.len() {
-        k = put_byte(out, k, b',');
-        k = put_place(out, k, map[i]);
-        i += 1;
+    for to in map {
+        line.push(b',');
+        push_place(line, *to);
     }
-    k
 }
 
 // A map.
-fn put_map(out: &mut [u8], at: usize, map: &[u16]) -> usize
-    requires { at + 6 * length map.now ≤ length out.old }
-    ensures wrote { Wrote out.old out.new at (shown_map map.now) result }
-    ensures upper_bound { result ≤ at + 6 * length map.now }
+#[tactic(auto, unfolding(crate::specs::Lines::shown_map))]
+fn push_map(line: &mut Line, map: &[u16])
+    requires { length line.old + 6 * length map.now ≤ line_room }
+    ensures text { line.new ≡ line.old ++ shown_map map.now }
+    ensures upper_bound { length line.new ≤ length line.old + 6 * length map.now }
 {
-    if map.len() == 0 {
-        return at;
+    if let [first, rest @ ..] = map {
+        push_place(line, *first);
+        push_places(line, rest);
     }
-    let k = put_place(out, at, map[0]);
-    put_places(out, k, &map[1..])
 }
 
 // The line of an item with its degree and map.
-pub fn put_degree_line(line: &mut [u8], item: usize, num: u64, den: u64, map: &[u16]) -> usize
-    requires { (line_room ≤ length line.old) × (length map.now ≤ most_nodes) }
-    ensures wrote { Wrote line.old line.new 0 (degree_line item (num ÷ den) map.now) result }
-    ensures upper_bound { result ≤ line_room }
+#[tactic(auto, using(crate::proofs::Writing::decimal_most), unfolding(crate::specs::Lines::degree_line))]
+pub fn degree_line(item: usize, num: u64, den: u64, map: &[u16]) -> Line
+    requires { length map.now ≤ most_nodes }
+    ensures text { result ≡ degree_line item (num ÷ den) map.now }
+    ensures upper_bound { length result ≤ line_room }
 {
-    let mut k = put_number(line, 0, item as u64);
-    k = put_byte(line, k, b' ');
-    k = put_number(line, k, num);
-    k = put_byte(line, k, b'/');
-    k = put_number(line, k, den);
-    k = put_byte(line, k, b' ');
-    k = put_map(line, k, map);
-    put_byte(line, k, b'\n')
+    let mut line = Line::new();
+    line.push_number(item as u64);
+    line.push(b' ');
+    line.push_number(num);
+    line.push(b'/');
+    line.push_number(den);
+    line.push(b' ');
+    push_map(&mut line, map);
+    line.push(b'\n');
+    line
 }
 
 // The line of an item that meets the requirement, with its map.
-pub fn put_yes_line(line: &mut [u8], item: usize, map: &[u16]) -> usize
-    requires { (line_room ≤ length line.old) × (length map.now ≤ most_nodes) }
-    ensures wrote { Wrote line.old line.new 0 (yes_line item map.now) result }
-    ensures upper_bound { result ≤ line_room }
+#[tactic(auto, using(crate::proofs::Writing::decimal_most), unfolding(crate::specs::Lines::yes_line))]
+pub fn yes_line(item: usize, map: &[u16]) -> Line
+    requires { length map.now ≤ most_nodes }
+    ensures text { result ≡ yes_line item map.now }
+    ensures upper_bound { length result ≤ line_room }
 {
-    let mut k = put_number(line, 0, item as u64);
-    k = put_word(line, k, b" yes ");
-    k = put_map(line, k, map);
-    put_byte(line, k, b'\n')
+    let mut line = Line::new();
+    line.push_number(item as u64);
+    line.push_word(b" yes ");
+    push_map(&mut line, map);
+    line.push(b'\n');
+    line
 }
 
 // The line of an item with words that end it.
-fn put_item_line(line: &mut [u8], item: usize, word: &[u8]) -> usize
-    requires { (line_room ≤ length line.old) × (length word.now ≤ 20) }
-    ensures wrote { Wrote line.old line.new 0 (item_line item word.now) result }
-    ensures upper_bound { result ≤ line_room }
+#[tactic(auto, using(crate::proofs::Writing::decimal_most), unfolding(crate::specs::Lines::item_line))]
+fn item_line(item: usize, word: &[u8]) -> Line
+    requires { length word.now ≤ 20 }
+    ensures text { result ≡ item_line item word.now }
+    ensures upper_bound { length result ≤ line_room }
 {
-    let k = put_number(line, 0, item as u64);
-    put_word(line, k, word)
+    let mut line = Line::new();
+    line.push_number(item as u64);
+    line.push_word(word);
+    line
 }
 
 // The line of an item that does not meet the requirement.
-pub fn put_no_line(line: &mut [u8], item: usize) -> usize
-    requires { line_room ≤ length line.old }
-    ensures wrote { Wrote line.old line.new 0 (no_line item) result }
-    ensures upper_bound { result ≤ line_room }
+pub fn no_line(item: usize) -> Line
+    ensures text { result ≡ no_line item }
+    ensures upper_bound { length result ≤ line_room }
 {
-    put_item_line(line, item, b" no -\n")
+    item_line(item, b" no -\n")
 }
 
 // The line of an item that is withdrawn.
-pub fn put_withdrawn_line(line: &mut [u8], item: usize) -> usize
-    requires { line_room ≤ length line.old }
-    ensures wrote { Wrote line.old line.new 0 (withdrawn_line item) result }
-    ensures upper_bound { result ≤ line_room }
+pub fn withdrawn_line(item: usize) -> Line
+    ensures text { result ≡ withdrawn_line item }
+    ensures upper_bound { length result ≤ line_room }
 {
-    put_item_line(line, item, b" withdrawn -\n")
+    item_line(item, b" withdrawn -\n")
 }

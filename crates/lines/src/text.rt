@@ -1,57 +1,74 @@
-// Writing text into a lent buffer: bytes, words, numbers in decimal. Each function writes from a place on and answers the place behind.
-ghost use Rattle.std.specs.Prelude.{◌≡◌, ◌+◌, ◌≤◌, ◌<◌, [], ◌∷◌, length};
-ghost use Rattle.lines.specs.Text.{Wrote, digits, decimal};
+// A line of text that is being written, in fixed memory of its own. In a clause a line is its text.
+ghost use Rattle.std.specs.Prelude.{◌≡◌, ◌+◌, ◌≤◌, ◌<◌, List, ℕ, [], ◌∷◌, ◌++◌, length, take};
+ghost use Rattle.lines.specs.Text.{decimal};
 
-// One byte.
-pub fn put_byte(out: &mut [u8], at: usize, byte: u8) -> usize
-    requires { at + 1 ≤ length out.old }
-    ensures { Wrote out.old out.new at (byte ∷ []) result }
-{
-    out[at] = byte;
-    at + 1
+use itoa::Buffer;
+use std::marker::Model;
+
+// No line is longer: two numbers of a fraction, an item, and a map of 64 places.
+pub const ROOM: usize = 448;
+
+#[derive(Drop)]
+pub struct Line {
+    bytes: [u8; ROOM],
+    len: usize,
 }
 
-// The bytes of a word.
-pub fn put_word(out: &mut [u8], at: usize, word: &[u8]) -> usize
-    requires { at + length word.now ≤ length out.old }
-    ensures { Wrote out.old out.new at word.now result }
-{
-    let mut i = 0;
-    while i < word.len() {
-        out[at + i] = word[i];
-        i += 1;
+impl Model for Line {
+    ghost Value = { List ℕ };
+
+    ghost view = { λ l. take l.len l.bytes };
+
+    ghost invariant = { λ l. l.len ≤ 448 };
+}
+
+impl Line {
+    // A line with no text yet.
+    pub fn new() -> Line
+        ensures { result ≡ [] }
+    {
+        Line {
+            bytes: [0; ROOM],
+            len: 0,
+        }
     }
-    at + i
-}
 
-// A digit's byte.
-fn digit(n: u64) -> u8
-    requires { n < 10 }
-    ensures { result ≡ 48 + n }
-{
-    48 + n as u8
-}
-
-// The last `left` digits of a number, without zeros in front.
-pub fn put_digits(out: &mut [u8], at: usize, left: usize, n: u64) -> usize
-    requires { at + length (digits left n) ≤ length out.old }
-    ensures { Wrote out.old out.new at (digits left n) result }
-{
-    if left == 0 {
-        return at;
+    // Its bytes.
+    pub fn text(&self) -> &[u8]
+        ensures { result.now ≡ self.now }
+    {
+        &self.bytes[..self.len]
     }
-    if n < 10 {
-        return put_byte(out, at, digit(n));
-    }
-    let next = put_digits(out, at, left - 1, n / 10);
-    put_byte(out, next, digit(n % 10))
-}
 
-// A number in decimal: at most 20 digits.
-pub fn put_number(out: &mut [u8], at: usize, n: u64) -> usize
-    requires { at + 20 ≤ length out.old }
-    ensures wrote { Wrote out.old out.new at (decimal n) result }
-    ensures upper_bound { result ≤ at + 20 }
-{
-    put_digits(out, at, 20, n)
+    // One byte more.
+    pub fn push(&mut self, byte: u8)
+        requires { length self.old < 448 }
+        ensures text { self.new ≡ self.old ++ byte ∷ [] }
+        ensures len { length self.new ≡ length self.old + 1 }
+    {
+        self.bytes[self.len] = byte;
+        self.len += 1;
+    }
+
+    // The bytes of a word.
+    pub fn push_word(&mut self, word: &[u8])
+        requires { length self.old + length word.now ≤ 448 }
+        ensures text { self.new ≡ self.old ++ word.now }
+        ensures len { length self.new ≡ length self.old + length word.now }
+    {
+        let end = self.len + word.len();
+        self.bytes[self.len..end].copy_from_slice(word);
+        self.len = end;
+    }
+
+    // A number in decimal: at most 20 digits.
+    pub fn push_number(&mut self, n: u64)
+        requires { length self.old + length (decimal n) ≤ 448 }
+        ensures text { self.new ≡ self.old ++ decimal n }
+        ensures len { length self.new ≡ length self.old + length (decimal n) }
+        ensures upper_bound { length self.new ≤ length self.old + 20 }
+    {
+        let mut buffer = Buffer::new();
+        self.push_word(buffer.format(n).as_bytes());
+    }
 }
