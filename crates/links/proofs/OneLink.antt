@@ -11,11 +11,12 @@ use lib.Dec.{ltb, leb}
 use lib.ListN.{get_or}
 use Rattle.meaning.specs.declared.Side.TheVariants.{Register as register}
 use Rattle.meaning.specs.Refusal.{Answer, good, refused, at, refuse_if, ◌>>◌}
+use Rattle.meaning.specs.Rules.{refusal_on}
 use Rattle.meaning.specs.Bounds.{most_items, most_role}
 use Rattle.meaning.specs.Bytes.{number, fields, Bytes}
 use Rattle.meaning.specs.Register.{Link, link_at, above, read_link}
 use Rattle.meaning.proofs.Reading.{pass, stop, stopped, halted, took, below, not-below, at_most, not-le, fitted, number-one, number-two}
-use Rattle.links.specs.Links.{key, Floor, paper_link, keyed, Right, cut_at}
+use Rattle.links.specs.Links.{key, Floor, keyed, Right, cut_at}
 use Rattle.links.proofs.Rising.{above_floor}
 
 module _ (s : List ℕ) (end n : ℕ) (before : Option Link) (p : ℕ) where
@@ -31,11 +32,11 @@ module _ (s : List ℕ) (end n : ℕ) (before : Option Link) (p : ℕ) where
   unfolding read_link
   short q e = keyed-refused 1 q (halted (fields register end (2 ∷ 1 ∷ 2 ∷ []) p) _ _ e)
 
-  pub link-cut : p ≤ end → end - p < 5 → answer ≡ paper_link (cut_at (end - p) p)
+  pub link-cut : p ≤ end → end - p < 5 → answer ≡ refused (refusal_on register (cut_at (end - p) p))
   unfolding fields
   link-cut l h = go (dec_lt (end - p) 2) (dec_lt (end - p) 3)
     where
-      go : Dec (end - p < 2) → Dec (end - p < 3) → answer ≡ paper_link (cut_at (end - p) p)
+      go : Dec (end - p < 2) → Dec (end - p < 3) → answer ≡ refused (refusal_on register (cut_at (end - p) p))
       go (yes a) d = short p (stop (ltb end (p + 2)) _ _ (below end (p + 2) (omega arith))) ∙ rw (below (end - p) 2 a) refl
       go (no a) (yes b) =
           short (p + 2) (pass (ltb end (p + 2)) _ _ (not-below end (p + 2) (omega arith)) ∙ stop (ltb end (p + 2 + 1)) _ _ (below end (p + 2 + 1) (omega arith)))

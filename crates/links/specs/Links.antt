@@ -1,13 +1,12 @@
 -- What the readers of links answer, in the document's words.
 -- Assumes nothing.
-use Rattle.std.specs.Prelude.{◌≡◌, cond, List, ℕ, zero, suc, ◌+◌, ◌*◌, ◌/◌, ◌%◌, ◌≤◌, ◌<◌, ltb}
+use Rattle.std.specs.Prelude.{◌≡◌, cond, List, ℕ, zero, suc, ◌+◌, ◌*◌, ◌/◌, ◌%◌, ◌≤◌, ◌<◌, ltb, Result, Ok, Err}
 use Rattle.std.proofs.Math.Option.{Option, some, none as nowhere}
-use Rattle.meaning.specs.declared.Side.TheVariants.{Register as register}
-use Rattle.meaning.specs.Refusal.{Answer, good, refused, at, ◌>>=◌}
+use Rattle.meaning.specs.declared.Rule.TheVariants.{CutShort}
+use Rattle.meaning.specs.declared.Fault.{Fault}
+use Rattle.meaning.specs.Refusal.{Answer, good, ◌>>=◌}
 use Rattle.meaning.specs.Bounds.{most_role}
 use Rattle.meaning.specs.Register.{Link, link_at, read_links}
-use Rattle.links.specs.declared.Linked.{Linked}
-use Rattle.links.specs.declared.Linked.TheVariants.{Good as GoodLink, Refused as RefusedLink}
 
 -- the number of a link's five bytes: it rises with (from, role, to)
 abbrev pub key : Link → ℕ
@@ -22,17 +21,13 @@ abbrev pub Floor : Option Link → ℕ → Type 0
 Floor nowhere f = f ≡ 0
 Floor (some l) f = (f ≡ key l + 1) × (l.role ≤ most_role) × (l.to < 65536)
 
-abbrev pub paper_link : Linked → Answer ℕ
-paper_link (GoodLink f) = good f
-paper_link (RefusedLink n p) = refused (at register n p)
-
 unfoldable pub keyed : Answer Link → Answer ℕ
 keyed a = a >>= λ l. good (key l + 1)
 
 -- a link that was read lies before the end
-abbrev pub Passed : ℕ → ℕ → Linked → Type 0
-Passed p end (GoodLink f) = p + 5 ≤ end
-Passed p end (RefusedLink k q) = Unit {0}
+abbrev pub Passed : ℕ → ℕ → Result ℕ Fault → Type 0
+Passed p end (Ok floor) = p + 5 ≤ end
+Passed p end (Err f) = Unit {0}
 
 -- a link's number passes every test but that of the item it leads from, among n items
 abbrev pub Right : ℕ → ℕ → ℕ → Type 0
@@ -52,5 +47,5 @@ abbrev pub AllRead : List ℕ → ℕ → ℕ → ℕ → ℕ → Type 0
 AllRead s end n m p = (ls : List Link) × (read_links s end n m nowhere p ≡ good ls)
 
 -- the first field of a link that does not fit into so much room
-abbrev pub cut_at : ℕ → ℕ → Linked
-cut_at room p = RefusedLink 1 (cond (ltb room 2) p (cond (ltb room 3) (p + 2) (p + 3)))
+abbrev pub cut_at : ℕ → ℕ → Fault
+cut_at room p = record { rule = CutShort; place = cond (ltb room 2) p (cond (ltb room 3) (p + 2) (p + 3)) }

@@ -4,79 +4,62 @@
 
 ghost use Rattle.std.specs.Prelude.{◌≡◌, true, false, ℕ, ◌+◌, ◌*◌, ◌≤◌, ◌<◌, length};
 ghost use Rattle.std.proofs.Math.Option.{Option};
+ghost use Rattle.meaning.specs.declared.Side.TheVariants.{Register};
 ghost use Rattle.meaning.specs.Bytes.{number};
 ghost use Rattle.meaning.specs.Register.{Link, link_at, read_link};
+ghost use Rattle.meaning.specs.Rules.{paper_on};
 ghost use Rattle.meaning.specs.Bounds.{most_items, most_links};
-ghost use Rattle.links.specs.Links.{key, Floor, paper_link, keyed, Passed, Right, Rightly, Whole, AllRead, cut_at};
+ghost use Rattle.links.specs.Links.{key, Floor, keyed, Passed, Right, Rightly, Whole, AllRead, cut_at};
 
-// A link that was read: the least number that the next one may have; or the number and place of its fault.
-#[derive(Drop)]
-pub enum Linked {
-    Good { floor: usize },
-    Refused { number: usize, place: usize },
-}
+use meaning::{Fault, Rule};
 
-// One link, whose number must be at least `floor`. A link's number is that of its five bytes, and so rises with (from, role, to).
-pub fn read_link(s: &[u8], end: usize, items: usize, at: usize, floor: usize) -> Linked
+// One link, whose number must be at least `floor`: the least number that the next one may have. A link's number is that of its five bytes, and so rises with
+// (from, role, to).
+pub fn read_link(
+    s: &[u8],
+    end: usize,
+    items: usize,
+    at: usize,
+    floor: usize,
+) -> Result<usize, Fault>
     requires { (at ≤ end) × (end ≤ length s.now) × (items ≤ most_items) }
-    ensures result_value { (before : Option Link) → Floor before floor → paper_link result ≡ keyed (read_link s.now end items before at) }
+    ensures result_value { (before : Option Link) → Floor before floor → paper_on Register result ≡ keyed (read_link s.now end items before at) }
     ensures passed { Passed at end result }
 {
     if end - at < 5 {
-        return cut(end - at, at);
+        return Err(cut(end - at, at));
     }
     let from = fields::two(s, at);
     if items <= from {
-        return Linked::Refused {
-            number: 5,
-            place: at,
-        };
+        return Err(Rule::NoSuchEnd.at(at));
     }
     let role = fields::one(s, at + 2);
     if meaning::MOST_ROLE < role {
-        return Linked::Refused {
-            number: 7,
-            place: at + 2,
-        };
+        return Err(Rule::RoleAbove.at(at + 2));
     }
     let to = fields::two(s, at + 3);
     if items <= to {
-        return Linked::Refused {
-            number: 5,
-            place: at + 3,
-        };
+        return Err(Rule::NoSuchEnd.at(at + 3));
     }
     let number = (from * 256 + role) * 65536 + to;
     if number < floor {
-        return Linked::Refused {
-            number: 6,
-            place: at,
-        };
+        return Err(Rule::Order.at(at));
     }
-    Linked::Good { floor: number + 1 }
+    Ok(number + 1)
 }
 
-// A link of which only `room` bytes stand before the end: number 1 at the first field that does not fit whole.
-fn cut(room: usize, at: usize) -> Linked
+// A link of which only `room` bytes stand before the end is cut short at its first field that does not fit whole.
+fn cut(room: usize, at: usize) -> Fault
     requires { (room < 5) × (at + room < 18446744073709551616) }
     ensures { result ≡ cut_at room at }
 {
     if room < 2 {
-        return Linked::Refused {
-            number: 1,
-            place: at,
-        };
+        return Rule::CutShort.at(at);
     }
     if room < 3 {
-        return Linked::Refused {
-            number: 1,
-            place: at + 2,
-        };
+        return Rule::CutShort.at(at + 2);
     }
-    Linked::Refused {
-        number: 1,
-        place: at + 3,
-    }
+    Rule::CutShort.at(at + 3)
 }
 
 // The number of the first four bytes of a link.

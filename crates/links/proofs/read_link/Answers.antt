@@ -6,7 +6,7 @@ use native.Mathlib.Omega.{arith}
 use Rattle.meaning.specs.Bytes.{number}
 use Rattle.meaning.specs.Refusal.{good}
 use Rattle.meaning.specs.Register.{link_at}
-use Rattle.links.specs.Links.{key, paper_link}
+use Rattle.links.specs.Links.{key}
 use Rattle.links.proofs.OneLink.{link-cut, link-from, link-role, link-to, link-order, link-good}
 use Rattle.links.proofs.read_link.Goals as goal
 
@@ -14,15 +14,15 @@ pub returns-then-end-at-lt5 : goal.returns-then-end-at-lt5
 returns-then-end-at-lt5 c =
     let h : c.args.at ≤ c.args.end = omega arith in
     let l : c.args.end - c.args.at < 5 = omega arith in record {
-      result_value = λ before f. ap paper_link c.cut.ensures ∙ sym (link-cut c.args.s.now c.args.end c.args.items before c.args.at h l);
-      passed = rw c.cut.ensures tt;
+      result_value = λ before f. rw c.cut.ensures (sym (link-cut c.args.s.now c.args.end c.args.items before c.args.at h l));
+      passed = tt;
     }
 
 pub returns-then-items-from : goal.returns-then-items-from
 returns-then-items-from c =
     let h : c.args.at + 5 ≤ c.args.end = omega arith in
     let l : c.args.items ≤ number c.args.s.now c.args.at 2 = omega (arith, c.two-from.ensures.value) in record {
-      result_value = λ before f. sym (link-from c.args.s.now c.args.end c.args.items before c.args.at h l);
+      result_value = λ before f. rw c.at.ensures (sym (link-from c.args.s.now c.args.end c.args.items before c.args.at h l));
       passed = tt;
     }
 
@@ -31,7 +31,7 @@ returns-then-role-gt-MOST_ROLE c =
     let h : c.args.at + 5 ≤ c.args.end = omega arith in
     let a : number c.args.s.now c.args.at 2 < c.args.items = omega (arith, c.two-from.ensures.value) in
     let l : 31 < number c.args.s.now (c.args.at + 2) 1 = omega (arith, c.one-role.ensures.value) in record {
-      result_value = λ before f. sym (link-role c.args.s.now c.args.end c.args.items before c.args.at h a l);
+      result_value = λ before f. rw c.at-then-role-gt-MOST_ROLE.ensures (sym (link-role c.args.s.now c.args.end c.args.items before c.args.at h a l));
       passed = tt;
     }
 
@@ -41,7 +41,7 @@ returns-then-items-to c =
     let a : number c.args.s.now c.args.at 2 < c.args.items = omega (arith, c.two-from.ensures.value) in
     let b : number c.args.s.now (c.args.at + 2) 1 ≤ 31 = omega (arith, c.one-role.ensures.value) in
     let l : c.args.items ≤ number c.args.s.now (c.args.at + 3) 2 = omega (arith, c.two-to.ensures.value) in record {
-      result_value = λ before f. sym (link-to c.args.s.now c.args.end c.args.items before c.args.at h a b l);
+      result_value = λ before f. rw c.at-then-items-to.ensures (sym (link-to c.args.s.now c.args.end c.args.items before c.args.at h a b l));
       passed = tt;
     }
 
@@ -53,7 +53,7 @@ returns-then-number-floor c =
     let d : number c.args.s.now (c.args.at + 3) 2 < c.args.items = omega (arith, c.two-to.ensures.value) in
     let m : c.args.items ≤ 512 = omega arith in
     let l : key (link_at c.args.s.now c.args.at) < c.args.floor = omega (arith, c.two-from.ensures.value, c.one-role.ensures.value, c.two-to.ensures.value) in record {
-      result_value = λ before f. sym (link-order c.args.s.now c.args.end c.args.items before c.args.at h a b d m c.args.floor f l);
+      result_value = λ before f. rw c.at-then-number-floor.ensures (sym (link-order c.args.s.now c.args.end c.args.items before c.args.at h a b d m c.args.floor f l));
       passed = tt;
     }
 
