@@ -1,2 +1,4 @@
 pub mod At
 pub mod Made
+pub mod Rising
+pub mod Going

@@ -3,10 +3,14 @@
 // of the k-th threshold the written node that it is of, and the place of its first byte, at 128 + k. Two numbers in one are the lower byte and the rest.
 #![tactic(auto)]
 
-ghost use Rattle.std.specs.Prelude.{◌≡◌, ◌+◌, ◌*◌, ◌/◌, ◌%◌, ◌≤◌, ◌<◌, length};
+ghost use Rattle.std.specs.Prelude.{◌≡◌, ◌+◌, ◌*◌, ◌/◌, ◌%◌, ◌≤◌, ◌<◌, length, slice_index};
 ghost use Rattle.rows.specs.Packed.{names_in, roles_in, ends_in, owners_in, firsts_in};
 
 use std::array;
+
+mod siblings;
+
+pub use siblings::Siblings;
 
 // A concept tree, node after node in reading order: the names of each written node, the role of the edge to it, and the index just past its subtree.
 #[derive(Drop)]
@@ -77,6 +81,31 @@ impl Tree {
             roles: array::from_fn(|n| low(rows[EDGES + n])),
             ends: array::from_fn(|n| high(rows[EDGES + n])),
         }
+    }
+
+    // The trees that stand from row `from` up to row `end`.
+    #[inline]
+    pub fn between(&self, from: usize, end: usize) -> Siblings<'_>
+        ensures ends { result.ends.now ≡ self.now.ends }
+        ensures from { result.at ≡ from }
+        ensures end { result.end ≡ end }
+    {
+        Siblings {
+            ends: &self.ends,
+            at: from,
+            end,
+        }
+    }
+
+    // The children of the node.
+    #[inline]
+    pub fn children(&self, node: usize) -> Siblings<'_>
+        requires { node < 64 }
+        ensures ends { result.ends.now ≡ self.now.ends }
+        ensures from { result.at ≡ node + 1 }
+        ensures end { result.end ≡ slice_index self.now.ends node }
+    {
+        self.between(node + 1, usize::from(self.ends[node]))
     }
 }
 
