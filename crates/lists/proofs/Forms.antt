@@ -3,12 +3,12 @@
 use mathlib.Core.Path.{◌≡◌, refl, sym, ap, ap₂, ◌∙◌}
 use mathlib.Core.Bool.{Bool, true, false, ◌&&◌}
 use mathlib.Core.List.{List, ◌∷◌}
-use Prim.Native.Nat.{ℕ, suc, ◌+◌, ◌*◌, ◌-◌, ◌/◌, ◌%◌, ◌≤◌, ◌<◌}
+use Prim.Native.Nat.{ℕ, suc, ◌+◌, ◌*◌, ◌-◌, ◌/◌, ◌≤◌, ◌<◌}
 use native.Mathlib.Omega.{arith}
 use lib.Dec.{T, eqb, eqb→eq}
 use lib.ListN.{length, get_or}
-use Rattle.meaning.specs.Lists.{go_on, form_tree, stand_at, form}
-use Rattle.meaning.specs.Writing.{nodes_from, nodes_in, inners_at, limit_at, limits_from, lists_in, shared_out, whole}
+use Rattle.meaning.specs.Lists.{go_on, form_tree, stand_at}
+use Rattle.meaning.specs.Writing.{nodes_from, nodes_in, inners_at, limit_at, limits_from, shared_out}
 use Rattle.meaning.proofs.Tests.{bool_eq, is-eqb}
 use Rattle.meaning.proofs.Reading.{not-below, below, at_most, not-le}
 use Rattle.meaning.proofs.Lists.{same, other}
@@ -59,10 +59,6 @@ and-off false b e = refl
 
 off-and : (a b : Bool) → a ≡ false → (a && b) ≡ false
 off-and a b e = rw e refl
-
--- the j-th part of the thresholds at its place
-pub owner_at : (hs : List ℕ) (j : ℕ) → get_or hs (5 * j + 0) 0 ≡ get_or hs (5 * j) 0
-owner_at hs j = let e : 5 * j + 0 ≡ 5 * j = omega arith in ap (λ (z : ℕ). get_or hs z 0) e
 
 -- an inner list up to its end
 pub inner-to : (inner : List ℕ) (first count : ℕ) → nodes_to inner first (first + count) ≡ nodes_from inner first count
@@ -143,13 +139,10 @@ stood-none hs inner n =
 
 -- what the tests of the j-th say: its node is `owner`, and it has `count` inner nodes
 module _ {hs inner : List ℕ} {n before used j : ℕ} (w : Stood hs inner n before used j) where
-  pub stood-all : length hs / 5 ≤ j → eqb used (length inner / 3) ≡ StandingAll hs inner n
-  stood-all l = standing-none hs inner n (length hs / 5) (length inner / 3) before used j l w.few ∙ sym w.rest
+  pub stood-all : {all : ℕ} → length hs / 5 ≤ j → all ≡ length inner / 3 → eqb used all ≡ StandingAll hs inner n
+  stood-all l e = ap (eqb used) e ∙ standing-none hs inner n (length hs / 5) (length inner / 3) before used j l w.few ∙ sym w.rest
 
-  module _ {owner : ℕ} (l : j < length hs / 5) (o : owner ≡ get_or hs (5 * j + 0) 0) where
-    its : owner ≡ get_or hs (5 * j) 0
-    its = o ∙ owner_at hs j
-
+  module _ {owner : ℕ} (l : j < length hs / 5) (its : owner ≡ get_or hs (5 * j) 0) where
     pub stood-outside : n ≤ owner → false ≡ StandingAll hs inner n
     stood-outside h = standing-outside hs inner n (length hs / 5) (length inner / 3) before used j l (omega (arith, its, h)) ∙ sym w.rest
 
@@ -183,33 +176,8 @@ module _ {hs inner : List ℕ} {n before used j : ℕ} (w : Stood hs inner n bef
 
 -- ---- the whole
 
-module _ (nodes hs inner : List ℕ) where
-  abbrev Handed : Bool
-  Handed = whole nodes hs inner && form (lists_in nodes hs inner)
+pub nodes_whole : (nodes : List ℕ) → nodes_to nodes 0 (length nodes / 3) ≡ nodes_in nodes
+nodes_whole nodes = let z : length nodes / 3 - 0 ≡ length nodes / 3 = omega arith in ap (nodes_from nodes 0) z
 
-  pub nodes-broken : (length nodes % 3 ≡ 0 → ⊥) → false ≡ Handed
-  unfolding whole
-  nodes-broken n = rw (other (length nodes % 3) 0 n) refl
-
-  pub limits-broken : length nodes % 3 ≡ 0 → (length hs % 5 ≡ 0 → ⊥) → false ≡ Handed
-  unfolding whole
-  limits-broken e n = rw (same (length nodes % 3) 0 e, other (length hs % 5) 0 n) refl
-
-  pub inner-broken : length nodes % 3 ≡ 0 → length hs % 5 ≡ 0 → (length inner % 3 ≡ 0 → ⊥) → false ≡ Handed
-  unfolding whole
-  inner-broken e d n = rw (same (length nodes % 3) 0 e, same (length hs % 5) 0 d, other (length inner % 3) 0 n) refl
-
-  pub nodes-unformed : form_tree (nodes_to nodes 0 (length nodes / 3)) ≡ false → false ≡ Handed
-  unfolding form
-  nodes-unformed w =
-      let z : length nodes / 3 ≡ length nodes / 3 - 0 = omega arith in
-      let e : form_tree (nodes_in nodes) ≡ false = ap (λ (n : ℕ). form_tree (nodes_from nodes 0 n)) z ∙ w in
-      sym (and-off (whole nodes hs inner) _ (rw e refl))
-
-  pub handed-whole : {t : Bool} → length nodes % 3 ≡ 0 → length hs % 5 ≡ 0 → length inner % 3 ≡ 0 → form_tree (nodes_to nodes 0 (length nodes / 3)) ≡ true
-      → t ≡ StandingAll hs inner (length nodes / 3) → t ≡ Handed
-  unfolding whole form
-  handed-whole e d g w s =
-      let z : length nodes / 3 ≡ length nodes / 3 - 0 = omega arith in
-      let f : form_tree (nodes_in nodes) ≡ true = ap (λ (n : ℕ). form_tree (nodes_from nodes 0 n)) z ∙ w in
-      rw (same (length nodes % 3) 0 e, same (length hs % 5) 0 d, same (length inner % 3) 0 g, f, nodes-many nodes 0 (length nodes / 3)) s
+pub nodes_count : (nodes : List ℕ) → length (nodes_in nodes) ≡ length nodes / 3
+nodes_count nodes = nodes-many nodes 0 (length nodes / 3)

@@ -3,120 +3,244 @@
 // thresholds stand one after the other.
 #![tactic(auto)]
 
-ghost use Rattle.std.specs.Prelude.{◌≡◌, ◌&&◌, ◌+◌, ◌*◌, ◌/◌, ◌≤◌, ◌<◌, length, get_or};
+ghost use Rattle.std.specs.Prelude.{◌≡◌, ◌&&◌, ◌+◌, ◌*◌, ◌/◌, ◌%◌, ◌^◌, ◌≤◌, ◌<◌, ◌==◌, List, ℕ, length, get_or};
 ghost use Rattle.meaning.specs.Lists.{form_tree, stand_at, form};
-ghost use Rattle.meaning.specs.Writing.{lists_in, limits_from, shared_out, whole};
+ghost use Rattle.meaning.specs.Writing.{inners_at, lists_in, limits_from, shared_out, whole};
 ghost use Rattle.lists.specs.Handed.{nodes_to, Stand};
+
+use std::marker::Model;
 
 // ---- the numbers of a list
 
-// The names, the depth and the role of the k-th node.
-pub fn names(list: &[u64], k: usize) -> u64
-    requires { 3 * k + 3 ≤ length list.now }
-    ensures { result ≡ get_or list.now (3 * k) 0 }
-{
-    list[3 * k]
+// Nodes, one after the other. In a clause they are their numbers.
+pub struct Nodes<'a> {
+    numbers: &'a [u64],
 }
 
-pub fn depth(list: &[u64], k: usize) -> usize
-    requires { 3 * k + 3 ≤ length list.now }
-    ensures { result ≡ get_or list.now (3 * k + 1) 0 }
-{
-    list[3 * k + 1] as usize
+impl<'a> Model for Nodes<'a> {
+    ghost Value = { List ℕ };
+
+    ghost view = { λ s. s.numbers.now };
+
+    // They stand in memory.
+    ghost invariant = { λ s. 8 * length s.numbers.now < 2 ^ 64 };
 }
 
-pub fn role(list: &[u64], k: usize) -> usize
-    requires { 3 * k + 3 ≤ length list.now }
-    ensures { result ≡ get_or list.now (3 * k + 2) 0 }
-{
-    list[3 * k + 2] as usize
+impl<'a> Nodes<'a> {
+    pub fn new(numbers: &'a [u64]) -> Nodes<'a>
+        ensures { result ≡ numbers.now }
+    {
+        Nodes { numbers }
+    }
+
+    pub fn count(&self) -> usize
+        ensures { result ≡ length self.now / 3 }
+    {
+        self.numbers.len() / 3
+    }
+
+    // No number is left over behind the last.
+    fn is_whole(&self) -> bool
+        ensures { result ≡ (length self.now % 3 == 0) }
+    {
+        self.numbers.len() % 3 == 0
+    }
+
+    // The names, the depth and the role of the k-th node.
+    pub fn names(&self, k: usize) -> u64
+        requires { 3 * k + 3 ≤ length self.now }
+        ensures { result ≡ get_or self.now (3 * k) 0 }
+    {
+        let numbers = self.numbers;
+        numbers[3 * k]
+    }
+
+    pub fn depth(&self, k: usize) -> usize
+        requires { 3 * k + 3 ≤ length self.now }
+        ensures { result ≡ get_or self.now (3 * k + 1) 0 }
+    {
+        let numbers = self.numbers;
+        numbers[3 * k + 1] as usize
+    }
+
+    pub fn role(&self, k: usize) -> usize
+        requires { 3 * k + 3 ≤ length self.now }
+        ensures { result ≡ get_or self.now (3 * k + 2) 0 }
+    {
+        let numbers = self.numbers;
+        numbers[3 * k + 2] as usize
+    }
+
+    // The nodes from `first` up to `end` form a tree: the first stands at depth 0, each later one from 1 to one above the one before.
+    fn form_tree(&self, first: usize, end: usize) -> bool
+        requires { Stand self.now first end }
+        ensures { result ≡ form_tree (nodes_to self.now first end) }
+    {
+        if end <= first {
+            return false;
+        }
+        if self.depth(first) != 0 {
+            return false;
+        }
+        let mut before = 0;
+        for k in first + 1..end {
+            let d = self.depth(k);
+            if d < 1 {
+                return false;
+            }
+            if before < d - 1 {
+                return false;
+            }
+            before = d;
+        }
+        true
+    }
 }
 
-// Of the j-th threshold: 0 its node, 1 its comparison, 2 p, 3 q, 4 how many inner nodes it has.
-pub fn part(limits: &[u64], j: usize, which: usize) -> usize
-    requires { (5 * j + 5 ≤ length limits.now) × (which < 5) }
-    ensures { result ≡ get_or limits.now (5 * j + which) 0 }
-{
-    limits[5 * j + which] as usize
+// Thresholds, one after the other. In a clause they are their numbers.
+pub struct Limits<'a> {
+    numbers: &'a [u64],
+}
+
+impl<'a> Model for Limits<'a> {
+    ghost Value = { List ℕ };
+
+    ghost view = { λ s. s.numbers.now };
+
+    // They stand in memory.
+    ghost invariant = { λ s. 8 * length s.numbers.now < 2 ^ 64 };
+}
+
+impl<'a> Limits<'a> {
+    pub fn new(numbers: &'a [u64]) -> Limits<'a>
+        ensures { result ≡ numbers.now }
+    {
+        Limits { numbers }
+    }
+
+    pub fn count(&self) -> usize
+        ensures { result ≡ length self.now / 5 }
+    {
+        self.numbers.len() / 5
+    }
+
+    // No number is left over behind the last.
+    fn is_whole(&self) -> bool
+        ensures { result ≡ (length self.now % 5 == 0) }
+    {
+        self.numbers.len() % 5 == 0
+    }
+
+    // Of the j-th threshold: its node, its comparison, p, q, and how many inner nodes it has.
+    pub fn owner(&self, j: usize) -> usize
+        requires { 5 * j + 5 ≤ length self.now }
+        ensures { result ≡ get_or self.now (5 * j) 0 }
+    {
+        let numbers = self.numbers;
+        numbers[5 * j] as usize
+    }
+
+    pub fn how(&self, j: usize) -> usize
+        requires { 5 * j + 5 ≤ length self.now }
+        ensures { result ≡ get_or self.now (5 * j + 1) 0 }
+    {
+        let numbers = self.numbers;
+        numbers[5 * j + 1] as usize
+    }
+
+    pub fn p(&self, j: usize) -> usize
+        requires { 5 * j + 5 ≤ length self.now }
+        ensures { result ≡ get_or self.now (5 * j + 2) 0 }
+    {
+        let numbers = self.numbers;
+        numbers[5 * j + 2] as usize
+    }
+
+    pub fn q(&self, j: usize) -> usize
+        requires { 5 * j + 5 ≤ length self.now }
+        ensures { result ≡ get_or self.now (5 * j + 3) 0 }
+    {
+        let numbers = self.numbers;
+        numbers[5 * j + 3] as usize
+    }
+
+    pub fn inners(&self, j: usize) -> usize
+        requires { 5 * j + 5 ≤ length self.now }
+        ensures { result ≡ inners_at self.now j }
+    {
+        let numbers = self.numbers;
+        numbers[5 * j + 4] as usize
+    }
 }
 
 // ---- number 22
 
-// The nodes from `first` up to `end` form a tree: the first stands at depth 0, each later one from 1 to one above the one before.
-fn forms_tree(list: &[u64], first: usize, end: usize) -> bool
-    requires { Stand list.now first end }
-    ensures { result ≡ form_tree (nodes_to list.now first end) }
-{
-    if end <= first {
-        return false;
-    }
-    if depth(list, first) != 0 {
-        return false;
-    }
-    let mut before = 0;
-    let mut k = first + 1;
-    while k < end {
-        let d = depth(list, k);
-        if d < 1 {
-            return false;
-        }
-        if before < d - 1 {
-            return false;
-        }
-        before = d;
-        k += 1;
-    }
-    true
+// All that is handed over: nodes, thresholds, and the inner nodes of all thresholds.
+pub struct Handed<'a> {
+    pub nodes: Nodes<'a>,
+    pub limits: Limits<'a>,
+    pub inner: Nodes<'a>,
 }
 
-// Each threshold's node is one of n nodes and not below the one before, its inner nodes form a tree, and no inner nodes are left.
-fn stand(n: usize, limits: &[u64], inner: &[u64]) -> bool
-    ensures { result ≡ (shared_out limits.now 0 (length limits.now / 5) (length inner.now / 3)
-        && stand_at n 0 (limits_from limits.now inner.now 0 0 (length limits.now / 5))) }
-{
-    let many = limits.len() / 5;
-    let all = inner.len() / 3;
-    let mut before = 0;
-    let mut used = 0;
-    let mut j = 0;
-    while j < many {
-        let owner = part(limits, j, 0);
-        if n <= owner {
-            return false;
+impl<'a> Handed<'a> {
+    pub fn new(nodes: &'a [u64], limits: &'a [u64], inner: &'a [u64]) -> Handed<'a>
+        ensures { result ≡ record { nodes = nodes.now; limits = limits.now; inner = inner.now } }
+    {
+        Handed {
+            nodes: Nodes::new(nodes),
+            limits: Limits::new(limits),
+            inner: Nodes::new(inner),
         }
-        if owner < before {
-            return false;
-        }
-        let count = part(limits, j, 4);
-        if all - used < count {
-            return false;
-        }
-        if !forms_tree(inner, used, used + count) {
-            return false;
-        }
-        before = owner;
-        used += count;
-        j += 1;
     }
-    used == all
-}
 
-// The numbers go into whole nodes and thresholds, and these form a requirement.
-pub fn handed(nodes: &[u64], limits: &[u64], inner: &[u64]) -> bool
-    ensures { result ≡ (whole nodes.now limits.now inner.now
-        && form (lists_in nodes.now limits.now inner.now)) }
-{
-    if nodes.len() % 3 != 0 {
-        return false;
+    // Each threshold's node is one of the nodes and not below the one before, its inner nodes form a tree, and no inner nodes are left.
+    fn stand(&self) -> bool
+        ensures { result ≡ (shared_out self.now.limits 0 (length self.now.limits / 5) (length self.now.inner / 3)
+            && stand_at (length self.now.nodes / 3) 0 (limits_from self.now.limits self.now.inner 0 0 (length self.now.limits / 5))) }
+    {
+        let n = self.nodes.count();
+        let all = self.inner.count();
+        let mut before = 0;
+        let mut used = 0;
+        for j in 0..self.limits.count() {
+            let owner = self.limits.owner(j);
+            if n <= owner {
+                return false;
+            }
+            if owner < before {
+                return false;
+            }
+            let count = self.limits.inners(j);
+            if all - used < count {
+                return false;
+            }
+            if !self.inner.form_tree(used, used + count) {
+                return false;
+            }
+            before = owner;
+            used += count;
+        }
+        used == all
     }
-    if limits.len() % 5 != 0 {
-        return false;
+
+    // The numbers go into whole nodes and thresholds, and these form a requirement.
+    #[tactic(auto, using(crate::proofs::Forms::nodes_whole, crate::proofs::Forms::nodes_count), unfolding(meaning::specs::Writing::whole, meaning::specs::Lists::form))]
+    pub fn form(&self) -> bool
+        ensures { result ≡ (whole self.now.nodes self.now.limits self.now.inner
+            && form (lists_in self.now.nodes self.now.limits self.now.inner)) }
+    {
+        if !self.nodes.is_whole() {
+            return false;
+        }
+        if !self.limits.is_whole() {
+            return false;
+        }
+        if !self.inner.is_whole() {
+            return false;
+        }
+        if !self.nodes.form_tree(0, self.nodes.count()) {
+            return false;
+        }
+        self.stand()
     }
-    if inner.len() % 3 != 0 {
-        return false;
-    }
-    if !forms_tree(nodes, 0, nodes.len() / 3) {
-        return false;
-    }
-    stand(nodes.len() / 3, limits, inner)
 }
