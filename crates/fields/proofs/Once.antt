@@ -1,6 +1,10 @@
 -- One law for every promise that is an equation: where what is handed back, in the document's words, and what is left are given, there is one result.
 -- Assumes nothing.
-use mathlib.Core.Path.{◌≡◌, sym, ap, ◌∙◌}
+use mathlib.Core.Path.{◌≡◌, refl, sym, ap, ◌∙◌}
+use Rattle.std.specs.Prelude.{Result, Ok, Err}
+use Rattle.meaning.specs.declared.Refusal.{Refusal}
+use Rattle.meaning.specs.Refusal.{Answer, good, refused}
+use Rattle.meaning.specs.Rules.{paper}
 
 -- the words tell all results apart
 abbrev pub Apart : {R A : Type 0} → (R → A) → Type 0
@@ -22,3 +26,15 @@ module _ {R A : Type 0} (words : R → A) where
     -- and what is left
     pub once-left : {B : Type 0} (a : A) (b : B) (r q : R) (t u : B) → (words r ≡ a) × (t ≡ b) → (words q ≡ a) × (u ≡ b) → (r ≡ q) × (t ≡ u)
     once-left a b r q t u h k = (once a r q h.0 k.0, h.1 ∙ sym k.1)
+
+-- the document's words for a result tell all results apart
+pub paper_told : {A : Type 0} → Apart (paper {A = A})
+paper_told {A} = told_back paper back go
+  where
+    back : Answer A → Result A Refusal
+    back (good x) = Ok x
+    back (refused r) = Err r
+
+    go : (r : Result A Refusal) → back (paper r) ≡ r
+    go (Ok x) = refl
+    go (Err r) = refl

@@ -18,7 +18,8 @@ use Rattle.meaning.specs.Bounds.{most_items, most_links}
 use Rattle.meaning.proofs.Tests.{neither}
 use Rattle.meaning.proofs.Reading.{pass, stop, stopped, halted, took, below, not-below, fitted}
 use Rattle.register.specs.Layout.{count_at, link_place, cut_names}
-use Rattle.register.specs.Reading.{Counts, counted, links_answer}
+use Rattle.register.specs.declared.Size.{Size}
+use Rattle.register.specs.Reading.{counted, links_answer}
 
 -- one field that does not fit
 cut_field : (end w : ℕ) (p : ℕ) → end < p + w → fields register end (w ∷ []) p ≡ refused (at register 1 p)
@@ -56,7 +57,7 @@ count-links as' n e (good ls) true r = refl
 count-links as' n e (good ls) false r = ap (λ (z : ℕ). good (record { items = z; links = length ls })) e
 
 module _ (s : List ℕ) (end : ℕ) where
-  abbrev answer : Answer Counts
+  abbrev answer : Answer Size
   answer = counted (read_body s end)
 
   counted-refused : (r : Refusal) → read_body s end ≡ refused r → answer ≡ refused r

@@ -7,11 +7,14 @@ use native.Mathlib.Omega.{arith}
 use lib.ListN.{length, get_or}
 use Rattle.meaning.specs.Bounds.{most_items, most_links}
 use Rattle.meaning.specs.Bytes.{number, Bytes}
-use Rattle.meaning.specs.Register.{Link, link_at}
+use Rattle.meaning.specs.Refusal.{good}
+use Rattle.meaning.specs.Register.{Link, link_at, read_buffer}
 use Rattle.meaning.proofs.Image.{image-fits, image-names, image-link, link-right}
 use Rattle.meaning.proofs.SessionLinks.{Sound}
 use Rattle.register.specs.Layout.{names_at, link_place}
 use Rattle.register.specs.Image.{Asked, Image, no_link, link_no}
+use Rattle.register.specs.Held.{IsRead, held}
+use Rattle.register.proofs.Holding.{good-is}
 use Rattle.register.proofs.Begins.{asked-image}
 
 module _ (s : List ℕ) (b : Bytes s) where
@@ -23,19 +26,22 @@ module _ (s : List ℕ) (b : Bytes s) where
   pub names-value : (item r : ℕ) → Asked s (λ g. item < length g.names) → r ≡ number s (names_at item) 8 → Image s (λ g. r ≡ get_or g.names item 0)
   names-value item r a e g h = e ∙ image-names s g b h item (asked-image a g h)
 
-  module _ (items k : ℕ) (a : Asked s (λ g. (items ≡ length g.names) × (k < length g.links))) where
+  module _ (items links k : ℕ) (w : IsRead s items links) (l : k < links) where
+    held-read : read_buffer s ≡ good (held s)
+    held-read = good-is s w.0
+
     pub link-place : (items ≤ most_items) × (k ≤ most_links) × (link_place items k + 5 ≤ length s)
     link-place =
-        let q = image-fits s a.register b a.read in
-        (omega (arith, q.0.items, a.holds.0), omega (arith, q.0.few, a.holds.1), omega (arith, q.1, a.holds.0, a.holds.1))
+        let q = image-fits s (held s) b held-read in
+        (omega (arith, q.0.items, w.1), omega (arith, q.0.few, w.2), omega (arith, q.1, w.1, w.2))
 
     -- One part of the k-th link, read at its place: it is that part, and what holds of the part of each link that may stand there holds of it.
     pub link-part : (part : Link → ℕ) (P : ℕ → ℕ → Type 0) → ((n : ℕ) (l : Link) → Sound n l → P n (part l)) → (r : ℕ)
-        → r ≡ part (link_at s (link_place items k)) → Image s (λ g. (r ≡ part (link_no g k)) × P (length g.names) r)
-    link-part part P right r e g h =
-        let held = asked-image a g h in
-        let q = link-right s g b h k no_link held.1 in
-        let there : link_at s (link_place items k) ≡ link_no g k =
-        ap (λ (z : ℕ). link_at s (link_place z k)) held.0 ∙ image-link s g b h k no_link held.1 in
+        → r ≡ part (link_at s (link_place items k)) → (r ≡ part (link_no (held s) k)) × P items r
+    link-part part P right r e =
+        let many : k < length (held s).links = omega (arith, w.2) in
+        let q = link-right s (held s) b held-read k no_link many in
+        let there : link_at s (link_place items k) ≡ link_no (held s) k =
+        ap (λ (z : ℕ). link_at s (link_place z k)) w.1 ∙ image-link s (held s) b held-read k no_link many in
         let same = e ∙ ap part there in
-        (same, subst (P (length g.names)) (sym same) (right (length g.names) (link_no g k) (q.0, q.1, q.2)))
+        (same, subst (P items) (sym same) (subst (λ (z : ℕ). P z (part (link_no (held s) k))) (sym w.1) (right (length (held s).names) (link_no (held s) k) (q.0, q.1, q.2))))

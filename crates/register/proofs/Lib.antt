@@ -5,3 +5,4 @@ pub mod Facts
 pub mod Begins
 pub mod Targets
 pub mod Promise
+pub mod Holding

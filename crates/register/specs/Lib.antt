@@ -1,3 +1,4 @@
 pub mod Layout
 pub mod Reading
 pub mod Image
+pub mod Held

@@ -1,44 +1,41 @@
 -- `register::slow_links` meets its contract: link after link, and nothing behind them.
 -- Assumes nothing.
-use mathlib.Core.Path.{sym, ◌∙◌, ap}
+use mathlib.Core.Path.{◌≡◌, refl, sym, subst}
+use Prim.Native.Nat.{ℕ, ◌+◌, ◌*◌}
 use native.Mathlib.Omega.{arith}
-use Rattle.links.proofs.Links.{going-none, going_more, going-stop, all_read}
-use Rattle.register.specs.Reading.{paper_reading}
+use Rattle.std.proofs.lemmas.Result.{err_from_is_err_and}
+use Rattle.links.proofs.Links.{Going, going-none, going_more, going-stop, all_read}
 use Rattle.register.proofs.Behind.{links-stop, links-left, links-done}
 use Rattle.register.proofs.slow_links.Goals as goal
 
 pub loop-i-init : goal.loop-i-init
 loop-i-init c =
-    (omega arith, omega arith, omega arith, going-none _ _ _ _ _)
+    let a = c.args in
+    let e : a.start ≡ a.start + 5 * 0 = omega arith in
+    (omega arith, subst (λ (z : ℕ). Going a.s.now a.end a.items a.links a.start 0 z 0) e (going-none _ _ _ _ _))
 
-pub returns-in-Refused : goal.returns-in-Refused
-returns-in-Refused c =
-    let w = c.loop-i.invariant.3 in
-    ap paper_reading c.refused.ensures
-    ∙ sym (links-stop _ _ _ _ _ _ (going-stop _ _ _ _ _ _ _ _ w _ _ (omega arith)
-    (c.in-Refused.ensures.result_value w.before w.floor)))
-
-pub overflow_add-at : goal.overflow_add-at
-overflow_add-at c =
-    let fit = c.in-Good.ensures.passed in
-    omega arith
+pub returns-in_err-floor : goal.returns-in_err-floor
+returns-in_err-floor c =
+    let w = c.loop-i.invariant.1 in
+    let p = err_from_is_err_and c.from_residual.result c.from_residual.ensures.1 in
+    rw (p.1, p.2) (sym (links-stop _ _ _ _ _ _ (going-stop _ _ _ _ _ _ _ _ w _ _ (omega arith)
+    (c.in_err-floor.ensures.result_value w.before w.floor))))
 
 pub loop-i-preserved : goal.loop-i-preserved
 loop-i-preserved c =
-    let fit = c.in-Good.ensures.passed in
-    let w = c.loop-i.invariant.3 in (
-      omega arith,
-      omega arith,
-      fit,
-      going_more _ _ _ _ _ _ _ _ w _ (omega arith) (omega arith) (c.in-Good.ensures.result_value w.before w.floor),
-    )
+    let a = c.args in
+    let w = c.loop-i.invariant.1 in
+    let fit = c.in_ok-floor.ensures.passed in
+    let e : a.start + 5 * c.loop-i.i + 5 ≡ a.start + 5 * (c.loop-i.i + 1) = omega arith in
+    let next = going_more _ _ _ _ _ _ _ _ w c.in_ok-floor.floor (omega arith) (omega arith) (c.in_ok-floor.ensures.result_value w.before w.floor) in
+    (omega arith, subst (λ (z : ℕ). Going a.s.now a.end a.items a.links a.start (c.loop-i.i + 1) z c.in_ok-floor.floor) e next)
 
-pub returns-then-at-end : goal.returns-then-at-end
-returns-then-at-end c =
-    let w = c.loop-i.invariant in
-    ap paper_reading c.refused-then-at-end.ensures ∙ sym (links-left _ _ _ _ _ (all_read _ _ _ _ _ _ _ _ w.3 (omega arith)) _ (omega arith) (omega arith))
+pub returns-then-behind-end : goal.returns-then-behind-end
+returns-then-behind-end c =
+    let all = all_read _ _ _ _ _ _ _ _ c.loop-i.invariant.1 (omega arith) in
+    rw c.at.ensures (sym (links-left _ _ _ _ _ all _ refl (omega arith)))
 
 pub returns : goal.returns
 returns c =
-    let w = c.loop-i in
-    sym (links-done _ _ _ _ _ (all_read _ _ _ _ _ _ _ _ w.invariant.3 (omega arith)) w.at (omega arith) (omega arith))
+    let all = all_read _ _ _ _ _ _ _ _ c.loop-i.invariant.1 (omega arith) in
+    sym (links-done _ _ _ _ _ all _ refl (omega arith))

@@ -1,0 +1,14 @@
+-- `register::Reading::role_of` meets its contract.
+-- Assumes nothing.
+use mathlib.Core.Path.{ap, ◌∙◌}
+use Prim.Native.Nat.{ℕ, ◌+◌, ◌≤◌}
+use Rattle.meaning.specs.Bytes.{number}
+use Rattle.register.proofs.Facts.{link-part}
+use Rattle.register.proofs.Reading.role_of.Goals as goal
+
+pub returns : goal.returns
+returns c =
+    let r = c.args.self.now in
+    link-part r.bytes.now r.read.3 r.items r.links c.args.k r.read c.requires
+    (λ l. l.role) (λ n x. x ≤ 31) (λ n l o. o.1) _
+    (c.one.ensures.value ∙ ap (λ (z : ℕ). number r.bytes.now (z + 2) 1) c.place_of.ensures.place)
