@@ -16,6 +16,8 @@ use Rattle.meaning.specs.Tree.{Concept, children}
 use Rattle.meaning.specs.Rows.{HoldsF}
 use Rattle.meaning.proofs.Tests.{true-false}
 use Rattle.meaning.proofs.Rows.{opened}
+use Rattle.rows.specs.Rising.{Rising}
+use Rattle.rows.proofs.Rising.{rising}
 use Rattle.heaviest.specs.Heavy.{Stands, Written, Heavy}
 use Rattle.heaviest.proofs.Stands.{Place, stands-place, stands-apart, stands-first, stands-next, below}
 
@@ -29,8 +31,12 @@ module _ {ends : List ℕ} {node : ℕ} (k : Written ends node) (marks : List �
   rows : HoldsF k.names k.roles ends (children k.tree) (k.left - 1) (node + 1) e
   rows = below k.names k.roles ends k.tree k.left node e k.held
 
-  pub start-inside : (node < e) × (e ≤ 64)
-  start-inside = ((opened k.names k.roles ends k.tree k.left node e k.held).inside, k.few)
+  pub start-inside : node < 64
+  start-inside = let few = k.few in let l = (opened k.names k.roles ends k.tree k.left node e k.held).inside in omega arith
+
+  -- the children may be gone over
+  pub start-rises : Rising ends (node + 1) e
+  start-rises = rising k.names k.roles ends (children k.tree) (k.left - 1) (node + 1) e rows k.few
 
   -- the children before row c are looked at; o is the one of most rows so far, or none where all are dropped
   pub record Sought (o : Option ℕ) (most c : ℕ) : Type 0 where
@@ -55,7 +61,7 @@ module _ {ends : List ℕ} {node : ℕ} (k : Written ends node) (marks : List �
   }
 
   module _ {o : Option ℕ} {most c : ℕ} (w : Sought o most c) (l : c < e) where
-    pub sought-inside : (c < get_or ends c 0) × (get_or ends c 0 ≤ e)
+    sought-inside : (c < get_or ends c 0) × (get_or ends c 0 ≤ e)
     sought-inside = let q = w.at l in let p = place c q.0 q.1 in (p.inside, p.within)
 
     next : get_or ends c 0 < e → (u : Concept) × Child (get_or ends c 0) u
@@ -77,8 +83,8 @@ module _ {ends : List ℕ} {node : ℕ} (k : Written ends node) (marks : List �
             omega arith)
         which false t = let y = ltb-false c d t in omega (arith, q)
 
-    passed : (r : Bool) → r ≡ (eqb (get_or marks c 0) 0 || not (ltb most (get_or ends c 0 - c))) → r ≡ true → Sought o most (get_or ends c 0)
-    passed r er t = record {
+    pub sought-pass : (r : Bool) → r ≡ (eqb (get_or marks c 0) 0 || not (ltb most (get_or ends c 0 - c))) → r ≡ true → Sought o most (get_or ends c 0)
+    sought-pass r er t = record {
       at = next;
       empty = w.empty;
       none = λ z d u s m. go z d u s m (ℕ_discrete d c);
@@ -106,8 +112,8 @@ module _ {ends : List ℕ} {node : ℕ} (k : Written ends node) (marks : List �
             (small (get_or marks c 0) most (eqb (get_or marks c 0) 0) (ltb most (get_or ends c 0 - c)) refl refl (sym er ∙ t) (λ z. n (ap (λ (y : ℕ). get_or marks y 0) q ∙ z)))
         higher d u s m n (no q) = w.above d u s (earlier d u s m q) n
 
-    taken : (r : Bool) → r ≡ (eqb (get_or marks c 0) 0 || not (ltb most (get_or ends c 0 - c))) → r ≡ false → Sought (Some c) (get_or ends c 0 - c) (get_or ends c 0)
-    taken r q t = record {
+    pub sought-take : (r : Bool) → r ≡ (eqb (get_or marks c 0) 0 || not (ltb most (get_or ends c 0 - c))) → r ≡ false → Sought (Some c) (get_or ends c 0 - c) (get_or ends c 0)
+    sought-take r q t = record {
       at = next;
       empty = λ z. absurd (none-some c (sym z));
       none = λ z. absurd (none-some c (sym z));
@@ -132,48 +138,9 @@ module _ {ends : List ℕ} {node : ℕ} (k : Written ends node) (marks : List �
         kept : (m : ℕ) → (eqb m 0 || not (ltb most (get_or ends c 0 - c))) ≡ false → m ≡ 0 → ⊥
         kept m f z = let y : m ≡ 0 = z in true-false refl (rw y at f)
 
-    module _ (j : ℕ) (ej : j ≡ get_or ends c 0) (r : Bool) (er : r ≡ (eqb (get_or marks c 0) 0 || not (ltb most (j - c)))) where
-      told : r ≡ (eqb (get_or marks c 0) 0 || not (ltb most (get_or ends c 0 - c)))
-      told = er ∙ ap (λ (z : ℕ). eqb (get_or marks c 0) 0 || not (ltb most (z - c))) ej
-
-      pub sought-pass : r ≡ true → Sought o most j
-      sought-pass t = subst (λ (z : ℕ). Sought o most z) (sym ej) (passed r told t)
-
-      pub sought-take : r ≡ false → Sought (Some c) (j - c) j
-      sought-take t = subst (λ (z : ℕ). Sought (Some c) (z - c) z) (sym ej) (taken r told t)
-
-  pub sought-end : (o : Option ℕ) (most c : ℕ) → Sought o most c → e ≤ c → Heavy ends marks k.tree node o
-  sought-end o most c w l = record {
+  pub sought-end : {o : Option ℕ} {most c : ℕ} → Sought o most c → e ≤ c → Heavy ends marks k.tree node o
+  sought-end {o} {most} {c} w l = record {
     none = λ z d u s. w.none z d u s (let p = place d u s in omega (arith, p.inside, p.within));
     some = w.some;
     most = λ h z d u s n. rw (← w.size h z) (w.above d u s (let p = place d u s in omega (arith, p.inside, p.within)) n);
   }
-
--- ---- all children, one after the other
-
--- they end at row e
-pub record Seeking (ends marks : List ℕ) (node e : ℕ) (o : Option ℕ) (most c : ℕ) : Type 0 where
-  pub asked : Written ends node
-  pub ended : e ≡ get_or ends node 0
-  pub each : (k : Written ends node) → Sought k marks o most c
-
-module _ {ends marks : List ℕ} {node e : ℕ} {o : Option ℕ} {most c : ℕ} (w : Seeking ends marks node e o most c) where
-  module _ (l : c < e) where
-    among : c < get_or ends node 0
-    among = omega (arith, w.ended)
-
-    pub seeking-low : c < 64
-    seeking-low = omega (arith, among, w.asked.few)
-
-    pub seeking-inside : (j : ℕ) → j ≡ get_or ends c 0 → (c ≤ j) × (e - j < e - c)
-    seeking-inside j ej = let q = sought-inside w.asked marks (w.each w.asked) among in (omega (arith, q.0), omega (arith, q.0))
-
-    module _ (j : ℕ) (ej : j ≡ get_or ends c 0) (r : Bool) (er : r ≡ (eqb (get_or marks c 0) 0 || not (ltb most (j - c)))) where
-      pub seeking-pass : r ≡ true → Seeking ends marks node e o most j
-      seeking-pass t = record { asked = w.asked; ended = w.ended; each = λ k. sought-pass k marks (w.each k) among j ej r er t }
-
-      pub seeking-take : r ≡ false → Seeking ends marks node e (Some c) (j - c) j
-      seeking-take t = record { asked = w.asked; ended = w.ended; each = λ k. sought-take k marks (w.each k) among j ej r er t }
-
-  pub seeking-end : e ≤ c → (k : Written ends node) → Heavy ends marks k.tree node o
-  seeking-end l k = sought-end k marks o most c (w.each k) (omega (arith, w.ended))

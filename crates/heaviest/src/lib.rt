@@ -18,19 +18,15 @@ pub fn heaviest(of: &Reduced, node: usize) -> Option<usize>
     requires { Written of.now.tree.ends node }
     ensures { (k : Written of.now.tree.ends node) → Heavy of.now.tree.ends of.now.marks k.tree node result }
 {
-    let e = usize::from(of.tree.ends[node]);
     let mut heavy = None;
     let mut most = 0;
-    let mut c = node + 1;
-    // Kept: no count of an index: from a child to the next one it goes as many rows as that child has.
-    while c < e {
-        let at = c;
-        c = usize::from(of.tree.ends[at]);
-        if lighter(of.marks[at], c - at, most) {
+    for child in of.tree.children(node) {
+        let rows = usize::from(of.tree.ends[child]) - child;
+        if lighter(of.marks[child], rows, most) {
             continue;
         }
-        heavy = Some(at);
-        most = c - at;
+        heavy = Some(child);
+        most = rows;
     }
     heavy
 }

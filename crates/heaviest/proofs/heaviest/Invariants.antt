@@ -1,11 +1,12 @@
-use Prim.Native.Nat.{◌-◌}
-use Rattle.heaviest.proofs.Seeking.{Seeking}
+use lib.ListN.{get_or}
+use Rattle.rows.proofs.Going.{Going}
+use Rattle.heaviest.specs.Heavy.{Written}
+use Rattle.heaviest.proofs.Seeking.{Sought}
 use Rattle.heaviest.proofs.heaviest.Given as goal
 
-abbrev pub invariant-loop-c : goal.invariant-loop-c
-invariant-loop-c l =
-    Seeking l.of.tree.ends l.of.marks l.node l.e l.heavy l.most l.c
-
-abbrev pub decreases-loop-c : goal.decreases-loop-c
-decreases-loop-c l =
-    l.e - l.c
+abbrev pub invariant-loop-child : goal.invariant-loop-child
+invariant-loop-child l =
+    record {
+      going : Going l.of.tree.ends (get_or l.of.tree.ends l.node 0) l.child-iterator;
+      each : (k : Written l.of.tree.ends l.node) → Sought k l.of.marks l.heavy l.most l.child-iterator.at;
+    }
