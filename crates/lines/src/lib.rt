@@ -11,8 +11,10 @@ ghost use Rattle.lines.specs.Lines.{line_room, side_word, refusal_line, place, p
 use meaning;
 use meaning::{Refusal, Side};
 
+pub mod print;
 pub mod text;
 
+pub use print::print_rows;
 pub use text::{Line, ROOM};
 
 // The word for a side.
