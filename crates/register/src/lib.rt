@@ -36,10 +36,7 @@ pub struct Reading<'a> {
 pub fn read(s: &[u8], session: bool) -> Result<Size, Refusal>
     ensures { ReadPromise s.now session result }
 {
-    match read_whole(s, session) {
-        Ok(size) => Ok(size),
-        Err(fault) => Err(fault.on(Side::Register)),
-    }
+    read_whole(s, session).map_err(|fault| fault.on(Side::Register))
 }
 
 // The head, and what stands under it.

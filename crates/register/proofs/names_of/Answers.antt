@@ -11,16 +11,16 @@ use Rattle.register.proofs.names_of.Goals as goal
 pub names_at-requires : goal.names_at-requires
 names_at-requires c =
     let a = c.args in
-    (names-place a.s.now (bytes-known a.s.now c.shared_slice_known-1.given) a.item c.requires).0
+    (names-place a.s.now (bytes-known a.s.now c.type_inv.s) a.item c.requires).0
 
 pub eight-requires : goal.eight-requires
 eight-requires c =
     let a = c.args in
-    let q = names-place a.s.now (bytes-known a.s.now c.shared_slice_known-1.given) a.item c.requires in
+    let q = names-place a.s.now (bytes-known a.s.now c.type_inv.s) a.item c.requires in
     omega (arith, q.1)
 
 pub returns : goal.returns
 returns c =
     let a = c.args in
-    names-value a.s.now (bytes-known a.s.now c.shared_slice_known-1.given) a.item _ c.requires
+    names-value a.s.now (bytes-known a.s.now c.type_inv.s) a.item _ c.requires
     (c.eight.ensures ∙ ap (λ (z : ℕ). number a.s.now z 8) c.names_at.ensures)
