@@ -6,6 +6,8 @@ use native.Mathlib.Omega.{arith}
 use lib.ListN.{get_or}
 use Rattle.meaning.specs.Tree.{Concept}
 use Rattle.meaning.specs.Rows.{Holds}
+use Rattle.rows.specs.Rising.{Rising}
+use Rattle.rows.proofs.Rising.{rising}
 use Rattle.meaning.proofs.Rows.{opened, first, holds-ended}
 use Rattle.reduction.specs.Held.{Held, HeldF, ForTree}
 
@@ -26,6 +28,10 @@ module _ (names roles ends : List ℕ) (left : ℕ) where
       let o = opened names roles ends h.tree left i (get_or ends i 0) h.holds in
       let l : get_or ends i 0 ≤ 64 = h.fits in
       omega arith
+
+  -- where they stand one after the other, each ends after itself
+  pub rise : (i e : ℕ) → HeldF names roles ends left i e → Rising ends i e
+  rise i e h = rising names roles ends h.trees left i e h.holds h.fits
 
   -- the first of some trees, and the others
   pub record Front (i e : ℕ) : Type 0 where

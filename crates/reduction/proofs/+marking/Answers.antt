@@ -1,32 +1,24 @@
+use mathlib.Core.Path.{refl}
 use native.Mathlib.Omega.{arith}
-use Rattle.reduction.proofs.Held.{in-range, inside}
+use Rattle.rows.proofs.Going.{begins, turn, ended}
+use Rattle.reduction.proofs.Held.{in-range, inside, rise}
 use Rattle.reduction.proofs.Alone.{below}
 use Rattle.reduction.proofs.Marks.{child-dropped, child-kept, mark-start, mark-all, next-child, mark-next}
-use Rattle.reduction.proofs.+mark_mark_child.Goals as goal
-
-pub mark-bounds-ends-node : goal.mark-bounds-ends-node
-mark-bounds-ends-node t c =
-    let a = in-range _ _ _ _ c.requires in omega arith
-
-pub mark-overflow_add-node : goal.mark-overflow_add-node
-mark-overflow_add-node t c =
-    let a = in-range _ _ _ _ c.requires in omega arith
+use Rattle.reduction.proofs.+marking.Goals as goal
 
 pub mark-apart-alone-requires : goal.mark-apart-alone-requires
 mark-apart-alone-requires t c =
-    below _ _ _ _ _ c.requires c.octet-end.ensures.value
+    record { row = in-range _ _ _ _ c.requires; children = below _ _ _ _ _ c.requires refl }
 
-pub mark-overflow_add-c : goal.mark-overflow_add-c
-mark-overflow_add-c t c =
-    let a = in-range _ _ _ _ c.requires in omega arith
+pub mark-children-child-items-requires : goal.mark-children-child-items-requires
+mark-children-child-items-requires t c =
+    in-range _ _ _ _ c.requires
 
-pub mark-loop-c-init : goal.mark-loop-c-init
-mark-loop-c-init t c =
-    (c.octet-end.ensures.value, mark-start _ _ _ _ _ _)
-
-pub mark-overflow_add-node-in-loop-c : goal.mark-overflow_add-node-in-loop-c
-mark-overflow_add-node-in-loop-c t c =
-    let a = in-range _ _ _ _ c.requires in omega arith
+pub mark-loop-child-init : goal.mark-loop-child-init
+mark-loop-child-init t c =
+    let b = c.children-child-items.ensures in
+    let g = begins c.into_iter-child-iterator.ensures.into_iter_gives b.ends b.from b.end (rise _ _ _ _ _ _ (inside _ _ _ _ _ c.requires).children) in
+    record { going = g.0; marking = rw g.1 (mark-start _ _ _ _ _ _) }
 
 pub mark-overflow_sub-left : goal.mark-overflow_sub-left
 mark-overflow_sub-left t c =
@@ -34,30 +26,21 @@ mark-overflow_sub-left t c =
 
 pub mark-mark_child-requires : goal.mark-mark_child-requires
 mark-mark_child-requires t c =
+    let g = turn c.loop-child.invariant.going c.in-Some.ensures.goes.keeps c.in-Some.ensures.steps in
     let o = inside _ _ _ _ _ c.requires in
-    let e = c.loop-c.invariant.0 in
-    (omega arith, (rw e (next-child _ _ _ _ _ _ _ _ c.loop-c.invariant.1 c.requires (omega arith)), c.apart-alone.ensures))
+    let s = next-child _ _ _ _ _ _ _ _ (rw g.here at c.loop-child.invariant.marking) c.requires g.inside in
+    (omega arith, (in-range _ _ _ _ c.requires, (s, c.apart-alone.ensures)))
 
-pub mark-bounds-ends-c : goal.mark-bounds-ends-c
-mark-bounds-ends-c t c =
-    let f = c.requires.fits in omega (arith, c.loop-c.invariant.0)
-
-pub mark-loop-c-smaller : goal.mark-loop-c-smaller
-mark-loop-c-smaller t c =
-    let s = next-child _ _ _ _ _ _ _ _ c.loop-c.invariant.1 c.requires (omega (arith, c.loop-c.invariant.0)) in
-    let o = inside _ _ _ _ _ s.here in
-    omega (arith, c.octet-c.ensures.value)
-
-pub mark-loop-c-preserved : goal.mark-loop-c-preserved
-mark-loop-c-preserved t c = (
-  c.loop-c.invariant.0,
-  mark-next _ _ _ _ _ _ _ _ c.loop-c.invariant.1 (omega (arith, c.loop-c.invariant.0)) _ c.loop-c.invariant.0
-      c.mark_child.ensures c.octet-c.ensures.value c.requires,
-)
+pub mark-loop-child-preserved : goal.mark-loop-child-preserved
+mark-loop-child-preserved t c =
+    let g = turn c.loop-child.invariant.going c.in-Some.ensures.goes.keeps c.in-Some.ensures.steps in record {
+      going = g.going;
+      marking = mark-next _ _ _ _ _ _ _ _ (rw g.here at c.loop-child.invariant.marking) g.inside _ refl c.mark_child.ensures g.onward c.requires;
+    }
 
 pub mark-returns : goal.mark-returns
 mark-returns t c =
-    mark-all _ _ _ _ _ _ _ _ c.loop-c.invariant.1 (omega (arith, c.loop-c.invariant.0))
+    mark-all _ _ _ _ _ _ _ _ c.loop-child.invariant.marking (ended c.loop-child.invariant.going c.in-None.ensures.steps)
 
 pub mark_child-put-requires : goal.mark_child-put-requires
 mark_child-put-requires t c =

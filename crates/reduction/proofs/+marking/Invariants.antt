@@ -1,16 +1,14 @@
-use Prim.Native.Nat.{◌+◌, ◌*◌, ◌-◌}
-use mathlib.Core.Path.{◌≡◌}
+use Prim.Native.Nat.{◌+◌, ◌*◌}
 use lib.ListN.{get_or}
+use Rattle.rows.proofs.Going.{Going}
 use Rattle.reduction.proofs.Marks.{Marking}
-use Rattle.reduction.proofs.+mark_mark_child.Given as goal
+use Rattle.reduction.proofs.+marking.Given as goal
 
-abbrev pub invariant-mark-loop-c : goal.invariant-mark-loop-c
-invariant-mark-loop-c l =
-    (l.end ≡ get_or l.ends l.node 0) × Marking l.names l.roles l.ends l.left l.node l.initial.marks l.marks l.c
-
-abbrev pub decreases-mark-loop-c : goal.decreases-mark-loop-c
-decreases-mark-loop-c l =
-    l.end - l.c
+abbrev pub invariant-mark-loop-child : goal.invariant-mark-loop-child
+invariant-mark-loop-child l = record {
+  going : Going l.tree.ends (get_or l.tree.ends l.node 0) l.child-iterator;
+  marking : Marking l.tree.names l.tree.roles l.tree.ends l.left l.node l.initial.marks l.marks l.child-iterator.at;
+}
 
 abbrev pub decreases-mark : goal.decreases-mark
 decreases-mark l = 2 * l.left

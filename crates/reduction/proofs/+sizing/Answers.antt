@@ -1,7 +1,8 @@
 use native.Mathlib.Omega.{arith}
-use Rattle.reduction.proofs.Held.{in-range, inside}
+use Rattle.rows.proofs.Going.{begins, turn, ended}
+use Rattle.reduction.proofs.Held.{in-range, inside, rise}
 use Rattle.reduction.proofs.Sizes.{size-start, size-child, size-next, size-all, none-sized, kept-sized}
-use Rattle.reduction.proofs.+child_size_size.Goals as goal
+use Rattle.reduction.proofs.+sizing.Goals as goal
 
 pub child_size-bounds-marks-c : goal.child_size-bounds-marks-c
 child_size-bounds-marks-c t c =
@@ -23,28 +24,25 @@ pub child_size-returns : goal.child_size-returns
 child_size-returns t c =
     kept-sized _ _ _ _ _ _ c.if-marks-c-ne1.false c.size.ensures
 
-pub size-bounds-ends-node : goal.size-bounds-ends-node
-size-bounds-ends-node t c =
+pub size-offset_bounds-tree-node : goal.size-offset_bounds-tree-node
+size-offset_bounds-tree-node t c =
     let a = in-range _ _ _ _ c.requires.held in omega arith
 
-pub size-offset_bounds-names-node : goal.size-offset_bounds-names-node
-size-offset_bounds-names-node t c =
-    let a = in-range _ _ _ _ c.requires.held in omega arith
+pub size-bounds-tree-node : goal.size-bounds-tree-node
+size-bounds-tree-node t c =
+    in-range _ _ _ _ c.requires.held
 
-pub size-bounds-names-node : goal.size-bounds-names-node
-size-bounds-names-node t c =
-    let a = in-range _ _ _ _ c.requires.held in omega arith
+pub size-children-child-items-requires : goal.size-children-child-items-requires
+size-children-child-items-requires t c =
+    in-range _ _ _ _ c.requires.held
 
-pub size-overflow_add-c : goal.size-overflow_add-c
-size-overflow_add-c t c =
-    let a = in-range _ _ _ _ c.requires.held in omega arith
-
-pub size-loop-c-init : goal.size-loop-c-init
-size-loop-c-init t c =
+pub size-loop-child-init : goal.size-loop-child-init
+size-loop-child-init t c =
     let o = inside _ _ _ _ _ c.requires.held in
-    let e = c.octet-end.ensures.value in
     let l = c.named-n.ensures.upper_bound in
-    (e, omega arith, omega arith, size-start _ _ _ _ _ c.named-n.ensures.value)
+    let b = c.children-child-items.ensures in
+    let g = begins c.into_iter-child-iterator.ensures.into_iter_gives b.ends b.from b.end (rise _ _ _ _ _ _ o.children) in
+    record { going = g.0; small = rw g.1 (omega arith); sizing = rw g.1 (size-start _ _ _ _ _ c.named-n.ensures.value) }
 
 pub size-overflow_sub-left : goal.size-overflow_sub-left
 size-overflow_sub-left t c =
@@ -53,36 +51,25 @@ size-overflow_sub-left t c =
 pub size-child_size-n-requires : goal.size-child_size-n-requires
 size-child_size-n-requires t c =
     let o = inside _ _ _ _ _ c.requires.held in
-    let f = size-child _ _ _ _ _ _ _ c.loop-c.invariant.3 c.requires (omega (arith, c.loop-c.invariant.0)) in
+    let g = turn c.loop-child.invariant.going c.in-Some.ensures.goes.keeps c.in-Some.ensures.steps in
+    let f = size-child _ _ _ _ _ _ _ (rw g.here at c.loop-child.invariant.sizing) c.requires g.inside in
     (omega arith, record { roles = _; held = f.here })
 
-pub size-overflow_add-n : goal.size-overflow_add-n
-size-overflow_add-n t c =
-    let f = size-child _ _ _ _ _ _ _ c.loop-c.invariant.3 c.requires (omega (arith, c.loop-c.invariant.0)) in
-    let l = c.requires.held.fits in
-    omega (arith, c.child_size-n.ensures.small, c.loop-c.invariant.0, c.loop-c.invariant.2)
-
-pub size-bounds-ends-c : goal.size-bounds-ends-c
-size-bounds-ends-c t c =
-    let f = c.requires.held.fits in omega (arith, c.loop-c.invariant.0)
-
-pub size-loop-c-smaller : goal.size-loop-c-smaller
-size-loop-c-smaller t c =
-    let f = size-child _ _ _ _ _ _ _ c.loop-c.invariant.3 c.requires (omega (arith, c.loop-c.invariant.0)) in
-    omega (arith, c.octet-c.ensures.value)
-
-pub size-loop-c-preserved : goal.size-loop-c-preserved
-size-loop-c-preserved t c =
-    let f = size-child _ _ _ _ _ _ _ c.loop-c.invariant.3 c.requires (omega (arith, c.loop-c.invariant.0)) in
-    let e = c.octet-c.ensures.value in (
-      c.loop-c.invariant.0,
-      omega (arith, c.loop-c.invariant.1),
-      omega (arith, c.child_size-n.ensures.small, c.loop-c.invariant.0, c.loop-c.invariant.2),
-      size-next _ _ _ _ _ _ _ c.loop-c.invariant.3 (omega (arith, c.loop-c.invariant.0)) _ c.child_size-n.ensures e,
-    )
+pub size-loop-child-preserved : goal.size-loop-child-preserved
+size-loop-child-preserved t c =
+    let g = turn c.loop-child.invariant.going c.in-Some.ensures.goes.keeps c.in-Some.ensures.steps in
+    let f = size-child _ _ _ _ _ _ _ (rw g.here at c.loop-child.invariant.sizing) c.requires g.inside in
+    let s = c.child_size-n.ensures in
+    let l = rw g.here at c.loop-child.invariant.small in
+    let m = s.small in
+    record {
+      going = g.going;
+      small = rw g.onward (omega arith);
+      sizing = size-next _ _ _ _ _ _ _ (rw g.here at c.loop-child.invariant.sizing) g.inside _ s g.onward;
+    }
 
 pub size-returns : goal.size-returns
 size-returns t c =
-    let e = c.loop-c.invariant.0 in
-    let l = c.loop-c.invariant.2 in
-    record { right = size-all _ _ _ _ _ _ _ c.loop-c.invariant.3 (omega arith); small = omega arith }
+    let e = ended c.loop-child.invariant.going c.in-None.ensures.steps in
+    let l = c.loop-child.invariant.small in
+    record { right = size-all _ _ _ _ _ _ _ c.loop-child.invariant.sizing e; small = omega arith }

@@ -1,18 +1,23 @@
 -- `reduction::apart` meets its contract.
 -- Assumes nothing.
 use native.Mathlib.Omega.{arith}
-use mathlib.Core.Path.{◌∙◌, sym, ap}
-use Prim.Native.Nat.{ℕ, ◌%◌}
-use Rattle.reduction.proofs.Alone.{gather-start, gather-twice, ungathered, gather-all, gather-next}
+use mathlib.Core.Path.{◌∙◌, sym}
+use Rattle.std.proofs.Common.{rules}
+use Rattle.rows.proofs.Going.{begins, turn, ended}
+use Rattle.reduction.proofs.Held.{rise}
+use Rattle.reduction.proofs.Alone.{gather-start, gather-twice, gather-all, gather-next}
 use Rattle.reduction.proofs.apart.Goals as goal
 
-pub loop-c-init : goal.loop-c-init
-loop-c-init c =
-    gather-start _ _ _ _
+pub loop-child-init : goal.loop-child-init
+loop-child-init c =
+    let b = c.children-child-items.ensures in
+    let g = begins c.into_iter-child-iterator.ensures.into_iter_gives b.ends b.from b.end (rise _ _ _ _ _ _ c.requires.children.held) in
+    record { going = g.0; gathering = rw g.1 (gather-start _ _ _ _) }
 
-pub bounds-roles-c : goal.bounds-roles-c
-bounds-roles-c c =
-    let f = c.requires.held.fits in omega arith
+pub bounds-tree-child : goal.bounds-tree-child
+bounds-tree-child c =
+    let g = turn c.loop-child.invariant.going c.in-Some.ensures.goes.keeps c.in-Some.ensures.steps in
+    let f = c.requires.children.held.fits in omega arith
 
 pub returns-then-on : goal.returns-then-on
 returns-then-on c =
@@ -22,20 +27,15 @@ pub with_bit-seen-requires : goal.with_bit-seen-requires
 with_bit-seen-requires c =
     (omega arith, sym c.if-on.false ∙ c.on.ensures)
 
-pub bounds-ends-c : goal.bounds-ends-c
-bounds-ends-c c =
-    let f = c.requires.held.fits in omega arith
-
-pub loop-c-smaller : goal.loop-c-smaller
-loop-c-smaller c =
-    let f = ungathered _ _ _ _ _ _ c.loop-c.invariant c.requires c.loop-c-test.true in
-    omega (arith, c.octet-c.ensures.value)
-
-pub loop-c-preserved : goal.loop-c-preserved
-loop-c-preserved c =
-    gather-next _ _ _ _ _ _ c.loop-c.invariant c.loop-c-test.true (ap (λ (z : ℕ). z % 64) c.octet-role.ensures.value)
-    (sym c.on.ensures ∙ c.if-on.false) c.with_bit-seen.ensures c.octet-c.ensures.value
+pub loop-child-preserved : goal.loop-child-preserved
+loop-child-preserved c =
+    let g = turn c.loop-child.invariant.going c.in-Some.ensures.goes.keeps c.in-Some.ensures.steps in
+    record {
+      going = g.going;
+      gathering = gather-next _ _ _ _ _ _ (rw g.here at c.loop-child.invariant.gathering) g.inside (search rules)
+          (sym c.on.ensures ∙ c.if-on.false) c.with_bit-seen.ensures g.onward;
+    }
 
 pub returns : goal.returns
 returns c =
-    gather-all _ _ _ _ _ _ c.loop-c.invariant c.loop-c-test.false
+    gather-all _ _ _ _ _ _ c.loop-child.invariant.gathering (ended c.loop-child.invariant.going c.in-None.ensures.steps)

@@ -1,13 +1,14 @@
 -- `reduction::apart` meets its contract.
 -- Assumes nothing.
-use Prim.Native.Nat.{◌-◌}
+use lib.ListN.{get_or}
+use Prim.Native.Nat.{◌+◌}
+use Rattle.rows.proofs.Going.{Going}
 use Rattle.reduction.proofs.Alone.{Gathering}
 use Rattle.reduction.proofs.apart.Given as goal
 
-abbrev pub invariant-loop-c : goal.invariant-loop-c
-invariant-loop-c l =
-    Gathering l.roles l.ends l.first l.end l.seen l.c
-
-abbrev pub decreases-loop-c : goal.decreases-loop-c
-decreases-loop-c l =
-    l.end - l.c
+abbrev pub invariant-loop-child : goal.invariant-loop-child
+invariant-loop-child l =
+    let e = get_or l.tree.ends l.node 0 in record {
+      going : Going l.tree.ends e l.child-iterator;
+      gathering : Gathering l.tree.roles l.tree.ends (l.node + 1) e l.seen l.child-iterator.at;
+    }
