@@ -43,7 +43,7 @@ module _ (s : List ℕ) (g : Register) (b : Bytes s) (e : read_buffer s ≡ good
       let t : take L s ≡ encode g = stands-taken s 0 (encode g) q.1 (omega (arith, q.2)) in
       sym (take-append-drop L s) ∙ ap (λ (z : List ℕ). z ++ behind) t
 
-  in_parts : s ≡ parts (body_length n m) g.names m (links_bytes g.links) behind
+  pub in_parts : s ≡ parts (body_length n m) g.names m (links_bytes g.links) behind
   in_parts = image-first ∙ image-parts g behind
 
   -- nothing changes

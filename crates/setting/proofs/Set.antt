@@ -4,9 +4,11 @@ use mathlib.Core.Path.{◌≡◌, refl, sym, ap, ap₂, ◌∙◌, subst}
 use mathlib.Core.Bool.{Bool, true, false, ◌&&◌, ◌||◌, not}
 use mathlib.Core.List.{List, ◌∷◌, ◌++◌, append-nil}
 use mathlib.Core.Option.{none as nowhere}
+use Rattle.std.specs.Prelude.{Option, Some, None, Result, Ok, Err}
 use Prim.Native.Nat.{ℕ, suc, ◌+◌, ◌-◌, ◌≤◌, ◌<◌, max}
 use native.Mathlib.Omega.{arith}
-use lib.Dec.{ltb, leb, eqb, ltb→lt}
+use native.Mathlib.Decide.{dec_lt}
+use lib.Dec.{ltb, leb, eqb, ltb→lt, eqb→eq}
 use lib.ListN.{length, get_or, set, take, drop, length-append, length-drop}
 use lib.Seq.{length-take-le}
 use Rattle.meaning.specs.declared.Fact.{Fact}
@@ -17,23 +19,30 @@ use Rattle.meaning.specs.Names.{has}
 use Rattle.meaning.specs.Register.{Link, Register, is_fact, encode, read_buffer}
 use Rattle.meaning.specs.Bounds.{most_items, most_links, most_role}
 use Rattle.meaning.specs.Session.{link, zeros, with_name, set_fact, rewritten, no_place}
-use Rattle.meaning.proofs.Tests.{holds, neither, and_both}
+use Rattle.meaning.proofs.Tests.{holds, neither, and_both, is_true, is_false, is-eqb}
 use Rattle.meaning.proofs.Reading.{good-inj, at_most, not-le, below, not-below}
 use Rattle.meaning.proofs.Image.{image-length, read-buffer, image-fits}
 use Rattle.meaning.proofs.SessionFacts.{set_same}
 use Rattle.meaning.proofs.SessionLinks.{Sound}
-use Rattle.register.specs.Image.{Asked, OfSize, Image, link_no}
+use Rattle.register.specs.Image.{Asked, OfSize, Image, no_link, link_no}
+use Rattle.register.specs.Held.{held}
+use Rattle.register.proofs.Holding.{held-said}
 use Rattle.register.specs.Layout.{names_at, image_length}
 use Rattle.register.specs.Reading.{key, Small}
-use Rattle.setting.specs.declared.Setting.{Setting}
-use Rattle.setting.specs.declared.Setting.TheVariants.{Done, NoPlace}
-use Rattle.setting.specs.Setting.{PlaceOf, inserted_at, removed_at, buffer_inserted, buffer_removed, SettingOf}
+use Rattle.setting.specs.Setting.{PlaceOf, Placed, inserted_at, removed_at, buffer_inserted, buffer_removed, SettingOf}
 use Rattle.setting.proofs.Place.{place-among, place-insert, place-without}
 use Rattle.setting.proofs.Changes.{unchanged, name-law}
 
 -- what is asked is of the one register that was read
 pub asked_is : {P : Register → Type 0} {s : List ℕ} (a : Asked s P) (g : Register) → read_buffer s ≡ good g → P g
 asked_is {P} a g e = subst P (good-inj (sym a.read ∙ e)) a.holds
+
+-- the sizes of an image that was read, and the buffer holds it
+pub sizes-fit : (s : List ℕ) → Bytes s → (items links : ℕ) → OfSize s items links
+    → (items ≤ most_items) × (links ≤ most_links) × (image_length items links ≤ length s)
+sizes-fit s by items links a =
+    let q = image-fits s a.register by a.read in
+    (omega (arith, q.0.items, a.holds.0), omega (arith, q.0.few, a.holds.1), omega (arith, q.1, a.holds.0, a.holds.1))
 
 -- the buffer with a link more and a link fewer, as a rewritten one
 longer : (s : List ℕ) (g h : Register) → length (encode h) ≡ length (encode g) + 5 → encode h ++ drop (length (encode g) + 5) s ≡ rewritten s g h
@@ -170,6 +179,38 @@ pub record Looked (s : List ℕ) (a r c items links number k : ℕ) (there : Boo
   pub place : Image s (λ g. PlaceOf g.links number k)
   pub stands : Image s (λ g. there ≡ (ltb k (length g.links) && eqb (key (link_no g k)) number))
 
+-- the place that a search found, and whether the link stands there
+abbrev pub place : Result ℕ ℕ → ℕ
+place (Ok k) = k
+place (Err k) = k
+
+abbrev pub stands : Result ℕ ℕ → Bool
+stands (Ok k) = true
+stands (Err k) = false
+
+stands-is : (ls : List Link) (number : ℕ) (found : Result ℕ ℕ) → Placed ls number found
+    → PlaceOf ls number (place found) × (stands found ≡ (ltb (place found) (length ls) && eqb (key (get_or ls (place found) no_link)) number))
+stands-is ls number (Ok k) p =
+    (p.0, sym (ap₂ (λ (x y : Bool). x && y) (below k (length ls) p.1) (is_true (eqb (key (get_or ls k no_link)) number) (is-eqb p.2))))
+stands-is ls number (Err k) p = (p.0, sym (none (dec_lt k (length ls))))
+  where
+    none : Dec (k < length ls) → (ltb k (length ls) && eqb (key (get_or ls k no_link)) number) ≡ false
+    none (yes h) = ap₂ (λ (x y : Bool). x && y) (below k (length ls) h) (is_false (eqb (key (get_or ls k no_link)) number) (λ t. p.1 h (eqb→eq _ _ t)))
+    none (no h) = ap (λ (x : Bool). x && eqb (key (get_or ls k no_link)) number) (not-below k (length ls) (omega arith))
+
+pub looked : {s : List ℕ} {a r c items links number : ℕ} (found : Result ℕ ℕ) → Bytes s → OfSize s items links → (a < items) × (r ≤ most_role) × (c < items)
+    → number ≡ key (link a r c) → Placed (held s).links number found → Looked s a r c items links number (place found) (stands found)
+looked {s = s} {number = number} found by asked sound numbered placed = record {
+  by = by;
+  asked = asked;
+  from = sound.0;
+  role = sound.1;
+  to = sound.2;
+  numbered = numbered;
+  place = held-said s (λ g. PlaceOf g.links number (place found)) (stands-is (held s).links number found placed).0;
+  stands = held-said s (λ g. stands found ≡ (ltb (place found) (length g.links) && eqb (key (link_no g (place found))) number)) (stands-is (held s).links number found placed).1;
+}
+
 module _ {s : List ℕ} {a r c items links number k : ℕ} {there : Bool} (w : Looked s a r c items links number k there) where
   sound : (g : Register) → read_buffer s ≡ good g → Sound (length g.names) (link a r c)
   sound g e = let q = (asked_is w.asked g e).0 in (omega (arith, w.from), w.role, omega (arith, w.to))
@@ -189,24 +230,24 @@ module _ {s : List ℕ} {a r c items links number k : ℕ} {there : Bool} (w : L
   pub place-within : k ≤ links
   place-within = omega (arith, (placed w.asked.register w.asked.read).within, w.asked.holds.1)
 
-  pub set-stays : {adds : Bool} (v : Bool) → there ≡ v → adds ≡ v → SettingOf s (link_of a r c) adds s (Done v)
+  pub set-stays : {adds : Bool} (v : Bool) → there ≡ v → adds ≡ v → SettingOf s (link_of a r c) adds s (Some v)
   set-stays {adds} v d i g e = stays s w.by a r c g e (sound g e) k (placed g e) v adds (at g e ∙ d) i
 
-  pub set-goes : {adds : Bool} {t : List ℕ} → there ≡ true → adds ≡ false → Image s (λ g. t ≡ buffer_removed s k g) → SettingOf s (link_of a r c) adds t (Done true)
+  pub set-goes : {adds : Bool} {t : List ℕ} → there ≡ true → adds ≡ false → Image s (λ g. t ≡ buffer_removed s k g) → SettingOf s (link_of a r c) adds t (Some true)
   set-goes {adds} {t} d i b g e =
       goes s w.by a r c g e (sound g e) k (placed g e) adds t (at g e ∙ d) i (omega (arith, stands-within d, (asked_is w.asked g e).1)) (b g e)
 
-  pub set_full : {adds : Bool} → there ≡ false → adds ≡ true → most_links ≤ links → SettingOf s (link_of a r c) adds s NoPlace
+  pub set_full : {adds : Bool} → there ≡ false → adds ≡ true → most_links ≤ links → SettingOf s (link_of a r c) adds s None
   set_full {adds} d i h g e = full s w.by a r c g e (sound g e) k (placed g e) adds (at g e ∙ d) i (omega (arith, (asked_is w.asked g e).1))
 
   pub set-tight : {adds : Bool} → there ≡ false → adds ≡ true → links < most_links → length s < image_length items (links + 1)
-      → SettingOf s (link_of a r c) adds s NoPlace
+      → SettingOf s (link_of a r c) adds s None
   set-tight {adds} d i h room g e =
       let q = asked_is w.asked g e in
       tight s w.by a r c g e (sound g e) k (placed g e) adds (at g e ∙ d) i (omega (arith, q.1)) (omega (arith, q.0, q.1))
 
   pub set-comes : {adds : Bool} {t : List ℕ} → there ≡ false → adds ≡ true → links < most_links → image_length items (links + 1) ≤ length s
-      → Image s (λ g. (l : Link) → number ≡ key l → Small l → t ≡ buffer_inserted s k l g) → SettingOf s (link_of a r c) adds t (Done false)
+      → Image s (λ g. (l : Link) → number ≡ key l → Small l → t ≡ buffer_inserted s k l g) → SettingOf s (link_of a r c) adds t (Some false)
   set-comes {adds} {t} d i h room b g e =
       let q = asked_is w.asked g e in
       let end : c < 65536 = omega (arith, w.to, q.0, (image-fits s g w.by e).0.items) in
@@ -215,10 +256,10 @@ module _ {s : List ℕ} {a r c items links number k : ℕ} {there : Bool} (w : L
 
 -- ---- either fact
 
-pub link_set : (s t : List ℕ) (f h : Fact) (v : Bool) (r : Setting) → f ≡ h → SettingOf s h v t r → SettingOf s f v t r
+pub link_set : (s t : List ℕ) (f h : Fact) (v : Bool) (r : Option Bool) → f ≡ h → SettingOf s h v t r → SettingOf s f v t r
 link_set s t f h v r e = subst (λ (z : Fact). SettingOf s z v t r) (sym e)
 
 pub name_set : (s t : List ℕ) (f : Fact) (i k : ℕ) (v r : Bool) → f ≡ name_on i k → Image s (λ g. r ≡ is_fact g (name_on i k))
-    → Image s (λ g. t ≡ rewritten s g (set_fact v (name_on i k) g)) → SettingOf s f v t (Done r)
+    → Image s (λ g. t ≡ rewritten s g (set_fact v (name_on i k) g)) → SettingOf s f v t (Some r)
 name_set s t f i k v r e was buffer =
-    subst (λ (z : Fact). SettingOf s z v t (Done r)) (sym e) (λ g d. (name-placed s g v i k, was g d, buffer g d))
+    subst (λ (z : Fact). SettingOf s z v t (Some r)) (sym e) (λ g d. (name-placed s g v i k, was g d, buffer g d))

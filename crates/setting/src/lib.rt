@@ -2,56 +2,23 @@
 // Names stay where they stand; links behind the one that comes or goes move by five bytes.
 #![tactic(auto)]
 
-ghost use Rattle.std.specs.Prelude.{◌≡◌, ◌&&◌, ◌+◌, ◌≤◌, ◌<◌, eqb, ltb, length};
+ghost use Rattle.std.specs.Prelude.{◌≡◌, ◌+◌, ◌≤◌, ◌<◌, length, map};
 ghost use Rattle.std.proofs.lemmas.List.Edits.{sets};
 ghost use Rattle.meaning.specs.Bounds.{most_items, most_links, most_name, most_role};
 ghost use Rattle.meaning.specs.Bytes.{bytes};
 ghost use Rattle.meaning.specs.declared.Fact.{Fact};
-ghost use Rattle.meaning.specs.Register.{Link, is_fact};
+ghost use Rattle.meaning.specs.Register.{Link, is_fact, link_bytes};
 ghost use Rattle.meaning.specs.Session.{link, set_fact, rewritten};
 ghost use Rattle.register.specs.Layout.{names_at, count_at, image_length, body_length};
-ghost use Rattle.register.specs.Image.{Asked, OfSize, Image, link_no};
+ghost use Rattle.register.specs.Image.{Asked, OfSize, Image};
+ghost use Rattle.register.specs.Held.{held};
 ghost use Rattle.register.specs.Reading.{key, Small};
-ghost use Rattle.setting.specs.Moved.{moved_up, moved_down};
-ghost use Rattle.setting.specs.Setting.{PlaceOf, buffer_inserted, buffer_removed, Ranged, SettingOf};
+ghost use Rattle.setting.specs.Setting.{Placed, buffer_inserted, buffer_removed, Ranged, SettingOf};
 
 use fields;
 use fields::bits;
 use meaning::Fact;
-use register::layout;
-
-// Setting a fact: whether it was there before; or there is no place for a link.
-#[derive(Drop)]
-pub enum Setting {
-    Done { was: bool },
-    NoPlace,
-}
-
-// ---- bytes
-
-// Moves what stands from `from` up to `end` five bytes up.
-fn move_up(s: &mut [u8], from: usize, end: usize)
-    requires { (from ≤ end) × (end + 5 ≤ length s.old) }
-    ensures { s.new ≡ moved_up s.old from end }
-{
-    let mut i = end;
-    while from < i {
-        i -= 1;
-        s[i + 5] = s[i];
-    }
-}
-
-// Moves what stands behind the five bytes at `from`, up to `end`, five bytes down.
-fn move_down(s: &mut [u8], from: usize, end: usize)
-    requires { (from + 5 ≤ end) × (end ≤ length s.old) }
-    ensures { s.new ≡ moved_down s.old from end }
-{
-    let mut i = from;
-    while i + 5 < end {
-        s[i] = s[i + 5];
-        i += 1;
-    }
-}
+use register::{Reading, Size, layout};
 
 // ---- names
 
@@ -79,33 +46,21 @@ pub fn number_of(from: usize, role: usize, to: usize) -> usize
     (from * 256 + role) * 65536 + to
 }
 
-// How many links stand below a number.
-fn place_of(s: &[u8], items: usize, links: usize, number: usize) -> usize
-    requires { OfSize s.now items links }
-    ensures { Image s.now (λ g. PlaceOf g.links number result) }
+// The links of an image that was read: five bytes each.
+fn links_of<'a>(read: &Reading<'a>) -> &'a [[u8; 5]]
+    ensures { result.now ≡ map link_bytes (held read.now.bytes.now).links }
 {
-    let mut low = 0;
-    let mut high = links;
-    while low < high {
-        let mid = low + (high - low) / 2;
-        if register::key_of(s, items, mid) < number {
-            low = mid + 1;
-            continue;
-        }
-        high = mid;
-    }
-    low
+    let start = layout::link_at(read.items, 0);
+    let end = layout::image_len(read.items, read.links);
+    read.bytes[start..end].as_chunks().0
 }
 
-// Whether the link at that place has the number.
-fn stands_at(s: &[u8], items: usize, links: usize, k: usize, number: usize) -> bool
-    requires { OfSize s.now items links }
-    ensures { Image s.now (λ g. result ≡ (ltb k (length g.links) && eqb (key (link_no g k)) number)) }
+// Where the link with a number stands, or where it is to stand.
+fn place_of(read: &Reading, number: usize) -> Result<usize, usize>
+    ensures { Placed (held read.now.bytes.now).links number result }
 {
-    if k < links {
-        return register::key_of(s, items, k) == number;
-    }
-    false
+    let rows = links_of(read);
+    rows.binary_search_by_key(&number, |row| links::key_at(row, 0))
 }
 
 // Writes the link count, and the length in the head, of an image of so many items and links.
@@ -117,28 +72,33 @@ fn put_counts(s: &mut [u8], items: usize, links: usize)
     fields::put(s, 1, 2, layout::body_len(items, links));
 }
 
+// Kept: four functions ask `OfSize` of a buffer that they write. A struct over the `&mut` with that fact would have to hold it at each of the writes,
+// between which the buffer is no image.
+
 // Puts the link with that number before the k-th.
-fn insert(s: &mut [u8], items: usize, links: usize, k: usize, number: usize)
-    requires of_size { OfSize s.old items links }
-    requires k_le_links { (k ≤ links) × (items ≤ most_items) × (links < most_links) × (image_length items (links + 1) ≤ length s.old) }
+fn insert(s: &mut [u8], size: Size, k: usize, number: usize)
+    requires of_size { OfSize s.old size.items size.links }
+    requires room { (k ≤ size.links) × (size.links < most_links) × (image_length size.items (size.links + 1) ≤ length s.old) }
     ensures { Image s.old (λ g. (l : Link) → number ≡ key l → Small l → s.new ≡ buffer_inserted s.old k l g) }
 {
+    let Size { items, links } = size;
     let at = layout::link_at(items, k);
     let end = layout::image_len(items, links);
-    move_up(s, at, end);
+    s.copy_within(at..end, at + 5);
     fields::put(s, at, 5, number);
     put_counts(s, items, links + 1);
 }
 
 // Takes the k-th link away.
-fn remove(s: &mut [u8], items: usize, links: usize, k: usize)
-    requires of_size { OfSize s.old items links }
-    requires k_lt_links { (k < links) × (items ≤ most_items) × (links ≤ most_links) × (image_length items links ≤ length s.old) }
+fn remove(s: &mut [u8], size: Size, k: usize)
+    requires of_size { OfSize s.old size.items size.links }
+    requires is_there { k < size.links }
     ensures { Image s.old (λ g. s.new ≡ buffer_removed s.old k g) }
 {
+    let Size { items, links } = size;
     let at = layout::link_at(items, k);
     let end = layout::image_len(items, links);
-    move_down(s, at, end);
+    s.copy_within(at + 5..end, at);
     fields::put(s, end - 5, 5, 0);
     put_counts(s, items, links - 1);
 }
@@ -146,52 +106,55 @@ fn remove(s: &mut [u8], items: usize, links: usize, k: usize)
 // Sets a link to there or not.
 fn set_link(
     s: &mut [u8],
-    items: usize,
-    links: usize,
+    size: Size,
     from: usize,
     role: usize,
     to: usize,
     adds: bool,
-) -> Setting
-    requires of_size { OfSize s.old items links }
-    requires from_lt { (from < items) × (role ≤ most_role) × (to < items) × (items ≤ most_items) × (links ≤ most_links) × (image_length items links ≤ length s.old) }
+) -> Option<bool>
+    requires of_size { OfSize s.old size.items size.links }
+    requires in_range { (from < size.items) × (role ≤ most_role) × (to < size.items) }
     ensures { SettingOf s.old (Fact.Link from role to) adds s.new result }
 {
     let number = number_of(from, role, to);
-    let k = place_of(s, items, links, number);
-    if stands_at(s, items, links, k, number) {
-        if adds {
-            return Setting::Done { was: true };
+    let Size { items, links } = size;
+    let read = Reading {
+        bytes: s,
+        items,
+        links,
+    };
+    match place_of(&read, number) {
+        Ok(k) => {
+            if !adds {
+                remove(s, size, k);
+            }
+            Some(true)
         }
-        remove(s, items, links, k);
-        return Setting::Done { was: true };
+        Err(k) => {
+            if adds {
+                if meaning::MOST_LINKS <= links {
+                    return None;
+                }
+                if s.len() < layout::image_len(items, links + 1) {
+                    return None;
+                }
+                insert(s, size, k, number);
+            }
+            Some(false)
+        }
     }
-    if !adds {
-        return Setting::Done { was: false };
-    }
-    if meaning::MOST_LINKS <= links {
-        return Setting::NoPlace;
-    }
-    if s.len() < layout::image_len(items, links + 1) {
-        return Setting::NoPlace;
-    }
-    insert(s, items, links, k, number);
-    Setting::Done { was: false }
 }
 
 // ---- either fact
 
-// Sets a fact that is in range to there or not.
-pub fn set_fact(s: &mut [u8], items: usize, links: usize, fact: Fact, adds: bool) -> Setting
-    requires of_size { OfSize s.old items links }
-    requires ranged { Ranged items fact }
-    requires le_most_items { (items ≤ most_items) × (links ≤ most_links) × (image_length items links ≤ length s.old) }
+// Sets a fact that is in range to there or not, and says whether it was there; None where there is no place for a link.
+pub fn set_fact(s: &mut [u8], size: Size, fact: Fact, adds: bool) -> Option<bool>
+    requires of_size { OfSize s.old size.items size.links }
+    requires ranged { Ranged size.items fact }
     ensures { SettingOf s.old fact adds s.new result }
 {
     match fact {
-        Fact::Name { item, name } => Setting::Done {
-            was: set_name(s, item, name, adds),
-        },
-        Fact::Link { from, role, to } => set_link(s, items, links, from, role, to, adds),
+        Fact::Name { item, name } => Some(set_name(s, item, name, adds)),
+        Fact::Link { from, role, to } => set_link(s, size, from, role, to, adds),
     }
 }

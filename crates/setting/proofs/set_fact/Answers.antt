@@ -1,15 +1,16 @@
 use mathlib.Core.Path.{subst}
 use native.Mathlib.Omega.{arith}
+use Rattle.fields.proofs.Known.{bytes-known}
 use Rattle.meaning.specs.declared.Fact.{Fact}
 use Rattle.setting.specs.Setting.{Ranged}
-use Rattle.setting.proofs.Set.{name_set, link_set}
+use Rattle.setting.proofs.Set.{sizes-fit, name_set, link_set}
 use Rattle.setting.proofs.set_fact.Goals as goal
 
 pub set_name-requires : goal.set_name-requires
 set_name-requires c =
     let p = c.requires in
-    let q = subst (λ (z : Fact). Ranged c.args.items z) c.in-Name.is p.ranged in
-    let z = p.le_most_items in record {
+    let q = subst (λ (z : Fact). Ranged c.args.size.items z) c.in-Name.is p.ranged in
+    let z = sizes-fit c.args.s.now (bytes-known c.args.s.now c.slice_known-1.given) _ _ p.of_size in record {
       asked = record { register = p.of_size.register; read = p.of_size.read; holds = omega (arith, p.of_size.holds.0, q.0) };
       item_le_most_items = (omega (arith, q.0, z.0), q.1, omega (arith, q.0, z.2));
     }
@@ -17,10 +18,9 @@ set_name-requires c =
 pub set_link-requires : goal.set_link-requires
 set_link-requires c =
     let p = c.requires in
-    let q = subst (λ (z : Fact). Ranged c.args.items z) c.in-Link.is p.ranged in
-    let z = p.le_most_items in record {
+    let q = subst (λ (z : Fact). Ranged c.args.size.items z) c.in-Link.is p.ranged in record {
       of_size = p.of_size;
-      from_lt = (q.0, q.1, q.2, z.0, z.1, z.2);
+      in_range = q;
     }
 
 pub returns-in-Name : goal.returns-in-Name

@@ -1,137 +1,50 @@
+use Rattle.std.specs.Prelude.{Ok, Err}
 use mathlib.Core.Bool.{true, false}
+use mathlib.Core.Path.{refl}
 use native.Mathlib.Omega.{arith}
 use Rattle.fields.proofs.Known.{bytes-known}
-use Rattle.setting.proofs.Set.{Looked, stands-within, place-within, set-stays, set-goes, set_full, set-tight, set-comes}
+use Rattle.register.proofs.Holding.{is_read}
+use Rattle.setting.proofs.Set.{looked, sizes-fit, set-stays, set-goes, set_full, set-tight, set-comes}
 use Rattle.setting.proofs.set_link.Goals as goal
 
-pub returns-then-adds : goal.returns-then-adds
-returns-then-adds c =
-    let a = c.args in
-    let p = c.requires in
-    let w : Looked a.s.now a.from a.role a.to a.items a.links c.number_of-number.result c.place_of-k.result c.stands_at.result = record {
-      by = bytes-known a.s.now c.slice_known-1.given;
-      asked = p.of_size;
-      from = p.from_lt.0;
-      role = p.from_lt.1;
-      to = p.from_lt.2;
-      numbered = c.number_of-number.ensures;
-      place = c.place_of-k.ensures;
-      stands = c.stands_at.ensures;
-    } in
-    set-stays w true c.if-stands_at.true c.if-adds.true
+pub number_of-number-requires : goal.number_of-number-requires
+number_of-number-requires c =
+    let q = sizes-fit c.args.s.now (bytes-known c.args.s.now c.slice_known-1.given) _ _ c.requires.of_size in
+    (omega (arith, q.0, c.requires.in_range.0), omega (arith, c.requires.in_range.1), omega (arith, q.0, c.requires.in_range.2))
 
-pub remove-requires : goal.remove-requires
-remove-requires c =
-    let a = c.args in
-    let p = c.requires in
-    let w : Looked a.s.now a.from a.role a.to a.items a.links c.number_of-number.result c.place_of-k.result c.stands_at.result = record {
-      by = bytes-known a.s.now c.slice_known-1.given;
-      asked = p.of_size;
-      from = p.from_lt.0;
-      role = p.from_lt.1;
-      to = p.from_lt.2;
-      numbered = c.number_of-number.ensures;
-      place = c.place_of-k.ensures;
-      stands = c.stands_at.ensures;
-    } in record {
-      of_size = p.of_size;
-      k_lt_links = (stands-within w c.if-stands_at.true, p.from_lt.3, p.from_lt.4, p.from_lt.5);
-    }
-
-pub returns-then-stands_at : goal.returns-then-stands_at
-returns-then-stands_at c =
-    let a = c.args in
-    let p = c.requires in
-    let w : Looked a.s.now a.from a.role a.to a.items a.links c.number_of-number.result c.place_of-k.result c.stands_at.result = record {
-      by = bytes-known a.s.now c.slice_known-1.given;
-      asked = p.of_size;
-      from = p.from_lt.0;
-      role = p.from_lt.1;
-      to = p.from_lt.2;
-      numbered = c.number_of-number.ensures;
-      place = c.place_of-k.ensures;
-      stands = c.stands_at.ensures;
-    } in
-    set-goes w c.if-stands_at.true c.if-adds.false c.remove.ensures
+pub invariant_of-read : goal.invariant_of-read
+invariant_of-read c = record { read = is_read c.args.s.now _ _ (bytes-known c.args.s.now c.slice_known-1.given) c.requires.of_size }
 
 pub returns-then-not-adds : goal.returns-then-not-adds
 returns-then-not-adds c =
-    let a = c.args in
-    let p = c.requires in
-    let w : Looked a.s.now a.from a.role a.to a.items a.links c.number_of-number.result c.place_of-k.result c.stands_at.result = record {
-      by = bytes-known a.s.now c.slice_known-1.given;
-      asked = p.of_size;
-      from = p.from_lt.0;
-      role = p.from_lt.1;
-      to = p.from_lt.2;
-      numbered = c.number_of-number.ensures;
-      place = c.place_of-k.ensures;
-      stands = c.stands_at.ensures;
-    } in
-    set-stays w false c.if-stands_at.false c.if-not-adds.true
+    let w = looked (Ok c.in-Ok.k) (bytes-known c.args.s.now c.slice_known-1.given) c.requires.of_size c.requires.in_range c.number_of-number.ensures c.in-Ok.ensures in
+    set-goes w refl c.if-not-adds.true c.remove.ensures
+
+pub returns-else-not-adds : goal.returns-else-not-adds
+returns-else-not-adds c =
+    let w = looked (Ok c.in-Ok.k) (bytes-known c.args.s.now c.slice_known-1.given) c.requires.of_size c.requires.in_range c.number_of-number.ensures c.in-Ok.ensures in
+    set-stays w true refl c.if-not-adds.false
 
 pub returns-then-links-ge-MOST_LINKS : goal.returns-then-links-ge-MOST_LINKS
 returns-then-links-ge-MOST_LINKS c =
-    let a = c.args in
-    let p = c.requires in
-    let w : Looked a.s.now a.from a.role a.to a.items a.links c.number_of-number.result c.place_of-k.result c.stands_at.result = record {
-      by = bytes-known a.s.now c.slice_known-1.given;
-      asked = p.of_size;
-      from = p.from_lt.0;
-      role = p.from_lt.1;
-      to = p.from_lt.2;
-      numbered = c.number_of-number.ensures;
-      place = c.place_of-k.ensures;
-      stands = c.stands_at.ensures;
-    } in
-    set_full w c.if-stands_at.false c.if-not-adds.false c.if-links-ge-MOST_LINKS.true
+    let w = looked (Err c.in-Err.k) (bytes-known c.args.s.now c.slice_known-1.given) c.requires.of_size c.requires.in_range c.number_of-number.ensures c.in-Err.ensures in
+    set_full w refl c.if-adds.true c.if-links-ge-MOST_LINKS.true
+
+pub image_len-requires : goal.image_len-requires
+image_len-requires c =
+    let q = sizes-fit c.args.s.now (bytes-known c.args.s.now c.slice_known-1.given) _ _ c.requires.of_size in (q.0, omega (arith, c.if-links-ge-MOST_LINKS.false))
 
 pub returns-then-s-image_len : goal.returns-then-s-image_len
 returns-then-s-image_len c =
-    let a = c.args in
-    let p = c.requires in
-    let w : Looked a.s.now a.from a.role a.to a.items a.links c.number_of-number.result c.place_of-k.result c.stands_at.result = record {
-      by = bytes-known a.s.now c.slice_known-1.given;
-      asked = p.of_size;
-      from = p.from_lt.0;
-      role = p.from_lt.1;
-      to = p.from_lt.2;
-      numbered = c.number_of-number.ensures;
-      place = c.place_of-k.ensures;
-      stands = c.stands_at.ensures;
-    } in
-    set-tight w c.if-stands_at.false c.if-not-adds.false c.if-links-ge-MOST_LINKS.false (omega (arith, c.image_len.ensures, c.if-s-image_len.true))
+    let w = looked (Err c.in-Err.k) (bytes-known c.args.s.now c.slice_known-1.given) c.requires.of_size c.requires.in_range c.number_of-number.ensures c.in-Err.ensures in
+    set-tight w refl c.if-adds.true c.if-links-ge-MOST_LINKS.false (omega (arith, c.image_len.ensures, c.if-s-image_len.true))
 
-pub insert-requires : goal.insert-requires
-insert-requires c =
-    let a = c.args in
-    let p = c.requires in
-    let w : Looked a.s.now a.from a.role a.to a.items a.links c.number_of-number.result c.place_of-k.result c.stands_at.result = record {
-      by = bytes-known a.s.now c.slice_known-1.given;
-      asked = p.of_size;
-      from = p.from_lt.0;
-      role = p.from_lt.1;
-      to = p.from_lt.2;
-      numbered = c.number_of-number.ensures;
-      place = c.place_of-k.ensures;
-      stands = c.stands_at.ensures;
-    } in record {
-      of_size = p.of_size;
-      k_le_links = (place-within w, p.from_lt.3, c.if-links-ge-MOST_LINKS.false, omega (arith, c.image_len.ensures, c.if-s-image_len.false));
-    }
+pub returns-else-s-image_len : goal.returns-else-s-image_len
+returns-else-s-image_len c =
+    let w = looked (Err c.in-Err.k) (bytes-known c.args.s.now c.slice_known-1.given) c.requires.of_size c.requires.in_range c.number_of-number.ensures c.in-Err.ensures in
+    set-comes w refl c.if-adds.true c.if-links-ge-MOST_LINKS.false (omega (arith, c.image_len.ensures, c.if-s-image_len.false)) c.insert.ensures
 
-pub returns : goal.returns
-returns c =
-    let a = c.args in
-    let p = c.requires in
-    let w : Looked a.s.now a.from a.role a.to a.items a.links c.number_of-number.result c.place_of-k.result c.stands_at.result = record {
-      by = bytes-known a.s.now c.slice_known-1.given;
-      asked = p.of_size;
-      from = p.from_lt.0;
-      role = p.from_lt.1;
-      to = p.from_lt.2;
-      numbered = c.number_of-number.ensures;
-      place = c.place_of-k.ensures;
-      stands = c.stands_at.ensures;
-    } in
-    set-comes w c.if-stands_at.false c.if-not-adds.false c.if-links-ge-MOST_LINKS.false (omega (arith, c.image_len.ensures, c.if-s-image_len.false)) c.insert.ensures
+pub returns-else-adds : goal.returns-else-adds
+returns-else-adds c =
+    let w = looked (Err c.in-Err.k) (bytes-known c.args.s.now c.slice_known-1.given) c.requires.of_size c.requires.in_range c.number_of-number.ensures c.in-Err.ensures in
+    set-stays w false refl c.if-adds.false
