@@ -5,8 +5,11 @@ use mathlib.Core.List.{List, [], ◌∷◌, ◌++◌}
 use Prim.Native.Nat.{ℕ, zero, suc, ◌+◌, ◌*◌, ◌-◌, ◌≤◌, ◌<◌}
 use native.Mathlib.Omega.{arith}
 use native.Mathlib.Decide.{ℕ_discrete}
+use lib.Dec.{eqb}
 use lib.ListN.{length, get_or}
 use lib.Seq.{sets}
+use Rattle.std.specs.Int.{from_bool}
+use Rattle.meaning.proofs.Lists.{same, other}
 use Rattle.meaning.specs.Bytes.{bytes}
 use Rattle.meaning.specs.Writing.{node_at, nodes_from}
 use Rattle.lists.specs.Handed.{nodes_to}
@@ -42,15 +45,18 @@ pub ahead_none : (ns : List ℕ) (d e end : ℕ) → end ≤ e → ahead d (node
 unfolding ahead
 ahead_none ns d e end l = rw (nodes-end ns e end l) refl
 
-pub ahead_more : (ns : List ℕ) (d e end f r : ℕ) → e < end → f ≡ deep_at ns e → d < f → (f ≡ d + 1 → r ≡ 1) → (d + 1 < f → r ≡ 0)
-    → ahead d (nodes_to ns e end) ≡ r + ahead d (nodes_to ns (e + 1) end)
-ahead_more ns d e end f r l q h one nought = ap (ahead d) (nodes-next ns e end l) ∙ go (ℕ_discrete f (d + 1))
+-- a node is counted where it is one deeper
+pub ahead_more : (ns : List ℕ) (d e end f r : ℕ) → e < end → f ≡ deep_at ns e → d < f → r ≡ from_bool (eqb (f - 1) d)
+    → (ahead d (nodes_to ns e end) ≡ r + ahead d (nodes_to ns (e + 1) end)) × (r ≤ 1)
+ahead_more ns d e end f r l q h told = go (ℕ_discrete f (d + 1))
   where
-    go : Dec (f ≡ d + 1) → ahead d (node_at ns e ∷ nodes_to ns (e + 1) end) ≡ r + ahead d (nodes_to ns (e + 1) end)
-    go (yes y) = omega (arith, ahead-next d (node_at ns e) (nodes_to ns (e + 1) end) (omega (arith, q, y)), one y)
+    go : Dec (f ≡ d + 1) → (ahead d (nodes_to ns e end) ≡ r + ahead d (nodes_to ns (e + 1) end)) × (r ≤ 1)
+    go (yes y) =
+        let one : r ≡ 1 = told ∙ ap from_bool (same (f - 1) d (omega (arith, y))) in
+        (ap (ahead d) (nodes-next ns e end l) ∙ omega (arith, ahead-next d (node_at ns e) (nodes_to ns (e + 1) end) (omega (arith, q, y)), one), omega (arith, one))
     go (no n) =
-        let m : d + 1 < f = omega (arith, n, h) in
-        omega (arith, ahead-deep d (node_at ns e) (nodes_to ns (e + 1) end) (omega (arith, q, m)), nought m)
+        let nought : r ≡ 0 = told ∙ ap from_bool (other (f - 1) d (λ z. n (let y : f - 1 ≡ d = z in omega (arith, h)))) in
+        (ap (ahead d) (nodes-next ns e end l) ∙ omega (arith, ahead-deep d (node_at ns e) (nodes_to ns (e + 1) end) (omega (arith, q, n, h)), nought), omega (arith, nought))
 
 -- n are counted, and none is ahead any more
 pub ahead-all : (ns : List ℕ) (d k e end n : ℕ) → d ≡ deep_at ns k → n + ahead d (nodes_to ns e end) ≡ ahead d (nodes_to ns (k + 1) end)

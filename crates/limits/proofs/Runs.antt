@@ -26,22 +26,18 @@ left e end l = omega (arith, l)
 
 -- ---- counting those of a node
 
-pub run_more : (hs : List ℕ) (i e all h : ℕ) → e < all → h ≡ get_or hs (5 * e + 0) 0 → h ≡ i → run hs i e (all - e) ≡ suc (run hs i (e + 1) (all - (e + 1)))
+pub run_more : (hs : List ℕ) (i e all h : ℕ) → e < all → h ≡ get_or hs (5 * e) 0 → h ≡ i → run hs i e (all - e) ≡ suc (run hs i (e + 1) (all - (e + 1)))
 unfolding run
 run_more hs i e all h l q w =
     let n : suc e ≡ e + 1 = omega arith in
-    let z : 5 * e + 0 ≡ 5 * e = omega arith in
-    let o : get_or hs (5 * e) 0 ≡ i = sym (q ∙ ap (λ (y : ℕ). get_or hs y 0) z) ∙ w in
-    ap (run hs i e) (left e all l) ∙ ap (λ (b : Bool). cond b (suc (run hs i (suc e) (all - (e + 1)))) 0) (same (get_or hs (5 * e) 0) i o)
+    ap (run hs i e) (left e all l) ∙ ap (λ (b : Bool). cond b (suc (run hs i (suc e) (all - (e + 1)))) 0) (same (get_or hs (5 * e) 0) i (sym q ∙ w))
     ∙ ap (λ (y : ℕ). suc (run hs i y (all - (e + 1)))) n
 
-pub run-stop : (hs : List ℕ) (i e all h : ℕ) → e < all → h ≡ get_or hs (5 * e + 0) 0 → (h ≡ i → ⊥) → run hs i e (all - e) ≡ 0
+pub run-stop : (hs : List ℕ) (i e all h : ℕ) → e < all → h ≡ get_or hs (5 * e) 0 → (h ≡ i → ⊥) → run hs i e (all - e) ≡ 0
 unfolding run
 run-stop hs i e all h l q w =
-    let z : 5 * e + 0 ≡ 5 * e = omega arith in
-    let o : h ≡ get_or hs (5 * e) 0 = q ∙ ap (λ (y : ℕ). get_or hs y 0) z in
     ap (run hs i e) (left e all l)
-    ∙ ap (λ (b : Bool). cond b (suc (run hs i (suc e) (all - (e + 1)))) 0) (other (get_or hs (5 * e) 0) i (λ y. w (o ∙ y)))
+    ∙ ap (λ (b : Bool). cond b (suc (run hs i (suc e) (all - (e + 1)))) 0) (other (get_or hs (5 * e) 0) i (λ y. w (q ∙ y)))
 
 pub run_none : (hs : List ℕ) (i e all : ℕ) → all ≤ e → run hs i e (all - e) ≡ 0
 unfolding run

@@ -11,42 +11,31 @@ ghost use Rattle.meaning.specs.Writing.{inners_at, limit_at, limits_from, limit_
 ghost use Rattle.lists.specs.Handed.{nodes_to, One, Inner};
 ghost use Rattle.limits.specs.Flat.{ahead, fixed_at, run, after, Each, thresholds};
 
-// 1 where f is one deeper than d, 0 where it is deeper still.
-fn one_deeper(f: usize, d: usize) -> usize
-    requires { d < f }
-    ensures { (f ≡ d + 1 → result ≡ 1) × (d + 1 < f → result ≡ 0) × (result ≤ 1) }
-{
-    if f - 1 == d {
-        return 1;
-    }
-    0
-}
+use lists::{Handed, Limits, Nodes};
 
 // How many children the k-th node has, of those up to `end`: the nodes one deeper before the next that is not deeper.
-fn children(list: &[u64], k: usize, end: usize) -> usize
+fn children(list: &Nodes, k: usize, end: usize) -> usize
     requires { (k < end) × (3 * end ≤ length list.now) }
     ensures { result ≡ ahead (get_or list.now (3 * k + 1) 0) (nodes_to list.now (k + 1) end) }
 {
-    let d = lists::depth(list, k);
+    let d = list.depth(k);
     let mut n = 0;
-    let mut e = k + 1;
-    while e < end {
-        let f = lists::depth(list, e);
+    for e in k + 1..end {
+        let f = list.depth(e);
         if f <= d {
             return n;
         }
-        n += one_deeper(f, d);
-        e += 1;
+        n += usize::from(f - 1 == d);
     }
     n
 }
 
 // The ten bytes of the k-th node, in a list that goes up to `end`.
-pub fn put_node(list: &[u64], k: usize, end: usize, limits: usize, out: &mut [u8], at: usize)
+pub fn put_node(list: &Nodes, k: usize, end: usize, limits: usize, out: &mut [u8], at: usize)
     requires { (k < end) × (3 * end ≤ length list.now) × (end ≤ k + 64) × (limits < 256) × (at + 10 ≤ length out.old) }
     ensures { out.new ≡ sets out.old at (fixed_at list.now k end limits) }
 {
-    let names = lists::names(list, k);
+    let names = list.names(k);
     let n = children(list, k, end);
     fields::put(out, at, 8, names as usize);
     fields::put(out, at + 8, 1, limits);
@@ -54,87 +43,70 @@ pub fn put_node(list: &[u64], k: usize, end: usize, limits: usize, out: &mut [u8
 }
 
 // An inner list: its root, then each other node behind its role. Where it ends is answered.
-fn put_inner(list: &[u64], first: usize, end: usize, out: &mut [u8], at: usize) -> usize
+fn put_inner(list: &Nodes, first: usize, end: usize, out: &mut [u8], at: usize) -> usize
     requires { Inner list.now first end × (at + 11 * (end - first) ≤ length out.old + 1) }
     ensures result_value { result + 1 ≡ at + 11 * (end - first) }
     ensures out_after { out.new ≡ sets out.old at (concept_bytes (concept (nodes_to list.now first end))) }
 {
     put_node(list, first, end, 0, out, at);
-    let mut k = first + 1;
     let mut p = at + 10;
-    while k < end {
-        fields::put(out, p, 1, lists::role(list, k));
+    for k in first + 1..end {
+        fields::put(out, p, 1, list.role(k));
         put_node(list, k, end, 0, out, p + 1);
         p += 11;
-        k += 1;
     }
     p
 }
 
 // The j-th threshold, whose inner nodes begin at `first`. Where it ends is answered.
-fn put_limit(
-    limits: &[u64],
-    inner: &[u64],
-    j: usize,
-    first: usize,
-    out: &mut [u8],
-    at: usize,
-) -> usize
-    requires one { One limits.now inner.now j first × (limit_fits j (limit_at limits.now inner.now j first) ≡ good tt) }
-    requires j_in_bounds { at + 6 + 11 * inners_at limits.now j ≤ length out.old }
-    ensures value { result ≡ at + 6 + 11 * inners_at limits.now j }
-    ensures out_after { out.new ≡ sets out.old at (threshold_bytes (threshold (limit_at limits.now inner.now j first))) }
+fn put_limit(of: &Handed, j: usize, first: usize, out: &mut [u8], at: usize) -> usize
+    requires one { One of.now.limits of.now.inner j first × (limit_fits j (limit_at of.now.limits of.now.inner j first) ≡ good tt) }
+    requires j_in_bounds { at + 6 + 11 * inners_at of.now.limits j ≤ length out.old }
+    ensures value { result ≡ at + 6 + 11 * inners_at of.now.limits j }
+    ensures out_after { out.new ≡ sets out.old at (threshold_bytes (threshold (limit_at of.now.limits of.now.inner j first))) }
 {
-    let how = lists::part(limits, j, 1);
-    let p = lists::part(limits, j, 2);
-    let q = lists::part(limits, j, 3);
-    let n = lists::part(limits, j, 4);
-    fields::put(out, at, 1, how);
-    fields::put(out, at + 1, 2, p);
-    fields::put(out, at + 3, 2, q);
+    let n = of.limits.inners(j);
+    fields::put(out, at, 1, of.limits.how(j));
+    fields::put(out, at + 1, 2, of.limits.p(j));
+    fields::put(out, at + 3, 2, of.limits.q(j));
     fields::put(out, at + 5, 2, 11 * n - 1);
-    put_inner(inner, first, first + n, out, at + 7)
+    put_inner(&of.inner, first, first + n, out, at + 7)
 }
 
 // How many thresholds from the j-th on are of the i-th node, before one of another.
-pub fn own_count(limits: &[u64], i: usize, j: usize) -> usize
+pub fn own_count(limits: &Limits, i: usize, j: usize) -> usize
     requires { j ≤ length limits.now / 5 }
     ensures { result ≡ run limits.now i j (length limits.now / 5 - j) }
 {
-    let all = limits.len() / 5;
-    let mut e = j;
-    while e < all {
-        if lists::part(limits, e, 0) != i {
+    let all = limits.count();
+    for e in j..all {
+        if limits.owner(e) != i {
             return e - j;
         }
-        e += 1;
     }
-    e - j
+    all - j
 }
 
 // The thresholds from the j-th up to `end`, the inner nodes of which begin at `first`. Where those of the next begin is answered.
 pub fn put_limits(
-    limits: &[u64],
-    inner: &[u64],
+    of: &Handed,
     j: usize,
     end: usize,
     first: usize,
     out: &mut [u8],
     at: usize,
 ) -> usize
-    requires j_le_end { (j ≤ end) × Each limits.now inner.now j first (end - j) }
-    requires first_in_bounds { at + 6 * (end - j) + 11 * (after limits.now j first (end - j) - first) ≤ length out.old }
-    ensures value { result ≡ after limits.now j first (end - j) }
+    requires j_le_end { (j ≤ end) × Each of.now.limits of.now.inner j first (end - j) }
+    requires first_in_bounds { at + 6 * (end - j) + 11 * (after of.now.limits j first (end - j) - first) ≤ length out.old }
+    ensures value { result ≡ after of.now.limits j first (end - j) }
     ensures out_after { out.new ≡ sets out.old at
-        (thresholds_bytes (thresholds (limits_from limits.now inner.now j first (end - j)))) }
+        (thresholds_bytes (thresholds (limits_from of.now.limits of.now.inner j first (end - j)))) }
 {
-    let mut e = j;
     let mut k = first;
     let mut p = at;
-    while e < end {
-        p = put_limit(limits, inner, e, k, out, p);
-        k += lists::part(limits, e, 4);
-        e += 1;
+    for e in j..end {
+        p = put_limit(of, e, k, out, p);
+        k += of.limits.inners(e);
     }
     k
 }

@@ -7,7 +7,7 @@ use Prim.Native.Nat.{ℕ, suc, ◌+◌, ◌*◌, ◌-◌, ◌/◌, ◌≤◌, �
 use native.Mathlib.Omega.{arith}
 use lib.Dec.{T, eqb, eqb→eq}
 use lib.ListN.{length, get_or}
-use Rattle.meaning.specs.Lists.{go_on, form_tree, stand_at}
+use Rattle.meaning.specs.Lists.{Listed, go_on, form_tree, stand_at}
 use Rattle.meaning.specs.Writing.{nodes_from, nodes_in, inners_at, limit_at, limits_from, shared_out}
 use Rattle.meaning.proofs.Tests.{bool_eq, is-eqb}
 use Rattle.meaning.proofs.Reading.{not-below, below, at_most, not-le}
@@ -59,10 +59,6 @@ and-off false b e = refl
 
 off-and : (a b : Bool) → a ≡ false → (a && b) ≡ false
 off-and a b e = rw e refl
-
--- an inner list up to its end
-pub inner-to : (inner : List ℕ) (first count : ℕ) → nodes_to inner first (first + count) ≡ nodes_from inner first count
-inner-to inner first count = let e : first + count - first ≡ count = omega arith in ap (nodes_from inner first) e
 
 -- the thresholds from the j-th on stand, of m, with the inner nodes from `used` on, of all
 abbrev Standing : List ℕ → List ℕ → ℕ → ℕ → ℕ → ℕ → ℕ → ℕ → Bool
@@ -154,23 +150,23 @@ module _ {hs inner : List ℕ} {n before used j : ℕ} (w : Stood hs inner n bef
       pub stood-short : length inner / 3 - used < count → false ≡ StandingAll hs inner n
       stood-short h = standing-short hs inner n (length hs / 5) (length inner / 3) before used j l (omega (arith, c, h)) ∙ sym w.rest
 
-      formed : {t : Bool} → t ≡ form_tree (nodes_to inner used (used + count)) → form_tree (nodes_from inner used (inners_at hs j)) ≡ t
-      formed e = ap form_tree (sym (inner-to inner used (inners_at hs j))) ∙ ap (λ (z : ℕ). form_tree (nodes_to inner used (used + z))) (sym c) ∙ sym e
+      formed : {t : Bool} {xs : List (Listed ℕ)} → xs ≡ nodes_from inner used count → t ≡ form_tree xs → form_tree (nodes_from inner used (inners_at hs j)) ≡ t
+      formed p e = ap (λ (z : ℕ). form_tree (nodes_from inner used z)) (sym c) ∙ ap form_tree (sym p) ∙ sym e
 
-      pub stood-unformed : {t : Bool} → owner < n → before ≤ owner → t ≡ form_tree (nodes_to inner used (used + count)) → t ≡ false
+      pub stood-unformed : {t : Bool} {xs : List (Listed ℕ)} → owner < n → before ≤ owner → xs ≡ nodes_from inner used count → t ≡ form_tree xs → t ≡ false
           → false ≡ StandingAll hs inner n
-      stood-unformed h b e f =
-          standing-unformed hs inner n (length hs / 5) (length inner / 3) before used j l (omega (arith, its, h)) (omega (arith, its, b)) (formed e ∙ f)
+      stood-unformed h b p e f =
+          standing-unformed hs inner n (length hs / 5) (length inner / 3) before used j l (omega (arith, its, h)) (omega (arith, its, b)) (formed p e ∙ f)
           ∙ sym w.rest
 
-      pub stood-more : {t : Bool} → owner < n → before ≤ owner → count ≤ length inner / 3 - used → t ≡ form_tree (nodes_to inner used (used + count)) → t ≡ true
-          → Stood hs inner n owner (used + count) (j + 1)
-      stood-more h b s e f = record {
+      pub stood-more : {t : Bool} {xs : List (Listed ℕ)} → owner < n → before ≤ owner → count ≤ length inner / 3 - used → xs ≡ nodes_from inner used count
+          → t ≡ form_tree xs → t ≡ true → Stood hs inner n owner (used + count) (j + 1)
+      stood-more h b s p e f = record {
         here = omega arith;
         few = omega (arith, s, w.few);
         rest = w.rest
             ∙ standing-next hs inner n (length hs / 5) (length inner / 3) before used j l (omega (arith, its, h)) (omega (arith, its, b)) (omega (arith, c, s))
-            (formed e ∙ f)
+            (formed p e ∙ f)
             ∙ ap₂ (λ (y z : ℕ). Standing hs inner n (length hs / 5) (length inner / 3) y (used + z) (j + 1)) (sym its) (sym c);
       }
 

@@ -1,13 +1,16 @@
 -- Nodes and thresholds taken off the front of what is handed over, one at a time.
 -- Assumes nothing.
-use mathlib.Core.Path.{◌≡◌, refl, ap, ◌∙◌}
+use mathlib.Core.Path.{◌≡◌, refl, ap, ap₂, ◌∙◌}
 use mathlib.Core.Bool.{◌&&◌}
 use mathlib.Core.List.{List, [], ◌∷◌}
-use Prim.Native.Nat.{ℕ, zero, suc, ◌+◌, ◌-◌, ◌≤◌, ◌<◌}
+use Prim.Native.Nat.{ℕ, zero, suc, ◌+◌, ◌*◌, ◌-◌, ◌/◌, ◌≤◌, ◌<◌}
 use native.Mathlib.Omega.{arith}
 use lib.Dec.{eqb, leb}
-use lib.ListN.{length}
-use Rattle.meaning.specs.Writing.{node_at, nodes_from, inners_at, limit_at, limits_from, shared_out}
+use lib.ListN.{length, get_or, take, drop, length-drop}
+use lib.Seq.{length-take-le}
+use Rattle.std.proofs.lemmas.List.{get_or-take, get_or-drop}
+use Rattle.meaning.specs.Lists.{Listed}
+use Rattle.meaning.specs.Writing.{node_at, nodes_from, nodes_in, inners_at, limit_at, limits_from, shared_out}
 use Rattle.lists.specs.Handed.{nodes_to}
 
 -- ---- nodes
@@ -28,6 +31,35 @@ module _ (ns : List ℕ) where
   unfolding nodes_from
   nodes-many k zero = refl
   nodes-many k (suc n) = ap suc (nodes-many (suc k) n)
+
+-- nodes of a part of the numbers
+node-in : (s : List ℕ) (f n k : ℕ) → k < n → node_at (take (3 * n) (drop (3 * f) s)) k ≡ node_at s (f + k)
+node-in s f n k h =
+    let own = take (3 * n) (drop (3 * f) s) in
+    let one : (i j : ℕ) → i < 3 * n → 3 * f + i ≡ j → get_or own i 0 ≡ get_or s j 0 =
+    λ i j l e. get_or-take (3 * n) (drop (3 * f) s) i 0 l ∙ get_or-drop (3 * f) s i 0 ∙ ap (λ (z : ℕ). get_or s z 0) e in
+    let a : get_or own (3 * k) 0 ≡ get_or s (3 * (f + k)) 0 = one (3 * k) (3 * (f + k)) (omega arith) (omega arith) in
+    let b : get_or own (3 * k + 1) 0 ≡ get_or s (3 * (f + k) + 1) 0 = one (3 * k + 1) (3 * (f + k) + 1) (omega arith) (omega arith) in
+    let d : get_or own (3 * k + 2) 0 ≡ get_or s (3 * (f + k) + 2) 0 = one (3 * k + 2) (3 * (f + k) + 2) (omega arith) (omega arith) in
+    cc
+
+nodes-inside : (s : List ℕ) (f n k m : ℕ) → k + m ≤ n → nodes_from (take (3 * n) (drop (3 * f) s)) k m ≡ nodes_from s (f + k) m
+unfolding nodes_from
+nodes-inside s f n k zero h = refl
+nodes-inside s f n k (suc m) h =
+    let e : f + suc k ≡ suc (f + k) = omega arith in
+    ap₂ (λ (x : Listed ℕ) (xs : List (Listed ℕ)). x ∷ xs) (node-in s f n k (omega arith))
+    (nodes-inside s f n (suc k) m (omega arith) ∙ ap (λ (z : ℕ). nodes_from s z m) e)
+
+pub nodes-part : (s : List ℕ) (f n : ℕ) → 3 * (f + n) ≤ length s
+    → nodes_in (take (3 * (f + n) - 3 * f) (drop (3 * f) s)) ≡ nodes_from s f n
+nodes-part s f n h =
+    let own = take (3 * n) (drop (3 * f) s) in
+    let e : 3 * (f + n) - 3 * f ≡ 3 * n = omega arith in
+    let long : length own / 3 ≡ n = let l : length own ≡ 3 * n = length-take-le (3 * n) (drop (3 * f) s) (omega (arith, length-drop (3 * f) s)) in omega (arith, l) in
+    let z : f + 0 ≡ f = omega arith in
+    ap (λ (i : ℕ). nodes_in (take i (drop (3 * f) s))) e ∙ ap (nodes_from own 0) long ∙ nodes-inside s f n 0 n (omega arith)
+    ∙ ap (λ (i : ℕ). nodes_from s i n) z
 
 -- ---- thresholds, m of them from the first on
 

@@ -3,15 +3,11 @@
 use Rattle.std.specs.Prelude.{◌≡◌, List, ℕ, ◌+◌, ◌*◌, ◌-◌, ◌≤◌, T, length}
 use Rattle.meaning.specs.Refusal.{good}
 use Rattle.meaning.specs.Lists.{Listed, form_tree}
-use Rattle.meaning.specs.Writing.{nodes_from, inners_at, nodes_fit}
+use Rattle.meaning.specs.Writing.{nodes_from, nodes_in, inners_at, nodes_fit}
 
 -- the nodes from `first` up to `end`
 abbrev pub nodes_to : List ℕ → ℕ → ℕ → List (Listed ℕ)
 nodes_to list first end = nodes_from list first (end - first)
-
--- they stand in the list
-abbrev pub Stand : List ℕ → ℕ → ℕ → Type 0
-Stand list first end = (first ≤ end) × (3 * end ≤ length list)
 
 -- the j-th threshold has the inner nodes from the k-th on, and they form a tree
 pub record One (hs inner : List ℕ) (j k : ℕ) : Type 0 where
@@ -19,8 +15,7 @@ pub record One (hs inner : List ℕ) (j k : ℕ) : Type 0 where
   pub room : 3 * (k + inners_at hs j) ≤ length inner
   pub forms : T (form_tree (nodes_from inner k (inners_at hs j)))
 
--- a list that passes as an inner one: not empty, at most 64 nodes, a tree, and every test of a node
-pub record Inner (list : List ℕ) (first end : ℕ) : Type 0 where
-  pub stands : Stand list first end
-  pub forms : T (form_tree (nodes_to list first end))
-  pub fits : nodes_fit 0 (nodes_to list first end) ≡ good tt
+-- a list that passes as an inner one: a tree, and every test of a node
+pub record Inner (list : List ℕ) : Type 0 where
+  pub forms : T (form_tree (nodes_in list))
+  pub fits : nodes_fit 0 (nodes_in list) ≡ good tt

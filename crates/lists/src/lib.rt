@@ -5,14 +5,14 @@
 
 ghost use Rattle.std.specs.Prelude.{◌≡◌, ◌&&◌, ◌+◌, ◌*◌, ◌/◌, ◌%◌, ◌^◌, ◌≤◌, ◌<◌, ◌==◌, List, ℕ, length, get_or};
 ghost use Rattle.meaning.specs.Lists.{form_tree, stand_at, form};
-ghost use Rattle.meaning.specs.Writing.{inners_at, lists_in, limits_from, shared_out, whole};
-ghost use Rattle.lists.specs.Handed.{nodes_to, Stand};
+ghost use Rattle.meaning.specs.Writing.{nodes_from, nodes_in, inners_at, lists_in, limits_from, shared_out, whole};
 
 use std::marker::Model;
 
 // ---- the numbers of a list
 
 // Nodes, one after the other. In a clause they are their numbers.
+#[derive(Drop)]
 pub struct Nodes<'a> {
     numbers: &'a [u64],
 }
@@ -71,19 +71,31 @@ impl<'a> Nodes<'a> {
         numbers[3 * k + 2] as usize
     }
 
-    // The nodes from `first` up to `end` form a tree: the first stands at depth 0, each later one from 1 to one above the one before.
-    fn form_tree(&self, first: usize, end: usize) -> bool
-        requires { Stand self.now first end }
-        ensures { result ≡ form_tree (nodes_to self.now first end) }
+    // So many nodes from `first` on.
+    pub fn part(&self, first: usize, count: usize) -> Nodes<'a>
+        requires { 3 * (first + count) ≤ length self.now }
+        ensures nodes { nodes_in result ≡ nodes_from self.now first count }
+        ensures len { length result ≡ 3 * count }
     {
-        if end <= first {
+        let numbers = self.numbers;
+        Nodes {
+            numbers: &numbers[3 * first..3 * (first + count)],
+        }
+    }
+
+    // They form a tree: the first stands at depth 0, each later one from 1 to one above the one before.
+    fn form_tree(&self) -> bool
+        ensures { result ≡ form_tree (nodes_in self.now) }
+    {
+        let n = self.count();
+        if n == 0 {
             return false;
         }
-        if self.depth(first) != 0 {
+        if self.depth(0) != 0 {
             return false;
         }
         let mut before = 0;
-        for k in first + 1..end {
+        for k in 1..n {
             let d = self.depth(k);
             if d < 1 {
                 return false;
@@ -98,6 +110,7 @@ impl<'a> Nodes<'a> {
 }
 
 // Thresholds, one after the other. In a clause they are their numbers.
+#[derive(Drop)]
 pub struct Limits<'a> {
     numbers: &'a [u64],
 }
@@ -176,6 +189,7 @@ impl<'a> Limits<'a> {
 // ---- number 22
 
 // All that is handed over: nodes, thresholds, and the inner nodes of all thresholds.
+#[derive(Drop)]
 pub struct Handed<'a> {
     pub nodes: Nodes<'a>,
     pub limits: Limits<'a>,
@@ -214,7 +228,7 @@ impl<'a> Handed<'a> {
             if all - used < count {
                 return false;
             }
-            if !self.inner.form_tree(used, used + count) {
+            if !self.inner.part(used, count).form_tree() {
                 return false;
             }
             before = owner;
@@ -224,7 +238,7 @@ impl<'a> Handed<'a> {
     }
 
     // The numbers go into whole nodes and thresholds, and these form a requirement.
-    #[tactic(auto, using(crate::proofs::Forms::nodes_whole, crate::proofs::Forms::nodes_count), unfolding(meaning::specs::Writing::whole, meaning::specs::Lists::form))]
+    #[tactic(auto, using(crate::proofs::Forms::nodes_count), unfolding(meaning::specs::Writing::whole, meaning::specs::Lists::form))]
     pub fn form(&self) -> bool
         ensures { result ≡ (whole self.now.nodes self.now.limits self.now.inner
             && form (lists_in self.now.nodes self.now.limits self.now.inner)) }
@@ -238,7 +252,7 @@ impl<'a> Handed<'a> {
         if !self.inner.is_whole() {
             return false;
         }
-        if !self.nodes.form_tree(0, self.nodes.count()) {
+        if !self.nodes.form_tree() {
             return false;
         }
         self.stand()

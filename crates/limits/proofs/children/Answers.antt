@@ -4,30 +4,17 @@ use native.Mathlib.Omega.{arith}
 use Rattle.limits.proofs.Nodes.{ahead-stop, ahead_none, ahead_more, ahead-all}
 use Rattle.limits.proofs.children.Goals as goal
 
-pub loop-e-init : goal.loop-e-init
-loop-e-init c =
-    (omega arith, omega arith, omega arith)
-
 pub returns-then-f-d : goal.returns-then-f-d
 returns-then-f-d c =
     let list = c.args.list.now in
-    ahead-all list _ _ _ _ _ c.depth-d.ensures c.loop-e.invariant.2
-    (ahead-stop list _ _ _ _ c.loop-e-test.true c.depth-f.ensures c.if-f-d.true)
+    ahead-all list _ _ _ _ _ c.depth-d.ensures c.loop-e.invariant.1 (ahead-stop list _ _ _ _ c.loop-e-test.true c.depth-f.ensures c.if-f-d.true)
 
 pub loop-e-preserved : goal.loop-e-preserved
 loop-e-preserved c =
-    let list = c.args.list.now in
-    let w = c.one_deeper-n.ensures in (
-      omega arith,
-      omega (arith, w.2, c.loop-e.invariant.1),
-      omega (
-        arith,
-        c.loop-e.invariant.2,
-        ahead_more list _ _ _ _ _ c.loop-e-test.true c.depth-f.ensures c.if-f-d.false w.0 w.1,
-      ),
-    )
+    let more = ahead_more c.args.list.now _ _ _ _ _ c.loop-e-test.true c.depth-f.ensures c.if-f-d.false c.from-n.ensures in
+    (omega (arith, c.loop-e.invariant.0, more.1), omega (arith, c.loop-e.invariant.1, more.0))
 
 pub returns : goal.returns
 returns c =
     let list = c.args.list.now in
-    ahead-all list _ _ _ _ _ c.depth-d.ensures c.loop-e.invariant.2 (ahead_none list _ _ _ c.loop-e-test.false)
+    ahead-all list _ _ _ _ _ c.depth-d.ensures c.loop-e.invariant.1 (ahead_none list _ _ _ c.loop-e-test.false)

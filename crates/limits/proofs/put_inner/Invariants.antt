@@ -10,9 +10,5 @@ use Rattle.limits.proofs.put_inner.Given as goal
 
 abbrev pub invariant-loop-k : goal.invariant-loop-k
 invariant-loop-k l =
-    (l.first < l.k) × (l.k ≤ l.end) × (l.p + 1 ≡ l.at + 11 * (l.k - l.first)) × (length l.out ≡ length l.initial.out)
+    (l.p + 1 ≡ l.at + 11 * (l.k - l.first)) × (length l.out ≡ length l.initial.out)
     × Put l.initial.out l.out (l.at + 10) l.p (plain_bytes (nodes_to l.list (l.first + 1) l.end)) (plain_bytes (nodes_to l.list l.k l.end))
-
-abbrev pub decreases-loop-k : goal.decreases-loop-k
-decreases-loop-k l =
-    l.end - l.k

@@ -11,10 +11,6 @@ use Rattle.limits.proofs.put_limits.Given as goal
 
 abbrev pub invariant-loop-e : goal.invariant-loop-e
 invariant-loop-e l =
-    (l.j ≤ l.e) × (l.e ≤ l.end) × (l.first ≤ l.k) × (l.p ≡ l.at + 6 * (l.e - l.j) + 11 * (l.k - l.first)) × (length l.out ≡ length l.initial.out)
-    × (after l.limits l.j l.first (l.end - l.j) ≡ after l.limits l.e l.k (l.end - l.e)) × Each l.limits l.inner l.e l.k (l.end - l.e)
-    × Put l.initial.out l.out l.at l.p (limits_bytes (limits_from l.limits l.inner l.j l.first (l.end - l.j))) (limits_bytes (limits_from l.limits l.inner l.e l.k (l.end - l.e)))
-
-abbrev pub decreases-loop-e : goal.decreases-loop-e
-decreases-loop-e l =
-    l.end - l.e
+    (l.first ≤ l.k) × (l.p ≡ l.at + 6 * (l.e - l.j) + 11 * (l.k - l.first)) × (length l.out ≡ length l.initial.out)
+    × (after l.of.limits l.j l.first (l.end - l.j) ≡ after l.of.limits l.e l.k (l.end - l.e)) × Each l.of.limits l.of.inner l.e l.k (l.end - l.e)
+    × Put l.initial.out l.out l.at l.p (limits_bytes (limits_from l.of.limits l.of.inner l.j l.first (l.end - l.j))) (limits_bytes (limits_from l.of.limits l.of.inner l.e l.k (l.end - l.e)))

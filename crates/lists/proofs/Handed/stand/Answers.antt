@@ -18,13 +18,13 @@ returns-then-all-used c =
 
 pub returns-then-not-form_tree : goal.returns-then-not-form_tree
 returns-then-not-form_tree c =
-    stood-unformed c.loop-j.invariant (omega arith) c.owner-owner.ensures c.inners-count.ensures (omega arith) c.if-owner-before.false c.form_tree.ensures
+    stood-unformed c.loop-j.invariant (omega arith) c.owner-owner.ensures c.inners-count.ensures (omega arith) c.if-owner-before.false c.part.ensures.nodes c.form_tree.ensures
     c.if-not-form_tree.true
 
 pub loop-j-preserved : goal.loop-j-preserved
 loop-j-preserved c =
     stood-more c.loop-j.invariant (omega arith) c.owner-owner.ensures c.inners-count.ensures (omega arith) c.if-owner-before.false (omega arith)
-    c.form_tree.ensures c.if-not-form_tree.false
+    c.part.ensures.nodes c.form_tree.ensures c.if-not-form_tree.false
 
 pub returns : goal.returns
 returns c =
