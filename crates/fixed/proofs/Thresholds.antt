@@ -197,11 +197,7 @@ module _ (s : List ℕ) (end owner p n : ℕ) (ps : List Part) where
 
 -- ---- the comparison, p and q as code tests them
 
-module _ (s : List ℕ) (p x y n : ℕ) (ex : x ≡ number s (p + 1) 2) (ey : y ≡ number s (p + 3) 2) (is : n ≡ wrong_with x y) where
-  pub wrong-here : n ≡ wrong_with (number s (p + 1) 2) (number s (p + 3) 2)
-  wrong-here = rw (ex, ey) at is
-
-  pub rule-kept : number s p 1 ≤ 3 → n ≡ 0 → lawful_at s p ≡ true
-  rule-kept small z =
-      let ok = lawful (number s (p + 1) 2) (number s (p + 3) 2) in
-      ap (λ (b : Bool). b && ok) (at_most (number s p 1) 3 small) ∙ is_true ok (of-not ok (found_none n _ _ wrong-here z))
+pub rule-kept : (s : List ℕ) (p : ℕ) → number s p 1 ≤ 3 → wrong_with (number s (p + 1) 2) (number s (p + 3) 2) ≡ 0 → lawful_at s p ≡ true
+rule-kept s p small z =
+    let ok = lawful (number s (p + 1) 2) (number s (p + 3) 2) in
+    ap (λ (b : Bool). b && ok) (at_most (number s p 1) 3 small) ∙ is_true ok (of-not ok (found_none 0 _ _ (sym z) refl))

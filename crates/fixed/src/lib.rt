@@ -1,162 +1,114 @@
 // The fixed fields of a node, an edge and a threshold, each with the tests that the document makes before anything behind them is read.
 #![tactic(auto)]
 
-ghost use Rattle.std.specs.Prelude.{◌≡◌, ◌&&◌, ◌+◌, ◌<◌, ltb};
+ghost use Rattle.std.specs.Prelude.{◌≡◌, ◌+◌, ◌≤◌, ◌<◌, length};
 ghost use Rattle.meaning.specs.Message.{fault_place};
+ghost use Rattle.meaning.specs.Rules.{number_of};
 ghost use Rattle.fixed.specs.Spots.{Here};
-ghost use Rattle.fixed.specs.Fixed.{node_cut, threshold_cut, NodeFixed, EdgeFixed, ThresholdFixed};
+ghost use Rattle.fixed.specs.Fixed.{node_cut, threshold_cut, NodeFixed, EdgeFixed, FractionFixed, ThresholdFixed};
 
-// A node's names, and how many thresholds and children it has; or the number and place of a fault.
-#[derive(Drop)]
-pub enum NodeFields {
-    Good {
-        names: u64,
-        thresholds: usize,
-        children: usize,
-    },
-    Refused {
-        number: usize,
-        place: usize,
-    },
-}
+use meaning::{Fault, Rule};
 
-// The role of an edge.
-#[derive(Drop)]
-pub enum EdgeFields {
-    Good { role: usize },
-    Refused { number: usize, place: usize },
-}
-
-// Where the inner concept of a threshold has to end.
-#[derive(Drop)]
-pub enum ThresholdFields {
-    Good { stop: usize },
-    Refused { number: usize, place: usize },
+// A node's names, and how many thresholds and children it has.
+#[derive(Clone, Copy, Debug, PartialEq, Eq)]
+pub struct NodeFields {
+    pub names: u64,
+    pub thresholds: usize,
+    pub children: usize,
 }
 
 // At a node: 1, 9, 10, 11. It is the n-th of its tree, and there are so many levels left.
-pub fn node(s: &[u8], end: usize, at: usize, left: usize, inner: bool, n: usize) -> NodeFields
+pub fn node(
+    s: &[u8],
+    end: usize,
+    at: usize,
+    left: usize,
+    inner: bool,
+    n: usize,
+) -> Result<NodeFields, Fault>
     requires { Here s.now end at }
     ensures { NodeFixed inner s.now end left at n result }
 {
     if end - at < 10 {
-        return NodeFields::Refused {
-            number: 1,
-            place: node_cut(end - at, at),
-        };
+        return Err(Rule::CutShort.at(node_cut(end - at, at)));
     }
     if left == 0 {
-        return NodeFields::Refused {
-            number: 9,
-            place: at,
-        };
+        return Err(Rule::TooDeep.at(at));
     }
     if meaning::MOST_NODES <= n {
-        return NodeFields::Refused {
-            number: 10,
-            place: at,
-        };
+        return Err(Rule::TooManyNodes.at(at));
     }
     let thresholds = fields::one(s, at + 8);
-    if forbidden(inner, thresholds) {
-        return NodeFields::Refused {
-            number: 11,
-            place: at + 8,
-        };
+    if inner && 0 < thresholds {
+        return Err(Rule::NotPlain.at(at + 8));
     }
-    NodeFields::Good {
+    Ok(NodeFields {
         names: fields::eight(s, at),
         thresholds,
         children: fields::one(s, at + 9),
-    }
+    })
 }
 
-// At an edge: 1, 7.
-pub fn edge(s: &[u8], end: usize, at: usize) -> EdgeFields
+// At an edge: 1, 7. The role of the edge.
+pub fn edge(s: &[u8], end: usize, at: usize) -> Result<usize, Fault>
     requires { Here s.now end at }
     ensures { EdgeFixed s.now end at result }
 {
     if end - at < 1 {
-        return EdgeFields::Refused {
-            number: 1,
-            place: at,
-        };
+        return Err(Rule::CutShort.at(at));
     }
     let role = fields::one(s, at);
     if meaning::MOST_ROLE < role {
-        return EdgeFields::Refused {
-            number: 7,
-            place: at,
-        };
+        return Err(Rule::RoleAbove.at(at));
     }
-    EdgeFields::Good { role }
+    Ok(role)
 }
 
 // At a threshold: 12, 1, 13, what is wrong with its fraction, 1 (inner length). There are so many thresholds before it.
-pub fn threshold(s: &[u8], end: usize, at: usize, parts: usize) -> ThresholdFields
+// Where its inner concept has to end.
+pub fn threshold(s: &[u8], end: usize, at: usize, parts: usize) -> Result<usize, Fault>
     requires { Here s.now end at }
     ensures { ThresholdFixed s.now end at parts result }
 {
     if meaning::MOST_THRESHOLDS <= parts {
-        return ThresholdFields::Refused {
-            number: 12,
-            place: at,
-        };
+        return Err(Rule::TooManyThresholds.at(at));
     }
     if end - at < 5 {
-        return ThresholdFields::Refused {
-            number: 1,
-            place: threshold_cut(end - at, at),
-        };
+        return Err(Rule::CutShort.at(threshold_cut(end - at, at)));
     }
     if 3 < fields::one(s, at) {
-        return ThresholdFields::Refused {
-            number: 13,
-            place: at,
-        };
+        return Err(Rule::NoComparison.at(at));
     }
-    let number = fractions::wrong(fields::two(s, at + 1), fields::two(s, at + 3));
-    if number != 0 {
-        return ThresholdFields::Refused {
-            number,
-            place: fault_place(at, number),
-        };
-    }
+    fraction(s, at)?;
     if end - at < 7 {
-        return ThresholdFields::Refused {
-            number: 1,
-            place: at + 5,
-        };
+        return Err(Rule::CutShort.at(at + 5));
     }
     let len = fields::two(s, at + 5);
     if end - at - 7 < len {
-        return ThresholdFields::Refused {
-            number: 1,
-            place: at + 5,
-        };
+        return Err(Rule::CutShort.at(at + 5));
     }
-    ThresholdFields::Good { stop: at + 7 + len }
+    Ok(at + 7 + len)
 }
 
-// Where what is wrong with the fraction of a threshold stands: 23 at its q, 24 and 25 at its p.
-fn fault_place(at: usize, number: usize) -> usize
+// What is wrong with the fraction of the threshold at a place.
+fn fraction(s: &[u8], at: usize) -> Result<(), Fault>
+    requires { at + 5 ≤ length s.now }
+    ensures { FractionFixed s.now at result }
+{
+    fractions::wrong(fields::two(s, at + 1), fields::two(s, at + 3)).map_err(|rule| rule.at(
+        fault_place(at, rule),
+    ))
+}
+
+// Where what is wrong with the fraction of a threshold stands: its denominator at its q, anything else at its p.
+fn fault_place(at: usize, rule: Rule) -> usize
     requires { at + 3 < 18446744073709551616 }
-    ensures { result ≡ fault_place at number }
+    ensures { result ≡ fault_place at (number_of rule) }
 {
-    if number == 23 {
-        return at + 3;
+    match rule {
+        Rule::DenominatorOut => at + 3,
+        _ => at + 1,
     }
-    at + 1
-}
-
-// Whether a node of an inner concept has thresholds.
-fn forbidden(inner: bool, count: usize) -> bool
-    ensures { result ≡ (inner && ltb 0 count) }
-{
-    if inner {
-        return 0 < count;
-    }
-    false
 }
 
 // Of a node only `room` bytes stand before the end: the first field that does not fit whole.

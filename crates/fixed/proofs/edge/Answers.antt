@@ -10,11 +10,11 @@ pub returns-then-end-at-lt1 : goal.returns-then-end-at-lt1
 returns-then-end-at-lt1 c =
     let a = c.args in
     let h : a.end < a.at + 1 = omega (arith, c.if-end-at-lt1.true, c.requires.before) in
-    λ inner left k n ps l. children-cut inner a.s.now a.end a.at n ps left k l h
+    λ inner left k n ps l. rw c.at.ensures (children-cut inner a.s.now a.end a.at n ps left k l h)
 
 pub returns-then-role-gt-MOST_ROLE : goal.returns-then-role-gt-MOST_ROLE
 returns-then-role-gt-MOST_ROLE c =
     let a = c.args in
     let fits : a.at + 1 ≤ a.end = omega (arith, c.if-end-at-lt1.false, c.requires.before) in
     let above : 31 < number a.s.now a.at 1 = omega (arith, c.if-role-gt-MOST_ROLE.true, c.one-role.ensures.value) in
-    λ inner left k n ps l. children-role inner a.s.now a.end a.at n ps left k l fits above
+    λ inner left k n ps l. rw c.at-then-role-gt-MOST_ROLE.ensures (children-role inner a.s.now a.end a.at n ps left k l fits above)

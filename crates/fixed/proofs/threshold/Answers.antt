@@ -1,28 +1,27 @@
 -- `fixed::threshold` meets its contract: 12, 1, 13, what is wrong with its fraction, and 1, as the reader of a threshold gives them, and where its inner
 -- concept ends.
 -- Assumes nothing.
-use mathlib.Core.Path.{sym, ap, ◌∙◌}
+use mathlib.Core.Path.{refl, sym, ap, ◌∙◌}
 use Prim.Native.Nat.{ℕ, ◌+◌, ◌-◌, ◌≤◌, ◌<◌}
 use native.Mathlib.Omega.{arith}
-use Rattle.meaning.specs.declared.Side.TheVariants.{Requirement as requirement}
-use Rattle.meaning.specs.Refusal.{refused, at}
+use Rattle.meaning.specs.Refusal.{refused}
 use Rattle.meaning.specs.Bytes.{number}
 use Rattle.fixed.proofs.Thresholds.{threshold-many, threshold-cut-end, threshold-how, threshold-fraction, threshold-length-cut, threshold-past}
-use Rattle.fixed.proofs.Thresholds.{wrong-here, rule-kept}
+use Rattle.fixed.proofs.Thresholds.{rule-kept}
+use Rattle.std.proofs.lemmas.Result.{err_from_is_err_and}
 use Rattle.fixed.proofs.threshold.Goals as goal
 
 pub returns-then-parts-ge-MOST_THRESHOLDS : goal.returns-then-parts-ge-MOST_THRESHOLDS
 returns-then-parts-ge-MOST_THRESHOLDS c =
     let a = c.args in
-    λ owner n ps l. threshold-many a.s.now a.end owner a.at n ps (omega (arith, l, c.if-parts-ge-MOST_THRESHOLDS.true))
+    λ owner n ps l. rw c.at.ensures (threshold-many a.s.now a.end owner a.at n ps (omega (arith, l, c.if-parts-ge-MOST_THRESHOLDS.true)))
 
 pub returns-then-end-at-lt5 : goal.returns-then-end-at-lt5
 returns-then-end-at-lt5 c =
     let a = c.args in
     let room : a.parts < 16 = c.if-parts-ge-MOST_THRESHOLDS.false in
     let cut : a.end - a.at < 5 = c.if-end-at-lt5.true in
-    let place = ap (λ (q : ℕ). refused (at requirement 1 q)) (sym c.threshold_cut.ensures) in
-    λ owner n ps l. (threshold-cut-end a.s.now a.end owner a.at n ps (omega (arith, l)) c.requires.before cut ∙ place)
+    λ owner n ps l. rw (c.at-then-end-at-lt5.ensures, c.threshold_cut.ensures) (threshold-cut-end a.s.now a.end owner a.at n ps (omega (arith, l)) c.requires.before cut)
 
 pub returns-then-one-gt3 : goal.returns-then-one-gt3
 returns-then-one-gt3 c =
@@ -30,17 +29,17 @@ returns-then-one-gt3 c =
     let room : a.parts < 16 = c.if-parts-ge-MOST_THRESHOLDS.false in
     let fits : a.at + 5 ≤ a.end = omega (arith, c.if-end-at-lt5.false, c.requires.before) in
     let above : 3 < number a.s.now a.at 1 = omega (arith, c.if-one-gt3.true, c.one.ensures.value) in
-    λ owner n ps l. threshold-how a.s.now a.end owner a.at n ps (omega (arith, l)) fits above
+    λ owner n ps l. rw c.at-then-one-gt3.ensures (threshold-how a.s.now a.end owner a.at n ps (omega (arith, l)) fits above)
 
-pub returns-then-number-ne0 : goal.returns-then-number-ne0
-returns-then-number-ne0 c =
+pub returns-in_err-fraction : goal.returns-in_err-fraction
+returns-in_err-fraction c =
     let a = c.args in
     let room : a.parts < 16 = c.if-parts-ge-MOST_THRESHOLDS.false in
     let fits : a.at + 5 ≤ a.end = omega (arith, c.if-end-at-lt5.false, c.requires.before) in
     let compared : number a.s.now a.at 1 ≤ 3 = omega (arith, c.if-one-gt3.false, c.one.ensures.value) in
-    let found = wrong-here _ _ _ _ _ c.two.ensures.value c.two-2.ensures.value c.wrong-number.ensures in
-    λ owner n ps l. (threshold-fraction a.s.now a.end owner a.at n ps (omega (arith, l, room)) fits compared
-    c.wrong-number.result found c.if-number-ne0.true ∙ ap (λ (q : ℕ). refused (at requirement c.wrong-number.result q)) (sym c.fault_place.ensures))
+    let w = c.in_err-fraction.ensures in
+    let p = err_from_is_err_and c.from_residual.result c.from_residual.ensures.1 in
+    rw (p.1, p.2) (λ owner n ps l. threshold-fraction a.s.now a.end owner a.at n ps (omega (arith, l, room)) fits compared _ refl w.0 ∙ ap refused (sym w.1))
 
 pub returns-then-end-at-lt7 : goal.returns-then-end-at-lt7
 returns-then-end-at-lt7 c =
@@ -48,9 +47,9 @@ returns-then-end-at-lt7 c =
     let room : a.parts < 16 = c.if-parts-ge-MOST_THRESHOLDS.false in
     let fits : a.at + 5 ≤ a.end = omega (arith, c.if-end-at-lt5.false, c.requires.before) in
     let compared : number a.s.now a.at 1 ≤ 3 = omega (arith, c.if-one-gt3.false, c.one.ensures.value) in
-    let rule = rule-kept _ _ _ _ _ c.two.ensures.value c.two-2.ensures.value c.wrong-number.ensures compared c.if-number-ne0.false in
+    let rule = rule-kept a.s.now a.at compared c.in_ok-fraction.ensures in
     let cut : a.end < a.at + 7 = omega (arith, c.if-end-at-lt7.true, c.requires.before) in
-    λ owner n ps l. threshold-length-cut a.s.now a.end owner a.at n ps (omega (arith, l, room)) fits rule cut
+    λ owner n ps l. rw c.at-then-end-at-lt7.ensures (threshold-length-cut a.s.now a.end owner a.at n ps (omega (arith, l, room)) fits rule cut)
 
 pub returns-then-end-at : goal.returns-then-end-at
 returns-then-end-at c =
@@ -58,10 +57,10 @@ returns-then-end-at c =
     let room : a.parts < 16 = c.if-parts-ge-MOST_THRESHOLDS.false in
     let fits : a.at + 5 ≤ a.end = omega (arith, c.if-end-at-lt5.false, c.requires.before) in
     let compared : number a.s.now a.at 1 ≤ 3 = omega (arith, c.if-one-gt3.false, c.one.ensures.value) in
-    let rule = rule-kept _ _ _ _ _ c.two.ensures.value c.two-2.ensures.value c.wrong-number.ensures compared c.if-number-ne0.false in
+    let rule = rule-kept a.s.now a.at compared c.in_ok-fraction.ensures in
     let long : a.at + 7 ≤ a.end = omega (arith, c.if-end-at-lt7.false, c.requires.before) in
     let past : a.end < a.at + 7 + number a.s.now (a.at + 5) 2 = omega (arith, c.if-end-at.true, c.two-len.ensures.value, long) in
-    λ owner n ps l. threshold-past a.s.now a.end owner a.at n ps (omega (arith, l, room)) fits rule long past
+    λ owner n ps l. rw c.at-then-end-at.ensures (threshold-past a.s.now a.end owner a.at n ps (omega (arith, l, room)) fits rule long past)
 
 pub returns : goal.returns
 returns c =
@@ -69,7 +68,7 @@ returns c =
     let room : a.parts < 16 = c.if-parts-ge-MOST_THRESHOLDS.false in
     let fits : a.at + 5 ≤ a.end = omega (arith, c.if-end-at-lt5.false, c.requires.before) in
     let compared : number a.s.now a.at 1 ≤ 3 = omega (arith, c.if-one-gt3.false, c.one.ensures.value) in
-    let rule = rule-kept _ _ _ _ _ c.two.ensures.value c.two-2.ensures.value c.wrong-number.ensures compared c.if-number-ne0.false in
+    let rule = rule-kept a.s.now a.at compared c.in_ok-fraction.ensures in
     let long : a.at + 7 ≤ a.end = omega (arith, c.if-end-at-lt7.false, c.requires.before) in
     record {
       room = room;
