@@ -1,10 +1,12 @@
 -- The index of where each item's links begin: from where its last one ends, and from what stands before; and its last place.
 -- Assumes nothing.
 use mathlib.Core.Path.{◌≡◌, refl, sym, ap, ◌∙◌, subst}
+use mathlib.Core.Bool.{Bool, true, false, not}
 use mathlib.Core.List.{List}
 use Prim.Native.Nat.{ℕ, zero, suc, ◌+◌, ◌-◌, ◌≤◌, ◌<◌, max}
 use native.Mathlib.Decide.{ℕ_discrete}
 use native.Mathlib.Omega.{arith}
+use mir.Val.{bool_byte}
 use lib.ListN.{length, get_or, set, length-set}
 use lib.Seq.{get_or-set_same, get_or-set_other}
 use Rattle.meaning.specs.Bytes.{Bytes}
@@ -142,3 +144,8 @@ module _ (ls : List Link) (items : ℕ) (mid : List ℕ) (v : ℕ) (long : lengt
 
   pub flag-there : get_or (set mid 513 v) 513 0 ≡ 0 → v ≡ 0
   flag-there e = sym (get_or-set_same mid 513 v 0 (omega (arith, long))) ∙ e
+
+-- what is noted of a test: 0 where it says yes
+pub noted-yes : (b : Bool) → bool_byte (not b) ≡ 0 → b ≡ true
+noted-yes true e = refl
+noted-yes false e = absurd (omega (arith, e))

@@ -1,5 +1,6 @@
 pub mod Digits
 pub mod Members
+pub mod Sieve
 pub mod Empty
 pub mod All
 pub mod Spans
@@ -8,5 +9,6 @@ pub mod Runs
 pub mod Index
 pub mod Spreading
 pub mod Walked
+pub mod Judging
 pub mod Asked
 pub mod Use

@@ -20,7 +20,8 @@ use Rattle.meaning.proofs.SessionNames.{with-has, has-none}
 use Rattle.meaning.proofs.Tests.{true-false}
 use Rattle.meaning.proofs.Links.{except-in}
 use Rattle.graph.specs.Walked.{walked}
-use Rattle.graph.specs.Sets.{in_set, Among, Next, With, Without, Gathered}
+use Rattle.std.specs.Prelude.{Option, Some, None}
+use Rattle.graph.specs.Sets.{in_set, Among, Next, Found, With, Without, Gathered}
 use Rattle.graph.proofs.Digits.{has-shift, has-high, has-or, has-bit, trailing_below, trailing_at, trailing-some, ones_below}
 use Rattle.graph.specs.Judged.{spanned, end_no, Opens, Parted}
 use Rattle.graph.proofs.Spans.{spanned-found, spanned-member}
@@ -125,7 +126,7 @@ module _ (set : List ℕ) (w m rest : ℕ) (h : m < 64) (e : rest ≡ get_or set
             let off = has-high 64 (get_or set w 0) (m + t) fits (omega (arith, l)) in
             absurd (true-false (trailing_at 64 rest found) (ap (λ (z : ℕ). has z t) e ∙ has-shift (get_or set w 0) m t ∙ off))
 
-    pub next-left : Next set (w * 64 + m) (w * 64 + m + count_trailing_zeros 64 rest)
+    next-left : Next set (w * 64 + m) (w * 64 + m + count_trailing_zeros 64 rest)
     next-left = record {
       behind = omega arith;
       within = omega (arith, low);
@@ -133,6 +134,9 @@ module _ (set : List ℕ) (w m rest : ℕ) (h : m < 64) (e : rest ≡ get_or set
           ap (in_set set) (let y : x ≡ w * 64 + m + j = omega arith in y) ∙ left_at j (omega (arith, low)) ∙ trailing_below 64 rest j (omega arith);
       member = λ l. left_at t low ∙ trailing_at 64 rest found;
     }
+
+    pub found_left : Found set (w * 64 + m) (Some (w * 64 + m + count_trailing_zeros 64 rest))
+    found_left = (next-left, omega (arith, low))
 
 pub next-from : (set : List ℕ) (a b r : ℕ) → a ≤ b → ((x : ℕ) → a ≤ x → x < b → in_set set x ≡ false) → Next set b r → Next set a r
 next-from set a b r l h w = record {
@@ -153,6 +157,10 @@ next-end set from e = record {
   passed = λ x p q. absurd (omega arith);
   member = λ l. absurd (omega arith);
 }
+
+pub found_from : (set : List ℕ) (a b : ℕ) (r : Option ℕ) → a ≤ b → ((x : ℕ) → a ≤ x → x < b → in_set set x ≡ false) → Found set b r → Found set a r
+found_from set a b None l h w = next-from set a b 512 l h w
+found_from set a b (Some x) l h w = (next-from set a b x l h w.0, w.1)
 
 pub next-bound : (n : ℕ) → count_trailing_zeros 64 n ≤ 64
 next-bound n = trailing_le 64 n
@@ -203,11 +211,11 @@ gathered-run g item role first stop k items old new o p w =
 abbrev word : ℕ
 word = 18446744073709551616
 
-pub next-at : (set : List ℕ) (from rest : ℕ) → rest ≡ get_or set (from / 64) 0 / 2 ^ (from % 64) → get_or set (from / 64) 0 < word → from < 512
-    → (rest ≡ 0 → ⊥) → Next set from (from + count_trailing_zeros 64 rest)
-next-at set from rest e f l d =
+pub found_at : (set : List ℕ) (from rest : ℕ) → rest ≡ get_or set (from / 64) 0 / 2 ^ (from % 64) → get_or set (from / 64) 0 < word → from < 512
+    → (rest ≡ 0 → ⊥) → Found set from (Some (from + count_trailing_zeros 64 rest))
+found_at set from rest e f l d =
     let z : from / 64 * 64 + from % 64 ≡ from = omega arith in
-    subst (λ (y : ℕ). Next set y (y + count_trailing_zeros 64 rest)) z (next-left set (from / 64) (from % 64) rest (omega arith) e f (omega arith) d)
+    subst (λ (y : ℕ). Found set y (Some (y + count_trailing_zeros 64 rest))) z (found_left set (from / 64) (from % 64) rest (omega arith) e f (omega arith) d)
 
 pub none-at : (set : List ℕ) (from rest : ℕ) → rest ≡ get_or set (from / 64) 0 / 2 ^ (from % 64) → rest ≡ 0
     → (x : ℕ) → from ≤ x → x < (from / 64 + 1) * 64 → in_set set x ≡ false
@@ -231,10 +239,10 @@ full_at set from rest e f x l h = go (dec_lt (from % 64 + j) 64)
     go (no d) =
         absurd (true-false on (ap (λ (z : ℕ). has z j) e ∙ has-shift (get_or set (from / 64) 0) (from % 64) j ∙ has-high 64 (get_or set (from / 64) 0) (from % 64 + j) f (omega (arith, d))))
 
-pub next_word : (set : List ℕ) (w n : ℕ) → n ≡ get_or set w 0 → n < word → w < 8 → (n ≡ 0 → ⊥) → Next set (w * 64) (w * 64 + count_trailing_zeros 64 n)
-next_word set w n e f l d =
+pub found_word : (set : List ℕ) (w n : ℕ) → n ≡ get_or set w 0 → n < word → w < 8 → (n ≡ 0 → ⊥) → Found set (w * 64) (Some (w * 64 + count_trailing_zeros 64 n))
+found_word set w n e f l d =
     let z : w * 64 + 0 ≡ w * 64 = omega arith in
-    subst (λ (y : ℕ). Next set y (y + count_trailing_zeros 64 n)) z (next-left set w 0 n (omega arith) (e ∙ omega arith) (omega arith) l d)
+    subst (λ (y : ℕ). Found set y (Some (y + count_trailing_zeros 64 n))) z (found_left set w 0 n (omega arith) (e ∙ omega arith) (omega arith) l d)
 
 pub none-word : (set : List ℕ) (a w : ℕ) → ((x : ℕ) → a ≤ x → x < w * 64 → in_set set x ≡ false) → get_or set w 0 ≡ 0
     → (x : ℕ) → a ≤ x → x < (w + 1) * 64 → in_set set x ≡ false

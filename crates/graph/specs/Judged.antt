@@ -4,6 +4,7 @@ use Rattle.std.specs.Prelude.{◌≡◌, false, List, [], ◌∷◌, ℕ, zero, 
 use Rattle.meaning.specs.Bounds.{most_items}
 use Rattle.meaning.specs.Refusal.{good}
 use Rattle.meaning.specs.Register.{Register, withdrawn, targets, read_buffer}
+use Rattle.register.specs.Held.{held, IsRead}
 use Rattle.register.specs.Image.{link_no, Begins, Image}
 
 -- the register that the bytes begin with, of so many items, and an index that says where the links of each of them begin and end, and at its last place
@@ -16,6 +17,14 @@ pub record Judged (s : List ℕ) (items : ℕ) (index : List ℕ) : Type 0 where
   pub room : length index ≡ 514
   pub indexed : (k : ℕ) → k ≤ items → Begins register.links k (get_or index k 0)
   pub serving : get_or index 513 0 ≡ 0 → (x : ℕ) → withdrawn register x ≡ false
+
+-- the same of the register that the bytes begin with, which has so many links, too: what holds of an image with its index in code
+pub record IsJudged (s : List ℕ) (items links : ℕ) (index : List ℕ) : Type 0 where
+  pub read : IsRead s items links
+  pub most : items ≤ most_items
+  pub room : length index ≡ 514
+  pub indexed : (k : ℕ) → k ≤ items → Begins (held s).links k (get_or index k 0)
+  pub serving : get_or index 513 0 ≡ 0 → (x : ℕ) → withdrawn (held s) x ≡ false
 
 -- where the k-th link leads from and to
 abbrev pub start_no : Register → ℕ → ℕ

@@ -2,3 +2,4 @@ pub mod Walked
 pub mod Judged
 pub mod Sets
 pub mod Posed
+pub mod On

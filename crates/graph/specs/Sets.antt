@@ -1,6 +1,6 @@
 -- A set of items: eight numbers of 64 bits, item x being bit x % 64 of number x / 64.
 -- Assumes nothing.
-use Rattle.std.specs.Prelude.{◌≡◌, Bool, true, false, ◌||◌, ℕ, ◌/◌, ◌%◌, ◌≤◌, ◌<◌, eqb, ltb, get_or}
+use Rattle.std.specs.Prelude.{◌≡◌, Bool, true, false, ◌||◌, ℕ, ◌+◌, ◌/◌, ◌%◌, ◌≤◌, ◌<◌, eqb, ltb, get_or, Option, Some, None}
 use mathlib.Core.List.{List, Memᴰ}
 use Rattle.meaning.specs.Bounds.{most_items}
 use Rattle.meaning.specs.Names.{has}
@@ -24,6 +24,16 @@ pub record Next (set : List ℕ) (from r : ℕ) : Type 0 where
   pub passed : (x : ℕ) → from ≤ x → x < r → in_set set x ≡ false
   pub member : r < most_items → in_set set r ≡ true
 
+-- the least member from `from` on, or nothing where there is none
+abbrev pub Found : List ℕ → ℕ → Option ℕ → Type 0
+Found set from None = Next set from most_items
+Found set from (Some x) = Next set from x × (x < most_items)
+
+-- the same, and a walk over the set goes on behind it at `onward`
+abbrev pub Stepped : List ℕ → ℕ → Option ℕ → ℕ → Type 0
+Stepped set from None onward = Next set from most_items × (onward ≡ from)
+Stepped set from (Some x) onward = Next set from x × (x < most_items) × (onward ≡ x + 1)
+
 -- a set with x, and one from which x was taken
 abbrev pub With : List ℕ → ℕ → List ℕ → Type 0
 With old x new = (y : ℕ) → in_set new y ≡ (eqb x y || in_set old y)
@@ -31,6 +41,11 @@ With old x new = (y : ℕ) → in_set new y ≡ (eqb x y || in_set old y)
 pub record Without (old : List ℕ) (x : ℕ) (new : List ℕ) : Type 0 where
   pub gone : in_set new x ≡ false
   pub others : (y : ℕ) → (y ≡ x → ⊥) → in_set new y ≡ in_set old y
+
+-- of the members stay those of which a test says yes, where it says one of two things of each
+pub record Retained (says : ℕ → Bool → Type 0) (old new : List ℕ) : Type 0 where
+  pub member : (x : ℕ) → in_set old x ≡ true → says x (in_set new x)
+  pub other : (x : ℕ) → in_set old x ≡ false → in_set new x ≡ false
 
 -- every successor under the role of a member of the first set is in the second
 abbrev pub Closed : Graph ℕ → List ℕ → ℕ → List ℕ → Type 0

@@ -3,32 +3,33 @@
 
 pub mod sets; // sets.rt: sets of up to 512 items
 
-ghost use Rattle.std.specs.Prelude.{◌≡◌, true, false, ℕ, ◌+◌, ◌≤◌, ◌<◌, max, length, get_or};
+ghost use Rattle.std.specs.Prelude.{◌≡◌, true, false, ℕ, ◌+◌, ◌≤◌, ◌<◌, length, get_or};
 ghost use Rattle.meaning.specs.Register.{withdrawn};
 ghost use Rattle.meaning.specs.Calls.{asked_for};
-ghost use Rattle.register.specs.Image.{Asked, OfSize, Image};
+ghost use Rattle.meaning.specs.Rules.{told};
+ghost use Rattle.register.specs.Image.{Asked, Image};
 ghost use Rattle.graph.specs.Walked.{walked, numbered};
-ghost use Rattle.graph.specs.Judged.{Judged, end_no, Runs, Opens, Parted, Noted, Risen};
+ghost use Rattle.graph.specs.Judged.{IsJudged, Judged, end_no, role_no, Runs, Opens, Noted, Risen};
 ghost use Rattle.graph.specs.Sets.{Among, Spread, Gathered};
 
 use fields::bits;
+use meaning::Rule;
+use register::Reading;
+use sets::Items;
+use std::ops::Range;
 
 // An index has a place for each item that there may be, one where the links of the last end, and one that says whether an item is withdrawn.
 pub const INDEX: usize = 514;
 
-// A run of links: from `first` up to `end`.
+// An image that was read, of so many items and links, and its index: at place k stands where the links of item k begin, and behind all of these
+// whether an item is withdrawn.
 #[derive(Drop)]
-pub struct Span {
-    pub first: usize,
-    pub end: usize,
-}
-
-// The names of an item.
-pub fn names(s: &[u8], item: usize) -> u64
-    requires { Asked s.now (λ g. item < length g.names) }
-    ensures { Image s.now (λ g. result ≡ (walked g).names item) }
-{
-    register::names_of(s, item)
+pub struct Indexed<'a> {
+    pub image: &'a [u8],
+    pub items: usize,
+    pub links: usize,
+    pub index: [u16; INDEX],
+    ghost judged: { IsJudged image.now items links index },
 }
 
 // Whether an item is withdrawn: the one test of document 02, §5.
@@ -44,225 +45,195 @@ pub fn none_out(s: &[u8], items: usize) -> bool
     requires { Asked s.now (λ g. items ≡ length g.names) }
     ensures { result ≡ true → Image s.now (λ g. (x : ℕ) → x < items → withdrawn g x ≡ false) }
 {
-    let mut i = 0;
-    while i < items {
+    for i in 0..items {
         if is_out(s, i) {
             return false;
         }
-        i += 1;
     }
     true
 }
 
-// What is wrong with an item that is asked for: 15 where there is none such among so many, 26 where it is withdrawn; 0 where nothing is.
-pub fn refusal_of(s: &[u8], items: usize, item: usize) -> usize
+// What is wrong with an item that is asked for, among so many: that there is none such, or that it is withdrawn.
+pub fn refusal_of(s: &[u8], items: usize, item: usize) -> Result<(), Rule>
     requires { Asked s.now (λ g. items ≡ length g.names) }
-    ensures { Image s.now (λ g. asked_for g item ≡ numbered result) }
+    ensures { Image s.now (λ g. asked_for g item ≡ numbered (told result)) }
 {
     if items <= item {
-        return 15;
+        return Err(Rule::OutOfRange);
     }
     if is_out(s, item) {
-        return 26;
+        return Err(Rule::Withdrawn);
     }
-    0
+    Ok(())
 }
 
-// Where the k-th link leads to, among so many items.
-pub fn end_of(s: &[u8], items: usize, k: usize) -> usize
-    requires { Asked s.now (λ g. (items ≡ length g.names) × (k < length g.links)) }
-    ensures image { Image s.now (λ g. result ≡ end_no g k) }
-    ensures upper_bound { result < items }
-{
-    register::to_of(s, items, k)
-}
-
-// Fills an index that is all zeros: at place k stands where the links of item k begin, and behind all of these whether an item is withdrawn.
-pub fn fill_index(s: &[u8], items: usize, links: usize, index: &mut [u16])
-    requires of_size { OfSize s.now items links }
-    requires index_len { (length index.old ≡ 514) × ((k : ℕ) → get_or index.old k 0 ≡ 0) }
-    ensures { Judged s.now items index.new }
-{
-    note_ends(s, items, links, index);
-    raise(items, index);
-    index[INDEX - 1] = flag(none_out(s, items));
-}
-
-// 0 where no item is withdrawn, else 1.
-fn flag(none: bool) -> u16
-    ensures { result ≡ 0 → none ≡ true }
-{
-    if none {
-        return 0;
-    }
-    1
-}
-
-// Whether each item is in service, as the index says.
+// Whether each item is in service, as an index says.
 pub fn all_serve(index: &[u16]) -> bool
     requires { 513 < length index.now }
     ensures { result ≡ true → get_or index.now 513 0 ≡ 0 }
 {
-    if index[INDEX - 1] == 0 {
-        return true;
-    }
-    false
+    index[INDEX - 1] == 0
 }
 
 // Behind the place of each item that links lead from: where its last one ends. Two links in a turn, read a turn before they are noted (so that the
 // compiler reads an item in one load).
-fn note_ends(s: &[u8], items: usize, links: usize, index: &mut [u16])
-    requires of_size { OfSize s.now items links }
-    requires in_bounds { (items < length index.old) × ((k : ℕ) → get_or index.old k 0 ≡ 0) }
-    ensures { Noted s.now items links index.new }
+fn note_ends(read: &Reading, index: &mut [u16; INDEX])
+    requires { (k : ℕ) → get_or index.old k 0 ≡ 0 }
+    ensures { Noted read.now.bytes.now read.now.items read.now.links index.new }
 {
-    if links < 4 {
-        note_rest(s, items, 0, links, index);
+    if read.links < 4 {
+        note_rest(read, 0, index);
         return;
     }
-    let stop = links - 3;
+    let stop = read.links - 3;
     let mut k = 0;
-    let mut from = register::from_of(s, items, 0);
-    let mut next = register::from_of(s, items, 1);
+    let mut from = read.from_of(0);
+    let mut next = read.from_of(1);
     while k < stop {
         index[from + 1] = (k + 1) as u16;
         k += 2;
         index[next + 1] = k as u16;
-        from = register::from_of(s, items, k);
-        next = register::from_of(s, items, k + 1);
+        from = read.from_of(k);
+        next = read.from_of(k + 1);
     }
-    note_rest(s, items, k, links, index);
+    note_rest(read, k, index);
 }
 
 // The same for the links from `first` on, once those before it are noted.
-fn note_rest(s: &[u8], items: usize, first: usize, links: usize, index: &mut [u16])
-    requires of_size { OfSize s.now items links }
-    requires in_bounds { (items < length index.old) × (first ≤ links) × Noted s.now items first index.old }
-    ensures { Noted s.now items links index.new }
+fn note_rest(read: &Reading, first: usize, index: &mut [u16; INDEX])
+    requires { (first ≤ read.now.links) × Noted read.now.bytes.now read.now.items first index.old }
+    ensures { Noted read.now.bytes.now read.now.items read.now.links index.new }
 {
-    let mut k = first;
-    while k < links {
-        let at = register::from_of(s, items, k) + 1;
-        k += 1;
-        index[at] = k as u16;
+    for k in first..read.links {
+        index[read.from_of(k) + 1] = (k + 1) as u16;
     }
 }
 
 // Each place becomes at least what stands before it.
-fn raise(items: usize, index: &mut [u16])
-    requires { items < length index.old }
+fn raise(items: usize, index: &mut [u16; INDEX])
+    requires { items < 514 }
     ensures { Risen items index.old index.new }
 {
-    let mut i = 0;
-    while i < items {
-        let before = index[i];
-        i += 1;
-        index[i] = greater(before, index[i]);
+    for i in 0..items {
+        index[i + 1] = index[i].max(index[i + 1]);
     }
 }
 
-fn greater(a: u16, b: u16) -> u16
-    ensures { result ≡ max a b }
-{
-    if a < b {
-        return b;
-    }
-    a
-}
+impl<'a> Indexed<'a> {
+    ghost use Rattle.graph.specs.On.{JudgedOn};
 
-// The links of an item from the first on whose role is not lower: an item's links stand in the order of their roles, so those of the role
-// itself come first.
-pub fn from_role(s: &[u8], items: usize, index: &[u16], item: usize, role: usize) -> Span
-    requires judged { Judged s.now items index.now }
-    requires item_lt { item < items }
-    ensures { (j : Judged s.now items index.now) → Opens j.register item role result.first result.end }
-{
-    let begin = fields::pair(index[item]);
-    let end = fields::pair(index[item + 1]);
-    let first = skip_lower(s, items, role, begin, end);
-    Span { first, end }
-}
-
-// The links of an item under a role, as a run of links.
-pub fn run(s: &[u8], items: usize, index: &[u16], item: usize, role: usize) -> Span
-    requires judged { Judged s.now items index.now }
-    requires item_lt { item < items }
-    ensures { (j : Judged s.now items index.now) → Runs j.register item role result.first result.end }
-{
-    let r = from_role(s, items, index, item, role);
-    let first = r.first;
-    let end = skip_higher(s, items, role, first, r.end);
-    Span { first, end }
-}
-
-// The first of some links whose role is not lower.
-fn skip_lower(s: &[u8], items: usize, role: usize, first: usize, end: usize) -> usize
-    requires asked { Asked s.now (λ g. (items ≡ length g.names) × (end ≤ length g.links)) }
-    requires first_le_end { first ≤ end }
-    ensures { Image s.now (λ g. Parted g role first end result) }
-{
-    let mut k = first;
-    while k < end {
-        if role <= register::role_of(s, items, k) {
-            return k;
+    // Makes the index of an image that was read.
+    pub fn new(read: &Reading<'a>) -> Indexed<'a>
+        ensures image { result.image.now ≡ read.now.bytes.now }
+        ensures items { result.items ≡ read.now.items }
+        ensures links { result.links ≡ read.now.links }
+    {
+        let mut index = [0; INDEX];
+        note_ends(read, &mut index);
+        raise(read.items, &mut index);
+        index[INDEX - 1] = u16::from(!none_out(read.bytes, read.items));
+        Indexed {
+            image: read.bytes,
+            items: read.items,
+            links: read.links,
+            index,
         }
-        k += 1;
     }
-    k
-}
 
-// Behind the last of some links whose role is not higher.
-fn skip_higher(s: &[u8], items: usize, role: usize, first: usize, end: usize) -> usize
-    requires asked { Asked s.now (λ g. (items ≡ length g.names) × (end ≤ length g.links)) }
-    requires first_le_end { first ≤ end }
-    ensures { Image s.now (λ g. Parted g (role + 1) first end result) }
-{
-    let mut e = end;
-    while first < e {
-        if register::role_of(s, items, e - 1) <= role {
-            return e;
+    // The image that was read.
+    pub fn reading(&self) -> Reading<'a>
+        ensures { (result.bytes ≡ self.now.image) × (result.items ≡ self.now.items) × (result.links ≡ self.now.links) }
+    {
+        Reading {
+            bytes: self.image,
+            items: self.items,
+            links: self.links,
         }
-        e -= 1;
     }
-    e
-}
 
-// Puts every successor under a role of the items of a set into another. Once all items are in that one, there is nothing left to put in: up to
-// `full` they are.
-pub fn spread(s: &[u8], items: usize, index: &[u16], set: &[u64], role: usize, below: &mut [u64])
-    requires judged { Judged s.now items index.now }
-    requires set_len { (length set.now ≡ 8) × Among items set.now }
-    requires below_len { (length below.old ≡ 8) × Among items below.old }
-    ensures { (j : Judged s.now items index.now)
-        → Spread (walked j.register) items set.now role below.new }
-{
-    let mut full = 0;
-    let mut x = sets::next_in(set, 0);
-    while x < meaning::MOST_ITEMS {
-        if items <= full {
-            return;
-        }
-        gather(s, items, index, x, role, below);
-        full = sets::full_from(below, full);
-        x = sets::next_in(set, x + 1);
+    // The names of an item.
+    pub fn names(&self, item: usize) -> u64
+        requires { item < self.now.items }
+        ensures { (j : JudgedOn self.now) → result ≡ (walked j.register).names item }
+    {
+        register::names_of(self.image, item)
     }
-}
 
-// Puts the successors of an item under a role into a set.
-fn gather(s: &[u8], items: usize, index: &[u16], item: usize, role: usize, set: &mut [u64])
-    requires judged { Judged s.now items index.now }
-    requires item_lt { (item < items) × (length set.old ≡ 8) × Among items set.old }
-    ensures { (j : Judged s.now items index.now)
-        → Gathered ((walked j.register).next item role) items set.old set.new }
-{
-    let r = from_role(s, items, index, item, role);
-    let end = r.end;
-    let mut k = r.first;
-    while k < end {
-        if role < register::role_of(s, items, k) {
-            return;
+    // The role of the k-th link.
+    pub fn role_of(&self, k: usize) -> usize
+        requires { (j : JudgedOn self.now) → k < length j.register.links }
+        ensures { (j : JudgedOn self.now) → result ≡ role_no j.register k }
+    {
+        self.reading().role_of(k)
+    }
+
+    // Where the k-th link leads to.
+    pub fn end_of(&self, k: usize) -> usize
+        requires { (j : JudgedOn self.now) → k < length j.register.links }
+        ensures image { (j : JudgedOn self.now) → result ≡ end_no j.register k }
+        ensures upper_bound { result < self.now.items }
+    {
+        self.reading().to_of(k)
+    }
+
+    // The links of an item from the first on whose role is not lower: an item's links stand in the order of their roles, so those of the role
+    // itself come first.
+    pub fn from_role(&self, item: usize, role: usize) -> Range<usize>
+        requires { item < self.now.items }
+        ensures { (j : JudgedOn self.now) → Opens j.register item role result.start result.end }
+    {
+        let begin = usize::from(self.index[item]);
+        let end = usize::from(self.index[item + 1]);
+        for k in begin..end {
+            if role <= self.role_of(k) {
+                return k..end;
+            }
         }
-        sets::include(set, end_of(s, items, k));
-        k += 1;
+        end..end
+    }
+
+    // The links of an item under a role.
+    pub fn run(&self, item: usize, role: usize) -> Range<usize>
+        requires { item < self.now.items }
+        ensures { (j : JudgedOn self.now) → Runs j.register item role result.start result.end }
+    {
+        let Range { start, end } = self.from_role(item, role);
+        for k in start..end {
+            if self.role_of(k) > role {
+                return start..k;
+            }
+        }
+        start..end
+    }
+
+    // Puts every successor under a role of the items of a set into another. Once all items are in that one, there is nothing left to put in: up to
+    // `full` they are.
+    pub fn spread(&self, set: &Items, role: usize, below: &mut Items)
+        requires { Among self.now.items set.now.words × Among self.now.items below.old.words }
+        ensures { (j : JudgedOn self.now) → Spread (walked j.register) self.now.items set.now.words role below.new.words }
+    {
+        let mut full = 0;
+        for x in set.members() {
+            if self.items <= full {
+                return;
+            }
+            self.gather(x, role, below);
+            full = below.full_from(full);
+        }
+    }
+
+    // Puts the successors of an item under a role into a set.
+    fn gather(&self, item: usize, role: usize, set: &mut Items)
+        requires { (item < self.now.items) × Among self.now.items set.old.words }
+        ensures { (j : JudgedOn self.now)
+            → Gathered ((walked j.register).next item role) self.now.items set.old.words set.new.words }
+    {
+        let Range { start, end } = self.from_role(item, role);
+        for k in start..end {
+            if role < self.role_of(k) {
+                return;
+            }
+            set.insert(self.end_of(k));
+        }
     }
 }

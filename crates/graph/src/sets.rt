@@ -1,85 +1,149 @@
 // Sets of up to 512 items, as eight numbers of 64 bits: item x is bit x % 64 of number x / 64.
-ghost use Rattle.std.specs.Prelude.{◌≡◌, true, ℕ, ◌*◌, ◌≤◌, ◌<◌, length};
+ghost use Rattle.std.specs.Prelude.{◌≡◌, Bool, true, false, ℕ, ◌+◌, ◌-◌, ◌*◌, ◌≤◌, ◌<◌};
+ghost use Rattle.std.specs.Iterator.{at_most};
 ghost use Rattle.meaning.specs.Bounds.{most_items};
-ghost use Rattle.graph.specs.Sets.{in_set, All, Next, With, Without};
+ghost use Rattle.graph.specs.Sets.{in_set, All, Found, Stepped, With, Without, Retained};
 
 use fields::bits;
 
-// Whether an item is in a set.
-pub fn contains(set: &[u64], x: usize) -> bool
-    requires { (length set.now ≡ 8) × (x < most_items) }
-    ensures { result ≡ in_set set.now x }
-{
-    bits::on(set[x / 64], x % 64)
+// A set of items.
+#[derive(Clone, Copy, Debug, PartialEq, Eq)]
+pub struct Items {
+    pub words: [u64; 8],
 }
 
-// Puts an item into a set.
-pub fn include(set: &mut [u64], x: usize)
-    requires { (length set.old ≡ 8) × (x < most_items) }
-    ensures { With set.old x set.new }
-{
-    let w = x / 64;
-    set[w] = set[w] | (1u64 << (x % 64));
+// What is left of a walk over a set, from its least item to its greatest.
+#[derive(Drop)]
+pub struct Members<'a> {
+    pub set: &'a Items,
+    pub from: usize,
 }
 
-// Puts the first so many items into an empty set.
-pub fn include_all(items: usize, set: &mut [u64])
-    requires { (items ≤ most_items) × (length set.old ≡ 8) × All 0 set.old }
-    ensures { All items set.new }
-{
-    let mut i = 0;
-    while i < items {
-        include(set, i);
-        i += 1;
+impl Items {
+    // The empty set.
+    pub fn none() -> Items
+        ensures { All 0 result.words }
+    {
+        Items { words: [0; 8] }
     }
-}
 
-// Takes an item out of a set that has it.
-pub fn exclude(set: &mut [u64], x: usize)
-    requires { (length set.old ≡ 8) × (x < most_items) × (in_set set.old x ≡ true) }
-    ensures { Without set.old x set.new }
-{
-    let w = x / 64;
-    set[w] = bits::with_bit(set[w], x % 64, true, false);
-}
-
-// The least item of a set from `from` on, or 512 where there is none.
-pub fn next_in(set: &[u64], from: usize) -> usize
-    requires { (length set.now ≡ 8) × (from ≤ most_items) }
-    ensures { Next set.now from result }
-{
-    if meaning::MOST_ITEMS <= from {
-        return meaning::MOST_ITEMS;
-    }
-    let w = from / 64;
-    let rest = set[w] >> (from % 64);
-    if rest != 0 {
-        return from + u64::trailing_zeros(rest) as usize;
-    }
-    next_word(set, w + 1)
-}
-
-// The least item in the numbers from the w-th on.
-fn next_word(set: &[u64], w: usize) -> usize
-    requires { (length set.now ≡ 8) × (w ≤ 8) }
-    ensures { Next set.now (w * 64) result }
-{
-    let mut i = w;
-    while i < 8 {
-        let n = set[i];
-        if n != 0 {
-            return i * 64 + u64::trailing_zeros(n) as usize;
+    // The first so many items.
+    pub fn first(items: usize) -> Items
+        requires { items ≤ most_items }
+        ensures { All items result.words }
+    {
+        let mut all = Items::none();
+        for x in 0..items {
+            all.insert(x);
         }
-        i += 1;
+        all
     }
-    meaning::MOST_ITEMS
+
+    // Whether it has an item.
+    pub fn contains(&self, x: usize) -> bool
+        requires { x < most_items }
+        ensures { result ≡ in_set self.now.words x }
+    {
+        bits::on(self.words[x / 64], x % 64)
+    }
+
+    // Whether it has none.
+    pub fn is_empty(&self) -> bool
+        ensures yes { result ≡ true → (x : ℕ) → in_set self.now.words x ≡ false }
+        ensures no { result ≡ false → (x : ℕ) × (x < most_items) × (in_set self.now.words x ≡ true) }
+    {
+        self.next(0).is_none()
+    }
+
+    // Puts an item into it.
+    pub fn insert(&mut self, x: usize)
+        requires { x < most_items }
+        ensures { With self.old.words x self.new.words }
+    {
+        self.words[x / 64] |= 1u64 << (x % 64);
+    }
+
+    // Takes an item out of it that it has.
+    pub fn remove(&mut self, x: usize)
+        requires { (x < most_items) × (in_set self.old.words x ≡ true) }
+        ensures { Without self.old.words x self.new.words }
+    {
+        let w = x / 64;
+        self.words[w] = bits::with_bit(self.words[w], x % 64, true, false);
+    }
+
+    // The least item in it from `from` on.
+    pub fn next(&self, from: usize) -> Option<usize>
+        requires { from ≤ most_items }
+        ensures { Found self.now.words from result }
+    {
+        if meaning::MOST_ITEMS <= from {
+            return None;
+        }
+        let w = from / 64;
+        let rest = self.words[w] >> (from % 64);
+        if rest != 0 {
+            return Some(from + rest.trailing_zeros() as usize);
+        }
+        self.next_word(w + 1)
+    }
+
+    // The least item in the numbers from the w-th on.
+    fn next_word(&self, w: usize) -> Option<usize>
+        requires { w ≤ 8 }
+        ensures { Found self.now.words (w * 64) result }
+    {
+        for i in w..8 {
+            let n = self.words[i];
+            if n != 0 {
+                return Some(i * 64 + n.trailing_zeros() as usize);
+            }
+        }
+        None
+    }
+
+    // Its items, from the least to the greatest.
+    pub fn members(&self) -> Members<'_>
+        ensures { (result.set.now ≡ self.now) × (result.from ≡ 0) }
+    {
+        Members { set: self, from: 0 }
+    }
+
+    // Of its items stay those of which `keep` says yes.
+    pub fn retain<F: Fn(usize) -> bool>(&mut self, keep: F)
+        requires { (x : ℕ) → x < most_items → in_set self.old.words x ≡ true → F.pre keep x }
+        ensures { Retained (F.post keep) self.old.words self.new.words }
+    {
+        let old = *self;
+        for x in old.members() {
+            if !keep(x) {
+                self.remove(x);
+            }
+        }
+    }
+
+    // How far it has all items from `from` on, as far as one of its numbers tells.
+    pub fn full_from(&self, from: usize) -> usize
+        requires { from < most_items }
+        ensures { (x : ℕ) → from ≤ x → x < result → in_set self.now.words x ≡ true }
+    {
+        let rest = self.words[from / 64] >> (from % 64);
+        from + (u64::MAX - rest).trailing_zeros() as usize
+    }
 }
 
-// How far a set has all items from `from` on, as far as one of its numbers tells.
-pub fn full_from(set: &[u64], from: usize) -> usize
-    requires { (length set.now ≡ 8) × (from < most_items) }
-    ensures { (x : ℕ) → from ≤ x → x < result → in_set set.now x ≡ true }
-{
-    let rest = set[from / 64] >> (from % 64);
-    from + u64::trailing_zeros(18446744073709551615 - rest) as usize
+impl Iterator for Members<'_> {
+    type Item = usize;
+
+    ghost can_next = { λ s. s.from ≤ most_items };
+
+    ghost next_gives = { λ s r t. (t.set ≡ s.set) × Stepped s.set.now.words s.from r t.from };
+
+    ghost remaining = { λ s. at_most (most_items - s.from) };
+
+    fn next(&mut self) -> Option<usize> {
+        let x = self.set.next(self.from)?;
+        self.from = x + 1;
+        Some(x)
+    }
 }

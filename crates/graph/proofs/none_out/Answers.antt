@@ -7,7 +7,7 @@ use Rattle.graph.proofs.none_out.Goals as goal
 
 pub loop-i-init : goal.loop-i-init
 loop-i-init c =
-    (omega arith, λ g h x l. absurd (omega arith))
+    λ g h x l. absurd (omega arith)
 
 pub is_out-requires : goal.is_out-requires
 is_out-requires c =
@@ -19,8 +19,8 @@ returns-then-is_out c =
 
 pub loop-i-preserved : goal.loop-i-preserved
 loop-i-preserved c =
-    (omega arith, λ g h. served-more g _ (c.loop-i.invariant.1 g h) (sym (c.is_out.ensures g h) ∙ c.if-is_out.false))
+    λ g h. served-more g _ (c.loop-i.invariant g h) (sym (c.is_out.ensures g h) ∙ c.if-is_out.false)
 
 pub returns : goal.returns
 returns c =
-    λ e g h x l. c.loop-i.invariant.1 g h x (omega (arith, c.loop-i-test.false, l))
+    λ e g h x l. c.loop-i.invariant g h x (omega (arith, c.loop-i-test.false, l))

@@ -1,11 +1,6 @@
-use Prim.Native.Nat.{◌-◌, ◌≤◌}
 use Rattle.graph.specs.Judged.{Risen}
 use Rattle.graph.proofs.raise.Given as goal
 
 abbrev pub invariant-loop-i : goal.invariant-loop-i
 invariant-loop-i l =
-    Risen l.i l.initial.index l.index × (l.i ≤ l.items)
-
-abbrev pub decreases-loop-i : goal.decreases-loop-i
-decreases-loop-i l =
-    l.items - l.i
+    Risen l.i l.initial.index l.index

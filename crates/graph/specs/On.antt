@@ -1,0 +1,7 @@
+-- An image with its index, as code holds it.
+-- Assumes nothing.
+use Rattle.graph.specs.declared.Indexed.{Indexed}
+use Rattle.graph.specs.Judged.{Judged}
+
+abbrev pub JudgedOn : Indexed → Type 0
+JudgedOn on = Judged on.image.now on.items on.index
