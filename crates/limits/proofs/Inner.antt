@@ -2,7 +2,7 @@
 -- Assumes nothing.
 use mathlib.Core.Path.{◌≡◌, sym, ap, ◌∙◌, subst}
 use mathlib.Core.List.{List, [], ◌∷◌, ◌++◌}
-use Prim.Native.Nat.{ℕ, zero, suc, ◌+◌, ◌*◌, ◌-◌, ◌≤◌, ◌<◌}
+use Prim.Native.Nat.{ℕ, zero, suc, ◌+◌, ◌*◌, ◌-◌, ◌/◌, ◌≤◌, ◌<◌}
 use native.Mathlib.Omega.{arith}
 use native.Mathlib.Decide.{ℕ_discrete, dec_lt}
 use lib.Dec.{T}
@@ -12,10 +12,11 @@ use Rattle.meaning.specs.Bytes.{bytes}
 use Rattle.meaning.specs.Bounds.{most_role, most_nodes}
 use Rattle.meaning.specs.Lists.{Listed, form_tree, concept}
 use Rattle.meaning.specs.Message.{concept_bytes}
-use Rattle.meaning.specs.Writing.{node_at, nodes_from}
+use Rattle.meaning.specs.Writing.{node_at, nodes_from, nodes_in}
 use Rattle.meaning.proofs.Reading.{bytes-length}
 use Rattle.meaning.proofs.ListsFit.{Fits, Fit, nodes-fit}
 use Rattle.lists.specs.Handed.{nodes_to, Inner}
+use Rattle.lists.proofs.Forms.{nodes_whole}
 use Rattle.limits.specs.Flat.{ahead, fixed_at}
 use Rattle.limits.proofs.Flat.{list_bytes, flat-bytes}
 use Rattle.limits.proofs.Nodes.{nodes-next, nodes-end}
@@ -48,15 +49,14 @@ forms-some ns first end w = go (dec_lt first end)
     go (yes l) = l
     go (no n) = absurd (subst (λ (z : List (Listed ℕ)). T (form_tree z)) (nodes-end ns first end (omega (arith, n))) w)
 
-pub inner-some : (ns : List ℕ) (first end : ℕ) → Inner ns first end → first < end
-inner-some ns first end w = forms-some ns first end w.forms
+pub inner-some : (ns : List ℕ) → Inner ns → 0 < length ns / 3
+inner-some ns w = forms-some ns 0 (length ns / 3) (subst (λ (z : List (Listed ℕ)). T (form_tree z)) (sym (nodes_whole ns)) w.forms)
 
-pub inner-few : (ns : List ℕ) (first end : ℕ) → Inner ns first end → end ≤ first + 64
-inner-few ns first end w = omega (arith, fit-few ns 0 first (end - first) (omega arith) (nodes-fit 0 (nodes_to ns first end) w.fits))
+pub inner-few : (ns : List ℕ) → Inner ns → length ns / 3 ≤ 64
+inner-few ns w = omega (arith, fit-few ns 0 0 (length ns / 3) (omega arith) (nodes-fit 0 (nodes_in ns) w.fits))
 
-pub inner-role : (ns : List ℕ) (first end k : ℕ) → Inner ns first end → first < k → k < end → get_or ns (3 * k + 2) 0 ≤ most_role
-inner-role ns first end k w l m =
-    (fit_at ns 0 first (end - first) k (nodes-fit 0 (nodes_to ns first end) w.fits) (omega (arith, l)) (omega (arith, l, m))).0 (omega (arith, l))
+pub inner-role : (ns : List ℕ) (k : ℕ) → Inner ns → 0 < k → k < length ns / 3 → get_or ns (3 * k + 2) 0 ≤ most_role
+inner-role ns k w l m = (fit_at ns 0 0 (length ns / 3) k (nodes-fit 0 (nodes_in ns) w.fits) (omega arith) (omega arith)).0 (omega arith)
 
 -- ---- its bytes
 
@@ -108,10 +108,13 @@ inner-more ns old now a b at p k end r all w l q m e f =
     put-more old a b at (p + 1) (p + 11) all (fixed_at ns k end 0) rest one f (omega (arith, fixed-length ns k end 0))
 
 -- all nodes are put
-pub inner-all : (ns old first-put now : List ℕ) (at p k first end : ℕ) → T (form_tree (nodes_to ns first end)) → first-put ≡ sets old at (fixed_at ns first end 0)
-    → Put first-put now (at + 10) p (plain_bytes (nodes_to ns (first + 1) end)) (plain_bytes (nodes_to ns k end)) → end ≤ k
-    → now ≡ sets old at (concept_bytes (concept (nodes_to ns first end)))
-inner-all ns old first-put now at p k first end w e v l =
-    let rest = plain_bytes (nodes_to ns (first + 1) end) in
+pub inner-all : (ns old first-put now : List ℕ) (at p k : ℕ) → Inner ns → first-put ≡ sets old at (fixed_at ns 0 (length ns / 3) 0)
+    → Put first-put now (at + 10) p (plain_bytes (nodes_to ns 1 (length ns / 3))) (plain_bytes (nodes_to ns k (length ns / 3))) → length ns / 3 ≤ k
+    → now ≡ sets old at (concept_bytes (concept (nodes_in ns)))
+inner-all ns old first-put now at p k w e v l =
+    let end = length ns / 3 in
+    let rest = plain_bytes (nodes_to ns 1 end) in
+    let forms = subst (λ (z : List (Listed ℕ)). T (form_tree z)) (sym (nodes_whole ns)) w.forms in
     let done = put_all first-put now (at + 10) p rest (put_as first-put now (at + 10) p rest _ [] v (plain_end ns k end l)) in
-    behind-fixed ns old first-put now at first end 0 rest e done ∙ ap (sets old at) (sym (concept-flat ns first end w))
+    behind-fixed ns old first-put now at 0 end 0 rest e done ∙ ap (sets old at) (sym (concept-flat ns 0 end forms))
+    ∙ ap (λ (z : List (Listed ℕ)). sets old at (concept_bytes (concept z))) (nodes_whole ns)

@@ -2,7 +2,7 @@
 -- Assumes nothing.
 use mathlib.Core.Path.{◌≡◌, sym, ap, ◌∙◌, subst}
 use mathlib.Core.List.{List, [], ◌∷◌, ◌++◌, append-nil}
-use Prim.Native.Nat.{ℕ, ◌+◌, ◌*◌, ◌-◌, ◌≤◌, ◌<◌}
+use Prim.Native.Nat.{ℕ, ◌+◌, ◌*◌, ◌/◌, ◌≤◌, ◌<◌}
 use native.Mathlib.Omega.{arith}
 use lib.Dec.{T}
 use lib.ListN.{length, get_or}
@@ -13,13 +13,13 @@ use Rattle.meaning.specs.Bounds.{most_thresholds}
 use Rattle.meaning.specs.Tree.{nodes}
 use Rattle.meaning.specs.Lists.{Listed, Limit, form_tree, concept, threshold}
 use Rattle.meaning.specs.Message.{code, comparison, concept_bytes, threshold_bytes}
-use Rattle.meaning.specs.Writing.{nodes_from, inners_at, limit_at, nodes_fit, limit_fits}
+use Rattle.meaning.specs.Writing.{nodes_from, nodes_in, inners_at, limit_at, nodes_fit, limit_fits}
 use Rattle.meaning.proofs.Reading.{bytes-length, passed, gone, le-of-not-below, lt_of_not_le}
 use Rattle.meaning.proofs.Lists.{root_role}
 use Rattle.meaning.proofs.ListsFit.{listed-length}
 use Rattle.meaning.proofs.ListsSound.{inner-listed}
 use Rattle.meaning.proofs.MessageLabel.{coded, concept-length}
-use Rattle.lists.specs.Handed.{nodes_to, One, Inner}
+use Rattle.lists.specs.Handed.{One, Inner}
 use Rattle.limits.proofs.Nodes.{nodes-length}
 use Rattle.limits.proofs.Inner.{inner-some}
 use Rattle.limits.proofs.Putting.{bytes_one, put-none, put-more, put_all, put_as}
@@ -34,39 +34,54 @@ limit-open k h e =
     let d = gone (nodes_fit 0 h.inner) _ c.1 in
     (lt_of_not_le _ _ a.0, le-of-not-below _ _ b.0, d.0)
 
-pub nodes-to : (ns : List ℕ) (k n m : ℕ) → n ≡ m → nodes_to ns k (k + n) ≡ nodes_from ns k m
-nodes-to ns k n m e = let q : k + n - k ≡ m = omega (arith, e) in ap (nodes_from ns k) q
+-- its own nodes are all that a list has
+pub nodes-own : (hs own : List ℕ) (j : ℕ) → length own ≡ 3 * inners_at hs j → nodes_in own ≡ nodes_from own 0 (inners_at hs j)
+nodes-own hs own j e = let q : length own / 3 ≡ inners_at hs j = omega (arith, e) in ap (nodes_from own 0) q
 
-pub limit-inner : (hs inner : List ℕ) (j k n : ℕ) → n ≡ inners_at hs j → One hs inner j k → limit_fits j (limit_at hs inner j k) ≡ good tt → Inner inner k (k + n)
-limit-inner hs inner j k n e w f =
-    let q = sym (nodes-to inner k n (inners_at hs j) e) in
+pub limit-inner : (hs own : List ℕ) (j : ℕ) → length own ≡ 3 * inners_at hs j → One hs own j 0 → limit_fits j (limit_at hs own j 0) ≡ good tt → Inner own
+limit-inner hs own j e w f =
+    let q = sym (nodes-own hs own j e) in
     record {
-      stands = (omega arith, omega (arith, w.room, e));
       forms = subst (λ (z : List (Listed ℕ)). T (form_tree z)) q w.forms;
-      fits = subst (λ (z : List (Listed ℕ)). nodes_fit 0 z ≡ good tt) q (limit-open j (limit_at hs inner j k) f).2;
+      fits = subst (λ (z : List (Listed ℕ)). nodes_fit 0 z ≡ good tt) q (limit-open j (limit_at hs own j 0) f).2;
     }
 
+-- a threshold whose inner nodes are a list of their own
+module _ (hs inner own : List ℕ) (j k n : ℕ) (e : nodes_in own ≡ nodes_from inner k n) (long : length own ≡ 3 * n) (q : n ≡ inners_at hs j) where
+  own-nodes : nodes_from own 0 (inners_at hs j) ≡ nodes_from inner k (inners_at hs j)
+  own-nodes = sym (nodes-own hs own j (omega (arith, long, q))) ∙ e ∙ ap (nodes_from inner k) q
+
+  pub limit-own : limit_at hs own j 0 ≡ limit_at hs inner j k
+  limit-own = let e = own-nodes in cc
+
+  pub one-own : One hs inner j k × (limit_fits j (limit_at hs inner j k) ≡ good tt) → One hs own j 0 × (limit_fits j (limit_at hs own j 0) ≡ good tt)
+  one-own w = (
+    record { whole = w.0.whole; room = omega (arith, long, q); forms = subst (λ (z : List (Listed ℕ)). T (form_tree z)) (sym own-nodes) w.0.forms },
+    ap (limit_fits j) limit-own ∙ w.1,
+  )
+
 -- a threshold has at least one inner node
-pub limit-some : (hs inner : List ℕ) (j k n : ℕ) → n ≡ inners_at hs j → One hs inner j k → limit_fits j (limit_at hs inner j k) ≡ good tt → 0 < n
-limit-some hs inner j k n e w f = omega (arith, inner-some inner k (k + n) (limit-inner hs inner j k n e w f))
+pub limit-some : (hs own : List ℕ) (j : ℕ) → length own ≡ 3 * inners_at hs j → One hs own j 0 → limit_fits j (limit_at hs own j 0) ≡ good tt
+    → 0 < inners_at hs j
+limit-some hs own j e w f = omega (arith, e, inner-some own (limit-inner hs own j e w f))
 
 pub inner-long : (xs : List (Listed ℕ)) → T (form_tree xs) → length (concept_bytes (concept xs)) + 1 ≡ 11 * length xs
 inner-long xs w =
     let e : nodes (concept xs) ≡ length xs = sym (listed-length (concept xs) 0 (root_role xs)) ∙ ap length (inner-listed xs w) in
     concept-length (concept xs) ∙ ap (λ (z : ℕ). 11 * z) e
 
-pub limit-put : (hs inner old a b c d out : List ℕ) (at j k h p q n len : ℕ) → One hs inner j k → limit_fits j (limit_at hs inner j k) ≡ good tt
-    → h ≡ get_or hs (5 * j + 1) 0 → p ≡ get_or hs (5 * j + 2) 0 → q ≡ get_or hs (5 * j + 3) 0 → n ≡ get_or hs (5 * j + 4) 0 → a ≡ sets old at (bytes 1 h)
+pub limit-put : (hs own old a b c d out : List ℕ) (at j h p q len : ℕ) → One hs own j 0 → limit_fits j (limit_at hs own j 0) ≡ good tt
+    → length own ≡ 3 * inners_at hs j → h ≡ get_or hs (5 * j + 1) 0 → p ≡ get_or hs (5 * j + 2) 0 → q ≡ get_or hs (5 * j + 3) 0 → a ≡ sets old at (bytes 1 h)
     → b ≡ sets a (at + 1) (bytes 2 p) → c ≡ sets b (at + 3) (bytes 2 q) → d ≡ sets c (at + 5) (bytes 2 len)
-    → out ≡ sets d (at + 7) (concept_bytes (concept (nodes_to inner k (k + n)))) → len + 1 ≡ 11 * n
-    → out ≡ sets old at (threshold_bytes (threshold (limit_at hs inner j k)))
+    → out ≡ sets d (at + 7) (concept_bytes (concept (nodes_in own))) → len + 1 ≡ 11 * inners_at hs j
+    → out ≡ sets old at (threshold_bytes (threshold (limit_at hs own j 0)))
 unfolding bytes
-limit-put hs inner old a b c d out at j k h p q n len w f eh ep eq en ea eb ec ed eo el =
-    let l = limit_at hs inner j k in
+limit-put hs own old a b c d out at j h p q len w f en eh ep eq ea eb ec ed eo el =
+    let l = limit_at hs own j 0 in
     let all = threshold_bytes (threshold l) in
     let low = (limit-open j l f).1 in
     let body = concept_bytes (concept l.inner) in
-    let long : len ≡ length body = omega (arith, el, inner-long l.inner w.forms, nodes-length inner k (inners_at hs j), en) in
+    let long : len ≡ length body = omega (arith, el, inner-long l.inner w.forms, nodes-length own 0 (inners_at hs j)) in
     let how : bytes 1 h ≡ code (comparison l.how) ∷ [] =
     ap (bytes 1) eh ∙ bytes_one l.how (omega (arith, low)) ∙ ap (λ (z : ℕ). z ∷ []) (coded l.how low) in
     let one = put-more old old a at at (at + 1) all (code (comparison l.how) ∷ []) (bytes 2 l.p ++ (bytes 2 l.q ++ (bytes 2 (length body) ++ body)))
@@ -78,5 +93,5 @@ limit-put hs inner old a b c d out at j k h p q n len w f eh ep eq en ea eb ec e
     let four = put-more old c d at (at + 5) (at + 7) all (bytes 2 (length body)) body three
     (ed ∙ ap (λ (z : ℕ). sets c (at + 5) (bytes 2 z)) long) (omega (arith, bytes-length 2 (length body))) in
     let five = put-more old d out at (at + 7) (at + 7 + length body) all body [] (put_as old d at (at + 7) all body (body ++ []) four (sym (append-nil body)))
-    (eo ∙ ap (λ (z : List (Listed ℕ)). sets d (at + 7) (concept_bytes (concept z))) (nodes-to inner k n (inners_at hs j) en)) (omega arith) in
+    (eo ∙ ap (λ (z : List (Listed ℕ)). sets d (at + 7) (concept_bytes (concept z))) (nodes-own hs own j en)) (omega arith) in
     put_all old out at (at + 7 + length body) all five

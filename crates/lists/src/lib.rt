@@ -76,6 +76,7 @@ impl<'a> Nodes<'a> {
         requires { 3 * (first + count) ≤ length self.now }
         ensures nodes { nodes_in result ≡ nodes_from self.now first count }
         ensures len { length result ≡ 3 * count }
+        ensures fits { first + count < 2 ^ 61 }
     {
         let numbers = self.numbers;
         Nodes {

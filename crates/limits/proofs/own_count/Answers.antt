@@ -1,6 +1,6 @@
 -- `limits::own_count` meets its contract: what is counted and what is left of the run stay the same together.
 -- Assumes nothing.
-use Prim.Native.Nat.{ℕ, ◌/◌, ◌<◌}
+use Prim.Native.Nat.{◌/◌}
 use lib.ListN.{length}
 use native.Mathlib.Omega.{arith}
 use Rattle.limits.proofs.Runs.{run_more, run-stop, run_none}
