@@ -101,18 +101,6 @@ part-from : (a r t n : ℕ) → (a * 256 + r) * 65536 + t < n * 16777216 → a <
 part-from a r t n h = omega arith
 
 module _ (s : List ℕ) where
-  -- the number of a link from its first four bytes and its last
-  pub key-parts : (front last at : ℕ) → front ≡ number s at 2 * 65536 + number s (at + 2) 2 → last ≡ number s (at + 4) 1 → front * 256 + last ≡ key (link_at s at)
-  key-parts front last at ef el =
-      let e0 : get_or s (at + 2 + 1) 0 ≡ get_or s (at + 3) 0 = ap (λ (z : ℕ). get_or s z 0) (omega arith) in
-      let e1 : get_or s (at + 3 + 1) 0 ≡ get_or s (at + 4) 0 = ap (λ (z : ℕ). get_or s z 0) (omega arith) in
-      omega (arith, number-two s (at + 2), number-two s (at + 3), number-one s (at + 2), number-one s (at + 4))
-
-  -- the same of the link behind
-  pub next-parts : (front last at : ℕ) → front ≡ number s (at + 5) 2 * 65536 + number s (at + 5 + 2) 2 → last ≡ number s (at + 9) 1
-      → front * 256 + last ≡ key (link_at s (at + 5))
-  next-parts front last at ef el = key-parts front last (at + 5) ef (el ∙ ap (λ (z : ℕ). number s z 1) (omega arith))
-
   module _ (b : Bytes s) where
     two-below : (p : ℕ) → number s p 2 < 65536
     two-below p = omega (arith, number-two s p, b p, b (p + 1))
@@ -131,3 +119,27 @@ module _ (s : List ℕ) where
         let hr : r ≤ most_role = subst (λ (z : ℕ). z ≤ most_role) (part-role a r t (one_below (p + 2)) (two-below (p + 3))) w.2 in
         let ht : t < n = subst (λ (z : ℕ). z < n) (part-to a r t (two-below (p + 3))) w.1 in
         (link-reads s end n before p fit ha hr ht few floor fl w.0, (refl, hr, two-below (p + 3)))
+
+    -- the number of a link, read with the three bytes before it
+    behind : (q : ℕ) → number s q 8 % 1099511627776 ≡ key (link_at s (q + 3))
+    unfolding number
+    behind q =
+        let at : (i j : ℕ) → i ≡ j → get_or s i 0 ≡ get_or s j 0 = λ i j e. ap (λ (z : ℕ). get_or s z 0) e in
+        omega (
+          arith,
+          b (q + 3),
+          b (q + 4),
+          b (q + 5),
+          b (q + 6),
+          b (q + 7),
+          number-two s (q + 3),
+          number-one s (q + 3 + 2),
+          number-two s (q + 3 + 3),
+          at (q + 3 + 1) (q + 4) (omega arith),
+          at (q + 3 + 2) (q + 5) (omega arith),
+          at (q + 3 + 3) (q + 6) (omega arith),
+          at (q + 3 + 3 + 1) (q + 7) (omega arith),
+        )
+
+    pub key-behind : (p : ℕ) → 3 ≤ p → number s (p - 3) 8 % 1099511627776 ≡ key (link_at s p)
+    key-behind p h = let e : p - 3 + 3 ≡ p = omega arith in behind (p - 3) ∙ ap (λ (z : ℕ). key (link_at s z)) e

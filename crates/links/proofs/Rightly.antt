@@ -11,7 +11,7 @@ use Rattle.meaning.specs.Bounds.{most_items}
 use Rattle.meaning.specs.Bytes.{Bytes}
 use Rattle.meaning.specs.Register.{Link, link_at, read_link, read_links}
 use Rattle.meaning.proofs.Reading.{took}
-use Rattle.links.specs.Links.{key, Floor, Right, Rightly, Whole, AllRead}
+use Rattle.links.specs.Links.{key, Floor, Right, Rightly, AllRead}
 use Rattle.links.proofs.OneLink.{link-passed}
 
 module _ (s : List ℕ) (n : ℕ) where
@@ -47,30 +47,19 @@ module _ (s : List ℕ) (n : ℕ) where
     pub rightly-all : (m p : ℕ) → p + 5 * m ≤ end → Rightly s n m 0 p → AllRead s end n m p
     rightly-all m p fit w = rightly-read m nowhere 0 p refl fit w
 
-  -- ---- link after link, from place p with at least the number f on, up to place q
+  -- ---- link after link: if those from the k-th on are right, of which the first must have at least the number f, all are
+  module _ (m p : ℕ) where
+    abbrev pub Rest : ℕ → ℕ → Type 0
+    Rest k f = Rightly s n (m - k) f (p + 5 * k) → Rightly s n m 0 p
 
-  module _ (p f q : ℕ) where
-    -- if the links from `at` on are right, of which the first must have at least the number `least`, all are
-    pub record Upto (at least : ℕ) : Type 0 where
-      pub left : ℕ
-      pub place : at + 5 * left ≡ q
-      pub all : Rightly s n left least at → (m : ℕ) → p + 5 * m ≡ q → Rightly s n m f p
+    pub rest-all : Rest 0 0
+    rest-all r = let a : m - 0 ≡ m = omega arith in let b : p + 5 * 0 ≡ p = omega arith in rw (a, b) at r
 
-    pub upto-none : Whole p q → Upto p f
-    upto-none w = record { left = w.0; place = w.1; all = λ r m e. let d : w.0 ≡ m = omega (arith, w.1) in subst (λ (z : ℕ). Rightly s n z f p) d r }
+    pub rest-more : (k f number : ℕ) → k < m → number ≡ key (link_at s (p + 5 * k)) → Right number n f → Rest k f → Rest (k + 1) (number + 1)
+    rest-more k f number h e w all r =
+        let a : m - (k + 1) ≡ m - k - 1 = omega arith in
+        let b : p + 5 * (k + 1) ≡ p + 5 * k + 5 = omega arith in
+        all (rightly-more (m - k) f (p + 5 * k) number e (omega arith) w (rw (a, b) at r))
 
-    pub upto-more : (at least k : ℕ) → Upto at least → at < q → k ≡ key (link_at s at) → Right k n least → Upto (at + 5) (k + 1)
-    upto-more at least k w l e h = record {
-      left = w.left - 1;
-      place = omega (arith, w.place);
-      all = λ r. w.all (rightly-more w.left least at k e (omega (arith, w.place)) h r);
-    }
-
-    pub upto-two : (at least k l : ℕ) → Upto at least → at + 10 ≤ q → k ≡ key (link_at s at) → Right k n least → l ≡ key (link_at s (at + 5)) → Right l n (k + 1)
-        → Upto (at + 10) (l + 1)
-    upto-two at least k l w fit e h d i =
-        let two : at + 5 + 5 ≡ at + 10 = omega arith in
-        subst (λ (z : ℕ). Upto z (l + 1)) two (upto-more (at + 5) (k + 1) l (upto-more at least k w (omega arith) e h) (omega arith) d i)
-
-    pub upto_all : (at least : ℕ) → Upto at least → q ≤ at → least ≤ n * 16777216 → (m : ℕ) → p + 5 * m ≡ q → Rightly s n m f p
-    upto_all at least w l h = w.all (rightly-none w.left least at (omega (arith, w.place)) h)
+    pub rest_none : (k f : ℕ) → m ≤ k → f ≤ n * 16777216 → Rest k f → Rightly s n m 0 p
+    rest_none k f h l all = all (rightly-none (m - k) f (p + 5 * k) (omega arith) l)

@@ -38,10 +38,6 @@ unfoldable pub Rightly : List ℕ → ℕ → ℕ → ℕ → ℕ → Type 0
 Rightly s n zero floor p = floor ≤ n * 16777216
 Rightly s n (suc m) floor p = Right (key (link_at s p)) n floor × Rightly s n m (key (link_at s p) + 1) (p + 5)
 
--- whole links stand from place p up to place q
-abbrev pub Whole : ℕ → ℕ → Type 0
-Whole p q = (m : ℕ) × (p + 5 * m ≡ q)
-
 -- m links from place p on are read
 abbrev pub AllRead : List ℕ → ℕ → ℕ → ℕ → ℕ → Type 0
 AllRead s end n m p = (ls : List Link) × (read_links s end n m nowhere p ≡ good ls)

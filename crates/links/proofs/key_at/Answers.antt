@@ -1,8 +1,12 @@
--- `links::key_at` meets its contract: four bytes and one are the link's number.
+-- `links::key_at` meets its contract.
 -- Assumes nothing.
-use Rattle.links.proofs.OneLink.{key-parts}
+use Prim.Native.Nat.{◌≤◌}
+use native.Mathlib.Omega.{arith}
+use Rattle.fields.proofs.Known.{bytes-known}
+use Rattle.links.proofs.OneLink.{key-behind}
 use Rattle.links.proofs.key_at.Goals as goal
 
 pub returns : goal.returns
 returns c =
-    key-parts c.args.s.now _ _ _ c.four.ensures.value c.one.ensures.value
+    let h : 3 ≤ c.args.at = omega arith in
+    omega (arith, key-behind c.args.s.now (bytes-known c.args.s.now c.type_inv.s) c.args.at h)
