@@ -1,5 +1,4 @@
 pub mod Fill
-pub mod OnePass
-pub mod Serving
+pub mod Scanning
 pub mod Noting
 pub mod Step

@@ -17,12 +17,15 @@ use Rattle.meaning.specs.Register.{Register}
 use Rattle.meaning.specs.Shown.{pick}
 use Rattle.meaning.proofs.SessionNames.{has-none, with-has}
 use Rattle.meaning.proofs.Tests.{true-false, not_some}
+use Rattle.std.specs.Prelude.{Some, None, MatchOption, Option as Found}
+use Rattle.graph.specs.Sets.{Next}
 use Rattle.graph.specs.Walked.{walked}
 use Rattle.graph.specs.Judged.{start_no, end_no, Runs}
 use Rattle.folds.specs.declared.Best.{Best}
 use Rattle.folds.specs.Notes.{flag, Note, Outside, Clear}
 use Rattle.folds.specs.Folded.{Top}
-use Rattle.folds.proofs.Fill.{before_on}
+use Rattle.folds.specs.Members.{Member}
+use Rattle.folds.proofs.Fill.{before_next, before_more}
 
 -- notes with no places
 pub clear_none : (n e : ℕ) → Clear [] n e
@@ -50,43 +53,43 @@ module _ (notes : List ℕ) (at n : ℕ) where
       go (yes e) (yes l) = rw (e, get_or-set_same notes at (with_name true n (get_or notes at 0)) 0 l, with-has true n (get_or notes at 0) j, ne_eqb n j (λ z. d (sym z))) refl
       go (yes e) (no l) = ap (λ (t : List ℕ). flag t j k) (set_out notes at (with_name true n (get_or notes at 0)) (omega (arith, l)))
 
--- ---- all items of X in turn
+-- ---- all members in turn
 
-module _ (g : Register) (v : ℕ → ℕ) (role node : ℕ) (X : ℕ → Type 0) where
+module _ (g : Register) (v : ℕ → ℕ) (role node : ℕ) (members : List ℕ) where
   -- where the node goes from x
   abbrev choice : ℕ → Option ℕ
   choice x = pick v ((walked g).next x role)
 
-  -- those before the i-th are noted
+  -- those before i are noted
   pub record Noting (old new : List ℕ) (i : ℕ) : Type 0 where
     pub size : length new ≡ length old
-    pub done : (x : ℕ) → x < i → X x → Note g new node x (pick v ((walked g).next x role))
+    pub done : (x : ℕ) → x < i → Member members x → Note g new node x (pick v ((walked g).next x role))
     pub ahead : (k : ℕ) → k < length g.links → i ≤ start_no g k → flag new node k ≡ false
     pub other : (j k : ℕ) → (j ≡ node → ⊥) → flag new j k ≡ flag old j k
 
-  pub noting-none : (old : List ℕ) (i : ℕ) → ((k : ℕ) → flag old node k ≡ false) → ((x : ℕ) → 0 ≤ x → x < i → X x → ⊥) → Noting old old i
-  noting-none old i h none = record {
+  pub noting-none : (old : List ℕ) → ((k : ℕ) → flag old node k ≡ false) → Noting old old 0
+  noting-none old h = record {
     size = refl;
-    done = λ x l m. absurd (none x (omega arith) l m);
+    done = λ x l m. absurd (omega arith);
     ahead = λ k b l. h k;
     other = λ j k d. refl;
   }
 
-  module _ (old new : List ℕ) (i j : ℕ) (w : Noting old new i) (q : i + 1 ≤ j) (none : (x : ℕ) → i + 1 ≤ x → x < j → X x → ⊥) where
-    -- with the i-th
-    on : (new' : List ℕ) → length new' ≡ length new → ((x : ℕ) → x < i → X x → Note g new' node x (choice x)) → Note g new' node i (choice i)
-        → (x : ℕ) → x < j → X x → Note g new' node x (choice x)
-    on new' size before here = before_on X (λ x. Note g new' node x (choice x)) (i + 1) j none (λ x l m. go x l m (ℕ_discrete x i))
-      where
-        go : (x : ℕ) → x < i + 1 → X x → Dec (x ≡ i) → Note g new' node x (choice x)
-        go x l m (yes d) = subst (λ (z : ℕ). Note g new' node z (choice z)) (sym d) here
-        go x l m (no d) = before x (omega (arith, d)) m
+  module _ (old new : List ℕ) (i : ℕ) (w : Noting old new i) where
+    -- no member stands before j
+    pub noting-on : (j : ℕ) → Next members i j → Noting old new j
+    noting-on j n = record {
+      size = w.size;
+      done = before_next members (λ x. Note g new node x (choice x)) i j n w.done;
+      ahead = λ k b l. w.ahead k b (let q = n.behind in omega arith);
+      other = w.other;
+    }
 
     -- it has no successor
-    stay : ((y : ℕ) → choice i ≡ some y → ⊥) → Noting old new j
+    stay : ((y : ℕ) → choice i ≡ some y → ⊥) → Noting old new (i + 1)
     stay lost = record {
       size = w.size;
-      done = on new refl w.done (record {
+      done = before_more (Member members) (λ x. Note g new node x (choice x)) i w.done (record {
         only = λ k b f t. absurd (true-false t (w.ahead k b (omega (arith, f))));
         one = λ y e. absurd (lost y e);
       });
@@ -95,10 +98,10 @@ module _ (g : Register) (v : ℕ → ℕ) (role node : ℕ) (X : ℕ → Type 0)
     }
 
     -- it goes along a link of its own
-    along : (at : ℕ) → at < length g.links → start_no g at ≡ i → choice i ≡ some (end_no g at) → Noting old (note_at new at node) j
+    along : (at : ℕ) → at < length g.links → start_no g at ≡ i → choice i ≡ some (end_no g at) → Noting old (note_at new at node) (i + 1)
     along at b s o = record {
       size = length-set new at (with_name true node (get_or new at 0)) ∙ w.size;
-      done = on (note_at new at node) (length-set new at (with_name true node (get_or new at 0))) before here;
+      done = before_more (Member members) (λ x. Note g (note_at new at node) node x (choice x)) i before here;
       ahead = λ k c l. flag-link new at node node k (apart k (start_no g k) refl (λ z. let y : start_no g k ≡ i = z in omega arith)) ∙ w.ahead k c (omega arith);
       other = λ n k d. flag-row new at node n k d ∙ w.other n k d;
     }
@@ -106,7 +109,7 @@ module _ (g : Register) (v : ℕ → ℕ) (role node : ℕ) (X : ℕ → Type 0)
         apart : (k x : ℕ) → start_no g k ≡ x → (x ≡ i → ⊥) → k ≡ at → ⊥
         apart k x f d e = d (sym f ∙ ap (start_no g) e ∙ s)
 
-        before : (x : ℕ) → x < i → X x → Note g (note_at new at node) node x (choice x)
+        before : (x : ℕ) → x < i → Member members x → Note g (note_at new at node) node x (choice x)
         before x l m =
             let past = w.done x l m in
             let other : x ≡ i → ⊥ = λ z. let y : x ≡ i = z in omega arith in
@@ -128,17 +131,15 @@ module _ (g : Register) (v : ℕ → ℕ) (role node : ℕ) (X : ℕ → Type 0)
             go k c f t (no d) = absurd (true-false (sym (flag-link new at node node k d) ∙ t) (w.ahead k c (omega (arith, f))))
 
     pub noting-more : (first end : ℕ) (b : Best) → Runs g i role first end → Top g v ((walked g).next i role) first end b → (new' : List ℕ)
-        → (b.link < end → new' ≡ note_at new b.link node) → (end ≤ b.link → new' ≡ new) → Noting old new' j
-    noting-more first end b r t new' yes' no' = go (dec_lt b.link end)
+        → MatchOption b.link (new' ≡ new) (λ k. new' ≡ note_at new k node) → Noting old new' (i + 1)
+    noting-more first end b r t new' said = go b.link refl said
       where
-        go : Dec (b.link < end) → Noting old new' j
-        go (yes m) =
-            let p = t.link m in
-            subst (λ (z : List ℕ). Noting old z j) (sym (yes' m))
-            (along b.link (omega (arith, m, r.within)) (r.own b.link p.0 m) p.1)
-        go (no l) =
-            let m : end ≤ b.link = omega (arith, l) in
-            subst (λ (z : List ℕ). Noting old z j) (sym (no' m)) (stay (λ y e. not_some y (sym (t.none m) ∙ e)))
+        go : (o : Found ℕ) → b.link ≡ o → MatchOption o (new' ≡ new) (λ k. new' ≡ note_at new k node) → Noting old new' (i + 1)
+        go (Some k) z q =
+            let p = t.link k z in
+            subst (λ (y : List ℕ). Noting old y (i + 1)) (sym q)
+            (along k (let high = p.1 in let within = r.within in omega arith) (r.own k p.0 p.1) p.2)
+        go None z q = subst (λ (y : List ℕ). Noting old y (i + 1)) (sym q) (stay (λ y e. not_some y (sym (t.none z) ∙ e)))
 
   pub noting-outside : (old new : List ℕ) (i : ℕ) → Noting old new i → Outside node (node + 1) old new
   noting-outside old new i w j k (inl l) = w.other j k (λ e. let z : j ≡ node = e in omega arith)

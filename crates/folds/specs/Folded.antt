@@ -1,13 +1,13 @@
 -- Rows of numbers, one for each item, and a child's numbers folded into those of its parent.
 -- Assumes nothing.
-use Rattle.std.specs.Prelude.{◌≡◌, false, ◌⊎◌, List, ℕ, ◌+◌, ◌*◌, ◌≤◌, ◌<◌, length, get_or}
+use Rattle.std.specs.Prelude.{◌≡◌, false, ◌⊎◌, List, Some, None, ℕ, ◌+◌, ◌*◌, ◌≤◌, ◌<◌, length, get_or}
 use Rattle.std.proofs.Math.Option.{some, none as nowhere}
 use Rattle.meaning.specs.Graph.{Graph}
-use Rattle.meaning.specs.Register.{Register}
+use Rattle.meaning.specs.Register.{Register, withdrawn, except}
 use Rattle.meaning.specs.Degree.{best}
 use Rattle.meaning.specs.Shown.{pick}
 use Rattle.graph.specs.Walked.{walked}
-use Rattle.graph.specs.Judged.{Judged, end_no}
+use Rattle.graph.specs.Judged.{Judged, end_no, spanned, Parted}
 use Rattle.folds.specs.Members.{Member}
 use Rattle.folds.specs.Notes.{flag, Note, Outside}
 use Rattle.folds.specs.declared.Best.{Best}
@@ -23,8 +23,14 @@ Kept at old new = (i : ℕ) → i < at → get_or new i 0 ≡ get_or old i 0
 -- of some ends of links from `first` up to `end`: the greatest value, and the first link whose end has it
 pub record Top (g : Register) (v : ℕ → ℕ) (ys : List ℕ) (first end : ℕ) (b : Best) : Type 0 where
   pub value : b.value ≡ best v ys
-  pub link : b.link < end → (first ≤ b.link) × (pick v ys ≡ some (end_no g b.link))
-  pub none : end ≤ b.link → pick v ys ≡ nowhere
+  pub link : (k : ℕ) → b.link ≡ Some k → (first ≤ k) × (k < end) × (pick v ys ≡ some (end_no g k))
+  pub none : b.link ≡ None → pick v ys ≡ nowhere
+
+-- the same of the ends in service of the links from `first` up to `stop`, as far as none is of a higher role
+pub record Chosen (g : Register) (role first stop : ℕ) (v : ℕ → ℕ) (b : Best) : Type 0 where
+  pub end : ℕ
+  pub parted : Parted g (role + 1) first stop end
+  pub top : Top g v (except (withdrawn g) (spanned (end_no g) first end)) first end b
 
 -- ---- one child folded in at the members of a set: its numbers stand from `from` on, and the sums from `to` on
 

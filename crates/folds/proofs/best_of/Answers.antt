@@ -1,76 +1,58 @@
-use Prim.Native.Nat.{◌+◌, ℕ}
+use Prim.Native.Nat.{ℕ, ◌+◌, ◌<◌}
 use native.Mathlib.Omega.{arith}
-use mathlib.Core.Path.{ap}
+use mathlib.Core.Bool.{false, not}
+use borrow.Author.Tests.{ne_eqb}
+use mathlib.Core.Logic.{◌⊎◌, inl, inr}
+use mathlib.Core.Path.{◌≡◌, ap, sym, ◌∙◌}
 use lib.ListN.{get_or}
+use Rattle.std.specs.Prelude.{None}
+use Rattle.meaning.specs.Register.{withdrawn}
 use Rattle.graph.specs.Judged.{end_no}
-use Rattle.graph.proofs.Rising.{one_on}
-use Rattle.graph.proofs.Use.{asked-one}
-use Rattle.folds.proofs.OnePass.{scan-start, scan-pass, scan-take, scan-end}
+use Rattle.graph.proofs.Judging.{judged}
+use Rattle.graph.proofs.Use.{asked-names}
+use Rattle.folds.proofs.Scanning.{passing-start, passing-end, passing-by, passing-out, passing-take, there_is, there_is_none}
 use Rattle.folds.proofs.best_of.Goals as goal
+use Rattle.folds.proofs.best_of.Goals.{else-value-best-via-then-value-best+else-is_some, else-value-best-via-else-value-best, else-not-this-via-then-not-this+else-is_out, else-not-this-via-else-not-this}
 
 pub loop-k-init : goal.loop-k-init
-loop-k-init c =
-    (omega arith, c.requires.first_le_stop.0, λ g h. (λ l. absurd (omega arith), scan-start _ (end_no g) _))
+loop-k-init g c =
+    λ j. passing-start j.register _ _ _
 
-pub role_of-requires : goal.role_of-requires
-role_of-requires c =
-    asked-one c.requires.asked c.loop-k-test.true
+pub is_out-requires : goal.is_out-requires
+is_out-requires g c =
+    asked-names (judged c.args.on.now.judged) c.end_of-to.ensures.upper_bound
 
-pub returns-then-role-role_of : goal.returns-then-role-role_of
-returns-then-role-role_of c =
-    let inv = c.loop-k.invariant in
-    λ g h. (
-      record {
-        behind = inv.0;
-        within = inv.1;
-        before = (inv.2 g h).0;
-        here = λ l. omega (arith, (c.role_of.ensures g h).0, c.if-role-role_of.true);
-      },
-      scan-end _ g _ _ _ (inv.2 g h).1,
-    )
+pub loop-k-preserved-then-is_some : goal.loop-k-preserved-then-is_some
+loop-k-preserved-then-is_some g c =
+    λ j. let e = ap (λ (z : ℕ). get_or c.args.numbers.now (c.args.at + z) 0) (c.end_of-to.ensures.image j) in
+    passing-by (c.loop-k.invariant j) (omega (arith, c.role_of.ensures j, c.if-role-role_of.false)) (omega (arith, e, c.if-value-best.true))
+    (there_is _ (sym c.is_some.ensures ∙ c.if-is_some.true))
 
-pub end_of-requires : goal.end_of-requires
-end_of-requires c =
-    asked-one c.requires.asked c.loop-k-test.true
-
-pub overflow_add-v : goal.overflow_add-v
-overflow_add-v c =
-    omega (arith, c.end_of.ensures.upper_bound)
-
-pub offset_bounds-numbers-at : goal.offset_bounds-numbers-at
-offset_bounds-numbers-at c =
-    omega (arith, c.end_of.ensures.upper_bound)
-
-pub bounds-numbers-at : goal.bounds-numbers-at
-bounds-numbers-at c =
-    omega (arith, c.end_of.ensures.upper_bound)
-
-pub loop-k-preserved-then-v-value : goal.loop-k-preserved-then-v-value
-loop-k-preserved-then-v-value c = (
-  omega arith,
-  omega arith,
-  λ g h. (
-    λ l. one_on g _ _ (omega (arith, (c.role_of.ensures g h).0, c.if-role-role_of.false)),
-    scan-pass _ (end_no g) _ _ _ _ _ (c.loop-k.invariant.2 g h).1 (ap (λ (z : ℕ). get_or c.args.numbers.now (c.args.at + z) 0) (c.end_of.ensures.image g h))
-        (omega (arith, c.if-v-value.true)),
-  ),
-)
+pub loop-k-preserved-then-is_out : goal.loop-k-preserved-then-is_out
+loop-k-preserved-then-is_out g c =
+    λ j. passing-out (c.loop-k.invariant j) (omega (arith, c.role_of.ensures j, c.if-role-role_of.false))
+    (ap (withdrawn j.register) (sym (c.end_of-to.ensures.image j)) ∙ sym (c.is_out.ensures j.register j.read) ∙ c.if-is_out.true)
 
 pub loop-k-preserved : goal.loop-k-preserved
-loop-k-preserved c = (
-  omega arith,
-  omega arith,
-  λ g h. (
-    λ l. one_on g _ _ (omega (arith, (c.role_of.ensures g h).0, c.if-role-role_of.false)),
-    scan-take _ (end_no g) _ _ _ _ _ (c.loop-k.invariant.2 g h).1 (ap (λ (z : ℕ). get_or c.args.numbers.now (c.args.at + z) 0) (c.end_of.ensures.image g h))
-        (omega (arith, c.if-v-value.false)),
-  ),
-)
+loop-k-preserved g c =
+    λ j. let better : (c.loop-k.best.link ≡ None) ⊎ (c.loop-k.best.value < get_or c.args.numbers.now (c.args.at + c.end_of-to.result) 0) =
+    elim c.else-value-best.branch [
+      | else-value-best-via-then-value-best+else-is_some w ↦ inl (there_is_none _ (sym w.is_some.ensures ∙ w.if-is_some.false))
+      | else-value-best-via-else-value-best w ↦ inr (omega (arith, w.if-value-best.false))
+    ] in
+    let serves : withdrawn j.register (end_no j.register c.loop-k.k) ≡ false =
+    elim c.else-not-this.branch [
+      | else-not-this-via-then-not-this+else-is_out w ↦
+          ap (withdrawn j.register) (sym (c.end_of-to.ensures.image j)) ∙ sym (w.is_out.ensures j.register j.read) ∙ w.if-is_out.false
+      | else-not-this-via-else-not-this w ↦ c.requires.served (ap not (ne_eqb _ _ w.if-not-this.false)) j _
+    ] in
+    passing-take (c.loop-k.invariant j) (omega (arith, c.role_of.ensures j, c.if-role-role_of.false)) c.loop-k.auto.k
+    (ap (λ (z : ℕ). get_or c.args.numbers.now (c.args.at + z) 0) (c.end_of-to.ensures.image j)) better serves
 
-pub returns : goal.returns
-returns c =
-    let inv = c.loop-k.invariant in
-    λ g h. (
-      record { behind = inv.0; within = inv.1; before = (inv.2 g h).0; here = λ l. absurd (omega (arith, c.loop-k-test.false)) },
-      scan-end _ g _ _ _ (inv.2 g h).1,
-    )
+pub returns-after-loop-k : goal.returns-after-loop-k
+returns-after-loop-k g c =
+    λ j. passing-end (c.loop-k.invariant j) c.loop-k.auto.k (c.loop-k.auto.k-end (c.requires.run j).0) (λ l. absurd (omega (arith, l, c.loop-k-test.false)))
+
+pub returns-then-role-role_of : goal.returns-then-role-role_of
+returns-then-role-role_of g c =
+    λ j. passing-end (c.loop-k.invariant j) c.loop-k.auto.k (omega (arith, c.loop-k-test.true)) (λ l. omega (arith, c.role_of.ensures j, c.if-role-role_of.true))

@@ -1,14 +1,8 @@
-use Prim.Native.Nat.{◌≤◌, ◌<◌, ◌-◌, ◌+◌}
-use Rattle.register.specs.Image.{Image}
-use Rattle.graph.specs.Judged.{end_no, role_no}
+use Rattle.graph.specs.On.{JudgedOn}
 use Rattle.folds.specs.Folded.{row_at}
-use Rattle.folds.proofs.OnePass.{Scan}
+use Rattle.folds.proofs.Scanning.{Passing}
 use Rattle.folds.proofs.best_of.Given as goal
 
 abbrev pub invariant-loop-k : goal.invariant-loop-k
-invariant-loop-k l =
-    (l.first ≤ l.k) × (l.k ≤ l.stop) × Image l.s (λ g. (l.first < l.k → role_no g (l.k - 1) < l.role + 1) × Scan (row_at l.numbers l.at) (end_no g) l.first l.value l.link l.k)
-
-abbrev pub decreases-loop-k : goal.decreases-loop-k
-decreases-loop-k l =
-    l.stop - l.k
+invariant-loop-k g l =
+    (j : JudgedOn l.on) → Passing j.register l.role (row_at l.numbers l.at) l.start l.best l.k

@@ -1,58 +1,48 @@
 use Prim.Native.Nat.{◌+◌}
 use native.Mathlib.Omega.{arith}
-use mathlib.Core.Path.{refl, ap, ◌∙◌}
+use mathlib.Core.Path.{ap, ◌∙◌}
 use mathlib.Core.Logic.{inr}
-use lib.ListN.{length-set}
 use Rattle.meaning.specs.Names.{common}
-use Rattle.meaning.proofs.Tests.{true-false}
-use Rattle.graph.proofs.Members.{member-few}
-use Rattle.folds.proofs.Fill.{filled_none, filled_more, filled-kept, filled_apart, sum_fits, sum_is, times-one}
+use Rattle.graph.proofs.Judging.{judged}
+use Rattle.folds.proofs.Fill.{filled_none, filled-on, filled_more, filled-kept, filled_apart, filled-all, sum_fits, sum_is, times-one}
 use Rattle.folds.proofs.own.Goals as goal
-
-pub next_in-x-requires : goal.next_in-x-requires
-next_in-x-requires c =
-    (c.requires.asked.holds.0.0, omega arith)
 
 pub loop-x-init : goal.loop-x-init
 loop-x-init c =
-    (c.next_in-x.ensures.within, c.next_in-x.ensures.member, refl, λ g h. filled_none _ _ _ _ _ (λ x a b m. true-false m (c.next_in-x.ensures.passed x a b)))
+    let m = c.members-x-items.ensures in
+    rw c.into_iter-x-iterator.ensures.into_iter_gives (record { same = ap (λ s. s.words) m.0; filled = λ j. rw m.1 (filled_none _ _ _ _) })
 
 pub names-requires : goal.names-requires
 names-requires c =
-    record { register = c.requires.asked.register; read = c.requires.asked.read; holds = c.requires.asked.holds.0.1 _ (c.loop-x.invariant.1 c.loop-x-test.true) }
+    let s = c.in-Some.ensures.steps in
+    let n = rw c.loop-x.invariant.same at s.1.0 in
+    c.requires.members _ (n.member s.1.1)
 
 pub folded-requires : goal.folded-requires
 folded-requires c =
-    sum_fits _ _ _ _ _ 1 _ (ap (common c.args.names) (c.names.ensures c.requires.asked.register c.requires.asked.read)) (filled_apart _ _ _ _ _ _
-    (c.loop-x.invariant.3 c.requires.asked.register c.requires.asked.read) (c.args.at + 512) (inr (omega arith)) _ c.loop-x-test.true) (rw
-    times-one (c.requires.asked.holds.1 _ (c.loop-x.invariant.1 c.loop-x-test.true)))
-
-pub next_in-x-requires-in-loop-x : goal.next_in-x-requires-in-loop-x
-next_in-x-requires-in-loop-x c =
-    (c.requires.asked.holds.0.0, omega arith)
-
-pub loop-x-smaller : goal.loop-x-smaller
-loop-x-smaller c =
-    omega (arith, c.next_in-x-in-loop-x.ensures.behind, c.loop-x-test.true)
+    let s = c.in-Some.ensures.steps in
+    let n = rw c.loop-x.invariant.same at s.1.0 in
+    let j = judged c.args.on.now.judged in
+    sum_fits _ _ _ _ _ 1 _ (ap (common c.args.names) (c.names.ensures j))
+    (filled_apart _ _ _ _ _ _ (c.loop-x.invariant.filled j) (c.args.at + 512) (inr (omega arith)) _ s.1.1) (rw times-one (c.requires.fits j _ (n.member s.1.1)))
 
 pub loop-x-preserved : goal.loop-x-preserved
-loop-x-preserved c = (
-  c.next_in-x-in-loop-x.ensures.within,
-  c.next_in-x-in-loop-x.ensures.member,
-  simp length-set c.loop-x.invariant.2,
-  λ g h. filled_more _ _ _ _ _ _ (c.loop-x.invariant.3 g h) _ _
-      c.loop-x-test.true (omega arith) (sum_is _ _ _ _ _ _ 1 c.folded.ensures (ap (common c.args.names) (c.names.ensures
-      g h)) (filled_apart _ _ _ _ _ _ (c.loop-x.invariant.3 g h) (c.args.at + 512) (inr (omega arith)) _ c.loop-x-test.true) ∙ times-one _ _) c.next_in-x-in-loop-x.ensures.behind
-      (λ x a b m. true-false m (c.next_in-x-in-loop-x.ensures.passed x a b)),
-)
-
-pub shape_of-numbers : goal.shape_of-numbers
-shape_of-numbers c =
-    c.loop-x.invariant.2
+loop-x-preserved c =
+    let s = c.in-Some.ensures.steps in
+    let n = rw c.loop-x.invariant.same at s.1.0 in
+    record {
+      same = rw s.0 c.loop-x.invariant.same;
+      filled = λ j. let w = c.loop-x.invariant.filled j in rw s.1.2
+          (filled_more _ _ _ _ _ _ (filled-on _ _ _ _ _ _ w _ n) _ s.1.1 (omega (arith, c.requires.rows))
+          (sum_is _ _ _ _ _ _ 1 c.folded.ensures (ap (common c.args.names) (c.names.ensures j))
+          (filled_apart _ _ _ _ _ _ w (c.args.at + 512) (inr (omega arith)) _ s.1.1) ∙ times-one _ _));
+    }
 
 pub returns : goal.returns
 returns c =
+    let j = judged c.args.on.now.judged in
     record {
-      image = λ g h x m. (c.loop-x.invariant.3 g h).done x (omega (arith, c.loop-x-test.false, member-few c.args.set.now c.requires.asked.holds.0.0 x m)) m;
-      kept = filled-kept _ _ _ _ _ _ (c.loop-x.invariant.3 c.requires.asked.register c.requires.asked.read);
+      sums = λ j x m.
+          filled-all _ _ _ _ _ _ (c.loop-x.invariant.filled j) (rw c.loop-x.invariant.same at c.in-None.ensures.steps.1.0) (λ x m. let l = c.requires.members x m in omega (arith, j.most)) x m;
+      kept = filled-kept _ _ _ _ _ _ (c.loop-x.invariant.filled j);
     }
