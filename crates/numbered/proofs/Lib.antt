@@ -1,3 +1,2 @@
-pub mod Faces
 pub mod Codes
 pub mod Played

@@ -12,10 +12,9 @@ use Rattle.meaning.specs.Register.{Register, is_fact, read_buffer}
 use Rattle.meaning.specs.Session.{Edit, Changed, Call, opens, edits, undoes, keeps, edit_call, undo_call, keep_call, no_steps, counted, buffer_after, log_after, image_of}
 use Rattle.meaning.specs.Session.{Session, last_step, answer, buffer, log, count_after, next, play, kept_if, accepted, Standing, nothing, told, standing, standing_facts}
 use Rattle.meaning.specs.Demand3.{Shows}
-use Rattle.session.specs.declared.Counted.{Counted}
-use Rattle.session.specs.declared.Counted.TheVariants.{Good}
+use Rattle.std.specs.Prelude.{Ok}
 use Rattle.numbered.specs.Coded.{decoded}
-use Rattle.session.specs.Calls.{paper_count}
+use Rattle.session.specs.Calls.{Counted, paper_count}
 use Rattle.numbered.specs.Played.{Lent, lent, steps, Promised, Called, Result, Played, calls, taken}
 use Rattle.fields.proofs.Once.{once}
 use Rattle.session.proofs.Promise.{count-told}
@@ -112,16 +111,16 @@ module _ (s t : Lent) (g : Register) (r : read_buffer s.buffer ≡ good g) (a : 
 
   -- An accepted edit that leaves the image as it was had nothing to change; so had an undo's edit. So neither an image that never changes nor an undo
   -- that does nothing keeps the promises, nor a session that applies its first edit and only counts the rest: `xs` may hold any edits.
-  pub edit-moves : (e : Edit) (n : ℕ) (u : Lent) → Called t (edits e) (Good n) u → image_of u.buffer ≡ image_of t.buffer
+  pub edit-moves : (e : Edit) (n : ℕ) (u : Lent) → Called t (edits e) (Ok n) u → image_of u.buffer ≡ image_of t.buffer
       → standing_facts stands (is_fact g) e.fact ≡ e.adds
   unfolding Played
   edit-moves e n u h i =
-      let one = one-call t (edits e) (Good n) u h in
+      let one = one-call t (edits e) (Ok n) u h in
       edit-moved (steps s) (steps t) g p.1.bytes r (calls xs) _ follow.0 follow.1 n (steps u) i e one.0 one.1
 
-  pub undo-moves : (e : Edit) (es : List Edit) (n : ℕ) (u : Lent) → stands.trial ≡ e ∷ es → Called t undoes (Good n) u
+  pub undo-moves : (e : Edit) (es : List Edit) (n : ℕ) (u : Lent) → stands.trial ≡ e ∷ es → Called t undoes (Ok n) u
       → image_of u.buffer ≡ image_of t.buffer → standing_facts (told stands undoes) (is_fact g) e.fact ≡ e.adds
   unfolding Played
   undo-moves e es n u d h i =
-      let one = one-call t undoes (Good n) u h in
+      let one = one-call t undoes (Ok n) u h in
       undo-moved (steps s) (steps t) g p.1.bytes r (calls xs) _ follow.0 follow.1 n (steps u) i e es d one.0 one.1

@@ -5,9 +5,8 @@ use Rattle.std.specs.Prelude.{◌≡◌, List, [], ◌∷◌, map, ℕ, ◌-◌,
 use Rattle.meaning.specs.Bytes.{Bytes}
 use Rattle.meaning.specs.Session.{Session, Call, opens, edits, undoes, keeps, open_call, edit_call, undo_call, keep_call}
 use Rattle.meaning.specs.Session.{no_steps, counted, buffer_opened, buffer_after, count_after, kept_if}
-use Rattle.session.specs.declared.Counted.{Counted}
 use Rattle.numbered.specs.Coded.{decoded, numbers_after}
-use Rattle.session.specs.Calls.{paper_count, an_edit}
+use Rattle.session.specs.Calls.{Counted, paper_count, an_edit}
 
 -- what a call is handed: the buffer, the log, and the count in use
 pub record Lent : Type 0 where

@@ -13,10 +13,9 @@ use Rattle.meaning.specs.Register.{Register, is_fact, read_buffer}
 use Rattle.meaning.specs.Session.{Edit, Session, Call, opens, edits, undoes, image_of, answer, next, play, kept_if, accepted}
 use Rattle.meaning.specs.Session.{Standing, nothing, told, standing, standing_facts}
 use Rattle.meaning.specs.Demand3.{Shows}
-use Rattle.session.specs.declared.Counted.{Counted}
 use Rattle.recorded.specs.declared.held.Held.{Held}
-use Rattle.session.specs.declared.Counted.TheVariants.{Good}
-use Rattle.session.specs.Calls.{paper_count}
+use Rattle.std.specs.Prelude.{Ok}
+use Rattle.session.specs.Calls.{Counted, paper_count}
 use Rattle.recorded.specs.Played.{session, Promised, Played, calls, taken}
 use Rattle.session.proofs.Followed.{shows, edit-moved, undo-moved}
 use Rattle.fields.proofs.Once.{once-left}
@@ -63,12 +62,12 @@ module _ (s t : Session) (g : Register) (b : Bytes s.buffer) (r : read_buffer s.
 
   -- An accepted edit that leaves the image as it was had nothing to change; so had an undo's edit. So neither an image that never changes nor an undo
   -- that does nothing keeps the promises, nor a session that applies its first edit and only counts the rest: `hs` may hold any edits.
-  pub edit-moves : (e : Edit) (n : ℕ) (u : Session) → Promised t (edits e) (Good n) u → image_of u.buffer ≡ image_of t.buffer
+  pub edit-moves : (e : Edit) (n : ℕ) (u : Session) → Promised t (edits e) (Ok n) u → image_of u.buffer ≡ image_of t.buffer
       → standing_facts stands (is_fact g) e.fact ≡ e.adds
   edit-moves e n u h i =
       edit-moved s t g b r (calls hs) _ follow.0 follow.1 n u i e h.0 h.1
 
-  pub undo-moves : (e : Edit) (es : List Edit) (n : ℕ) (u : Session) → stands.trial ≡ e ∷ es → Promised t undoes (Good n) u
+  pub undo-moves : (e : Edit) (es : List Edit) (n : ℕ) (u : Session) → stands.trial ≡ e ∷ es → Promised t undoes (Ok n) u
       → image_of u.buffer ≡ image_of t.buffer → standing_facts (told stands undoes) (is_fact g) e.fact ≡ e.adds
   undo-moves e es n u d h i =
       undo-moved s t g b r (calls hs) _ follow.0 follow.1 n u i e es d h.0 h.1

@@ -1,11 +1,10 @@
 -- The calls one after another, on the face whose log is step records: what the promise of each says of its result, from what the last one left.
--- proofs/PlayedRecords.antt shows that such results, whatever they are, follow meaning's history, so that demand 3 holds of the calls themselves.
+-- proofs/Played.antt shows that such results, whatever they are, follow meaning's history, so that demand 3 holds of the calls themselves.
 -- Assumes nothing.
 use Rattle.std.specs.Prelude.{◌≡◌, List, [], ◌∷◌, map, ℕ}
 use Rattle.meaning.specs.declared.Step.{Step}
 use Rattle.meaning.specs.Session.{Session, Call, answer, next, kept_if}
-use Rattle.session.specs.declared.Counted.{Counted}
-use Rattle.session.specs.Calls.{paper_count}
+use Rattle.session.specs.Calls.{Counted, paper_count}
 
 abbrev pub session : List ℕ → List Step → ℕ → Session
 session b l n = record { buffer = b; log = l; count = n }

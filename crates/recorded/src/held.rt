@@ -4,31 +4,30 @@ ghost use Rattle.meaning.specs.Session.{edits, undoes, keeps, count_after};
 ghost use Rattle.session.specs.Calls.{paper_count, an_edit};
 ghost use Rattle.recorded.specs.Played.{session, Promised};
 
-use meaning::{Fact, Step};
-use session::Counted;
+use meaning::{Fact, Refusal, Step};
 
 // What an edit hands back: the log afterwards, and the answer.
 #[derive(Drop)]
 pub struct Held {
     pub log: [Step; 64],
-    pub answer: Counted,
+    pub answer: Result<usize, Refusal>,
 }
 
 pub fn edit(s: &mut [u8], log: [Step; 64], count: usize, fact: Fact, adds: bool) -> Held
     ensures { Promised (session s.old log count) (edits (an_edit fact adds)) result.answer (session s.new result.log (count_after count (paper_count result.answer))) }
 {
-    let mut held = log;
-    let answer = super::edit(s, &mut held, count, fact, adds);
-    Held { log: held, answer }
+    let mut log = log;
+    let answer = super::edit(s, &mut log, count, fact, adds);
+    Held { log, answer }
 }
 
-pub fn undo(s: &mut [u8], log: [Step; 64], count: usize) -> Counted
+pub fn undo(s: &mut [u8], log: [Step; 64], count: usize) -> Result<usize, Refusal>
     ensures { Promised (session s.old log count) undoes result (session s.new log (count_after count (paper_count result))) }
 {
     super::undo(s, &log, count)
 }
 
-pub fn keep(s: &[u8], log: [Step; 64], count: usize) -> Counted
+pub fn keep(s: &[u8], log: [Step; 64], count: usize) -> Result<usize, Refusal>
     ensures { Promised (session s.now log count) keeps result (session s.now log (count_after count (paper_count result))) }
 {
     super::keep(s, &log, count)

@@ -2,61 +2,42 @@
 -- Assumes nothing.
 use mathlib.Core.Path.{◌≡◌, refl, sym, ap, ap₂, ◌∙◌, subst}
 use mathlib.Core.Bool.{Bool, true, false, ◌||◌}
-use mathlib.Core.List.{List, ◌++◌}
+use mathlib.Core.List.{List, ◌++◌, append-nil}
 use Prim.Native.Nat.{ℕ, ◌+◌, ◌-◌, ◌≤◌, ◌<◌, min}
 use native.Mathlib.Omega.{arith}
-use lib.Dec.{ltb, leb, eqb, eqb→eq}
-use lib.ListN.{length, take, drop}
+use Rattle.std.specs.Prelude.{Option, Some, None, Result, Ok, Err}
+use Rattle.std.specs.Option.{ok_or}
+use Rattle.std.proofs.lemmas.List.Edits.{paste_all}
+use Rattle.std.proofs.lemmas.Slice.{put_mid-paste}
+use borrow.Rule.Slice.PartMut.{put_mid}
+use lib.Dec.{ltb, eqb, eqb→eq}
+use lib.ListN.{length, set, take, drop, length-take, length-drop, length-replicate}
 use Rattle.meaning.specs.declared.Fact.{Fact}
 use Rattle.meaning.specs.declared.Fact.TheVariants.{Name as name_on, Link as link_of}
 use Rattle.meaning.specs.declared.Step.{Step}
 use Rattle.meaning.specs.declared.Refusal.{Refusal}
-use Rattle.meaning.specs.Bounds.{most_items, most_links, most_name, most_role, most_steps}
+use Rattle.meaning.specs.Bounds.{most_items, most_steps}
 use Rattle.meaning.specs.Refusal.{Answer, good, refused, on_call, refuse_if, ◌>>=◌, ◌>>◌}
 use Rattle.meaning.specs.Bytes.{Bytes}
-use Rattle.meaning.specs.Register.{Register, is_fact, encode, read_buffer, read_register_by}
+use Rattle.meaning.specs.Register.{Register, is_fact, encode, read_buffer}
 use Rattle.meaning.specs.Session.{zeros, set_fact, cleared, room, out_of_range, role_above, no_place, Changed}
 use Rattle.meaning.specs.Session.{open_call, edit_call, undo_call, keep_call, no_steps, counted, buffer_opened, buffer_after}
 use Rattle.meaning.proofs.Tests.{is_false, neither}
-use Rattle.meaning.proofs.Reading.{good-inj, pass, stop, stopped, took, taken, below, not-below, at_most, not-le}
+use Rattle.meaning.proofs.Reading.{good-inj, pass, stop, stopped, took, below, not-below}
 use Rattle.meaning.proofs.Image.{image-length, image-fits}
 use Rattle.meaning.proofs.SessionFacts.{Sounds, sounds}
-use Rattle.fields.specs.Head.{wrong_in}
-use Rattle.register.specs.declared.Reading.{Reading}
-use Rattle.register.specs.declared.Reading.TheVariants.{Good as GoodReading, Refused as RefusedReading}
+use Rattle.meaning.proofs.SessionCalls.{edit-passed}
+use Rattle.register.specs.declared.Size.{Size}
 use Rattle.register.specs.Layout.{image_length}
 use Rattle.register.specs.Image.{OfSize}
-use Rattle.register.specs.Reading.{Counts}
-use Rattle.register.specs.Reading.{paper_reading, counted as sized}
-use Rattle.setting.specs.declared.Setting.{Setting}
-use Rattle.setting.specs.declared.Setting.TheVariants.{Done, NoPlace}
-use Rattle.session.specs.declared.Counted.{Counted}
-use Rattle.session.specs.declared.Counted.TheVariants.{Good, Refused}
+use Rattle.register.specs.Reading.{ReadPromise, counted as sized}
+use Rattle.register.proofs.Holding.{of_size, size-read}
 use Rattle.session.specs.declared.Edited.{Edited}
-use Rattle.session.specs.declared.Edited.TheVariants.{Accepted, Refused as NotEdited}
 use Rattle.setting.specs.Setting.{Ranged, SettingOf}
-use Rattle.session.specs.Calls.{paper_count, paper_edit, Was, was_before, an_edit}
+use Rattle.session.specs.Calls.{Counted, paper_count, paper_edit, was_before, an_edit, records_after}
 use Rattle.setting.proofs.Changes.{image-first}
 
 -- ---- tests of a fact
-
-pub range-item : (n i k : ℕ) (f : Fact) → f ≡ name_on i k → n ≤ i → true ≡ out_of_range n f
-range-item n i k f e h = sym (ap (out_of_range n) e ∙ ap (λ (b : Bool). b || ltb most_name k) (at_most n i h))
-
-pub range-name : (n i k : ℕ) (f : Fact) → f ≡ name_on i k → i < n → ltb most_name k ≡ out_of_range n f
-range-name n i k f e h = sym (ap (out_of_range n) e ∙ ap (λ (b : Bool). b || ltb most_name k) (not-le n i h))
-
-pub range-from : (n a r b : ℕ) (f : Fact) → f ≡ link_of a r b → n ≤ a → true ≡ out_of_range n f
-range-from n a r b f e h = sym (ap (out_of_range n) e ∙ ap (λ (x : Bool). x || leb n b) (at_most n a h))
-
-pub range-to : (n a r b : ℕ) (f : Fact) → f ≡ link_of a r b → a < n → leb n b ≡ out_of_range n f
-range-to n a r b f e h = sym (ap (out_of_range n) e ∙ ap (λ (x : Bool). x || leb n b) (not-le n a h))
-
-pub role-name : (i k : ℕ) (f : Fact) → f ≡ name_on i k → false ≡ role_above f
-role-name i k f e = sym (ap role_above e)
-
-pub role-link : (a r b : ℕ) (f : Fact) → f ≡ link_of a r b → ltb most_role r ≡ role_above f
-role-link a r b f e = sym (ap role_above e)
 
 pub ranged : (n : ℕ) (f : Fact) (x y : Bool) → x ≡ out_of_range n f → x ≡ false → y ≡ role_above f → y ≡ false → Ranged n f
 ranged n f x y e d i j = go f (sounds n f (sym e ∙ d) (sym i ∙ j))
@@ -65,22 +46,40 @@ ranged n f x y e d i j = go f (sounds n f (sym e ∙ d) (sym i ∙ j))
     go (name_on a b) q = (q.0, omega (arith, q.1))
     go (link_of a b c) q = q
 
+-- ---- an answer that a call hands on
+
+-- `ok_or`, told back
+pub was_none : {A : Type 0} (o : Option A) (x y : Refusal) → Err x ≡ ok_or o y → (o ≡ None) × (x ≡ y)
+was_none None x y e = (refl, cc)
+was_none (Some v) x y e = cc
+
+pub was_some : {A : Type 0} (o : Option A) (v : A) (y : Refusal) → Ok v ≡ ok_or o y → o ≡ Some v
+was_some None v y e = cc
+was_some (Some w) v y e = cc
+
+-- what `fill` leaves of a buffer whose end it zeros
+pub filled : (s : List ℕ) (from : ℕ) (ys : List ℕ) → from ≤ length s → ys ≡ zeros (length (take (length s - from) (drop from s)))
+    → put_mid from (length s - from) s ys ≡ take from s ++ zeros (length s - from)
+filled s from ys h d =
+    let n = length s - from in
+    let all : from + n ≡ length s = omega arith in
+    let part : length (take n (drop from s)) ≡ n = omega (arith, length-take n (drop from s), length-drop from s) in
+    put_mid-paste from n s ys (zeros n) n (d ∙ ap zeros part) refl (sym (length-replicate {A = ℕ} n 0))
+    ∙ paste_all s from (zeros n) n (sym (length-replicate {A = ℕ} n 0))
+    ∙ ap (λ (z : List ℕ). take from s ++ (zeros n ++ z)) (ap (λ (k : ℕ). drop k s) all ∙ lib.Seq.drop-length s)
+    ∙ ap (λ (z : List ℕ). take from s ++ z) (append-nil (zeros n))
+
 -- ---- the register
 
-pub read-sizes : (s : List ℕ) (items links : ℕ) (r : Reading) → r ≡ GoodReading items links → paper_reading r ≡ sized (read_register_by (wrong_in true) s)
-    → OfSize s items links
-unfolding sized
-read-sizes s items links r e d =
-    let q = taken (read_buffer s) _ (sym (sym (ap paper_reading e) ∙ d)) in
-    let z = good-inj q.2 in
-    record { register = q.0; read = q.1; holds = (ap (λ (c : Counts). c.items) (sym z), ap (λ (c : Counts). c.links) (sym z)) }
+pub read-sizes : (s : List ℕ) → Bytes s → (z : Size) → ReadPromise s true (Ok z) → OfSize s z.items z.links
+read-sizes s by z d = of_size s z.items z.links (size-read s true z by d)
 
 pub refused-inj : {A : Type 0} {x y : Refusal} → ◌≡◌ {A = Answer A} (refused x) (refused y) → x ≡ y
 refused-inj e = cc
 
-pub read-refused : (s : List ℕ) (x : Refusal) (r : Reading) → r ≡ RefusedReading x → paper_reading r ≡ sized (read_register_by (wrong_in true) s) → read_buffer s ≡ refused x
+pub read-refused : (s : List ℕ) (x : Refusal) → ReadPromise s true (Err x) → read_buffer s ≡ refused x
 unfolding sized ◌>>=◌
-read-refused s x r e d = go (read_buffer s) (sym (ap paper_reading e) ∙ d)
+read-refused s x d = go (read_buffer s) d
   where
     go : (a : Answer Register) → refused x ≡ sized a → a ≡ refused x
     go (good g) h = let z : ◌≡◌ {A = ℕ} 0 1 = cc in absurd (omega arith)
@@ -93,14 +92,14 @@ module _ (s : List ℕ) (log count : ℕ) (f : Fact) (v : Bool) where
   answer = edit_call s log count (an_edit f v)
 
   -- what is asked at an end
-  abbrev Ends : List ℕ → Edited → Type 0
+  abbrev Ends : List ℕ → Result Edited Refusal → Type 0
   Ends t r = (paper_edit r ≡ was_before f answer) × (t ≡ buffer_after s answer)
 
-  pub edit-no : (x y : Refusal) → x ≡ y → answer ≡ refused y → Ends s (NotEdited x)
+  pub edit-no : (x y : Refusal) → x ≡ y → answer ≡ refused y → Ends s (Err x)
   unfolding buffer_after
   edit-no x y e d = (ap refused e ∙ sym (ap (was_before f) d), sym (ap (buffer_after s) d))
 
-  pub edit-unread : (x : Refusal) → read_buffer s ≡ refused x → Ends s (NotEdited x)
+  pub edit-unread : (x : Refusal) → read_buffer s ≡ refused x → Ends s (Err x)
   unfolding edit_call
   edit-unread x e = edit-no x x refl (stopped (read_buffer s) _ x e)
 
@@ -148,15 +147,15 @@ module _ (s : List ℕ) (log count : ℕ) (f : Fact) (v : Bool) where
             took (read_buffer s) _ g a.read ∙ to_room _
             ∙ pass (eqb count (room log)) _ _ (is_false (eqb count (room log)) (λ t. less (eqb→eq count (room log) t ∙ sym en)))
 
-        pub edit-full : (x : Refusal) (t : List ℕ) (set : Setting) → x ≡ on_call 20 → set ≡ NoPlace → SettingOf s f v t set → Ends t (NotEdited x)
+        pub edit-full : (x : Refusal) (t : List ℕ) (set : Option Bool) → x ≡ on_call 20 → set ≡ None → SettingOf s f v t set → Ends t (Err x)
         edit-full x t set e d b =
-            let q = subst (λ (z : Setting). SettingOf s f v t z) d b g a.read in
-            subst (λ (z : List ℕ). Ends z (NotEdited x)) (sym q.1) (edit-no x (on_call 20) e (to-place ∙ stop (no_place s g v f) _ _ q.0))
+            let q = subst (λ (z : Option Bool). SettingOf s f v t z) d b g a.read in
+            subst (λ (z : List ℕ). Ends z (Err x)) (sym q.1) (edit-no x (on_call 20) e (to-place ∙ stop (no_place s g v f) _ _ q.0))
 
-        pub edit-done : (was : Bool) (t : List ℕ) (set : Setting) → set ≡ Done was → SettingOf s f v t set → Ends t (Accepted was (count + 1))
+        pub edit-done : (was : Bool) (t : List ℕ) (set : Option Bool) → set ≡ Some was → SettingOf s f v t set → Ends t (Ok (record { was = was; count = count + 1 }))
         unfolding buffer_after
         edit-done was t set d b =
-            let q = subst (λ (z : Setting). SettingOf s f v t z) d b g a.read in
+            let q = subst (λ (z : Option Bool). SettingOf s f v t z) d b g a.read in
             let e = to-place ∙ pass (no_place s g v f) _ _ q.0 in
             (ap (λ (z : Bool). good (record { was = z; count = count + 1 })) q.1 ∙ sym (ap (was_before f) e), q.2 ∙ sym (ap (buffer_after s) e))
 
@@ -169,11 +168,11 @@ module _ (s : List ℕ) (log count : ℕ) (last : Step) where
   abbrev Finished : List ℕ → Counted → Type 0
   Finished t r = (paper_count r ≡ counted undone) × (t ≡ buffer_after s undone)
 
-  pub undo-no : (x y : Refusal) → x ≡ y → undone ≡ refused y → Finished s (Refused x)
+  pub undo-no : (x y : Refusal) → x ≡ y → undone ≡ refused y → Finished s (Err x)
   unfolding buffer_after counted
   undo-no x y e d = (ap refused e ∙ sym (ap counted d), sym (ap (buffer_after s) d))
 
-  pub undo-unread : (x : Refusal) → read_buffer s ≡ refused x → Finished s (Refused x)
+  pub undo-unread : (x : Refusal) → read_buffer s ≡ refused x → Finished s (Err x)
   unfolding undo_call
   undo-unread x e = undo-no x x refl (stopped (read_buffer s) _ x e)
 
@@ -220,15 +219,15 @@ module _ (s : List ℕ) (log count : ℕ) (last : Step) where
               to_step ∙ pass (out_of_range (length k.names) last.fact || role_above last.fact) _ _
               (neither (out_of_range (length k.names) last.fact) (role_above last.fact) (beyond ∙ r) (sym el ∙ l))
 
-          pub undo-full : (x : Refusal) (t : List ℕ) (set : Setting) → x ≡ on_call 20 → set ≡ NoPlace → SettingOf s last.fact last.was t set → Finished t (Refused x)
+          pub undo-full : (x : Refusal) (t : List ℕ) (set : Option Bool) → x ≡ on_call 20 → set ≡ None → SettingOf s last.fact last.was t set → Finished t (Err x)
           undo-full x t set e d b =
-              let q = subst (λ (z : Setting). SettingOf s last.fact last.was t z) d b k a.read in
-              subst (λ (z : List ℕ). Finished z (Refused x)) (sym q.1) (undo-no x (on_call 20) e (to-undo ∙ stop (no_place s k last.was last.fact) _ _ q.0))
+              let q = subst (λ (z : Option Bool). SettingOf s last.fact last.was t z) d b k a.read in
+              subst (λ (z : List ℕ). Finished z (Err x)) (sym q.1) (undo-no x (on_call 20) e (to-undo ∙ stop (no_place s k last.was last.fact) _ _ q.0))
 
-          pub undo-done : (was : Bool) (t : List ℕ) (set : Setting) → set ≡ Done was → SettingOf s last.fact last.was t set → Finished t (Good (count - 1))
+          pub undo-done : (was : Bool) (t : List ℕ) (set : Option Bool) → set ≡ Some was → SettingOf s last.fact last.was t set → Finished t (Ok (count - 1))
           unfolding buffer_after counted
           undo-done was t set d b =
-              let q = subst (λ (z : Setting). SettingOf s last.fact last.was t z) d b k a.read in
+              let q = subst (λ (z : Option Bool). SettingOf s last.fact last.was t z) d b k a.read in
               let e = to-undo ∙ pass (no_place s k last.was last.fact) _ _ q.0 in
               (sym (ap counted e), q.2 ∙ sym (ap (buffer_after s) e))
 
@@ -238,12 +237,12 @@ module _ (s : List ℕ) where
   abbrev Opens : List ℕ → Counted → Type 0
   Opens t r = (paper_count r ≡ no_steps (open_call s)) × (t ≡ buffer_opened s (open_call s))
 
-  pub open-unread : (x : Refusal) → read_buffer s ≡ refused x → Opens s (Refused x)
+  pub open-unread : (x : Refusal) → read_buffer s ≡ refused x → Opens s (Err x)
   unfolding open_call buffer_opened no_steps
   open-unread x e = let d = stopped (read_buffer s) _ x e in (sym (ap no_steps d), sym (ap (buffer_opened s) d))
 
   pub open_done : (by : Bytes s) (items links at : ℕ) (t : List ℕ) → at ≡ image_length items links → OfSize s items links
-      → t ≡ take at s ++ zeros (length s - at) → Opens t (Good 0)
+      → t ≡ take at s ++ zeros (length s - at) → Opens t (Ok 0)
   unfolding open_call buffer_opened no_steps cleared
   open_done by items links at t ea a e =
       let g = a.register in
@@ -256,34 +255,56 @@ module _ (s : List ℕ) where
       )
 
 module _ (s : List ℕ) (log count : ℕ) where
-  pub keep-unread : (x : Refusal) → read_buffer s ≡ refused x → paper_count (Refused x) ≡ no_steps (keep_call s log count)
+  pub keep-unread : (x : Refusal) → read_buffer s ≡ refused x → paper_count (Err x) ≡ no_steps (keep_call s log count)
   unfolding keep_call no_steps
   keep-unread x e = sym (ap no_steps (stopped (read_buffer s) _ x e))
 
-  pub keep-17 : (n : ℕ) (g : Register) (x : Refusal) → x ≡ on_call 17 → read_buffer s ≡ good g → n ≡ min log most_steps → n < count → paper_count (Refused x) ≡ no_steps (keep_call s log count)
+  pub keep-17 : (n : ℕ) (g : Register) (x : Refusal) → x ≡ on_call 17 → read_buffer s ≡ good g → n ≡ min log most_steps → n < count → paper_count (Err x) ≡ no_steps (keep_call s log count)
   unfolding keep_call no_steps
   keep-17 n g x e r en h =
       ap refused e ∙ sym (ap no_steps (took (read_buffer s) _ g r ∙ stop (ltb (room log) count) _ _ (below (room log) count (omega arith))))
 
-  pub keep-done : (n : ℕ) (g : Register) → read_buffer s ≡ good g → n ≡ min log most_steps → count ≤ n → paper_count (Good 0) ≡ no_steps (keep_call s log count)
+  pub keep-done : (n : ℕ) (g : Register) → read_buffer s ≡ good g → n ≡ min log most_steps → count ≤ n → paper_count (Ok 0) ≡ no_steps (keep_call s log count)
   unfolding keep_call no_steps
   keep-done n g r en h = sym (ap no_steps (took (read_buffer s) _ g r ∙ pass (ltb (room log) count) _ _ (not-below (room log) count (omega arith))))
 
--- ---- the sizes of an image that was read
-
-pub sizes-fit : (s : List ℕ) → Bytes s → (items links : ℕ) → OfSize s items links
-    → (items ≤ most_items) × (links ≤ most_links) × (image_length items links ≤ length s)
-sizes-fit s by items links a =
-    let q = image-fits s a.register by a.read in
-    (omega (arith, q.0.items, a.holds.0), omega (arith, q.0.few, a.holds.1), omega (arith, q.1, a.holds.0, a.holds.1))
-
 -- ---- what an accepted edit says
 
-pub accepted : (f : Fact) (a : Answer Changed) (was : Bool) (next : ℕ) (r : Edited) → r ≡ Accepted was next → paper_edit r ≡ was_before f a
-    → (c : Changed) × (a ≡ good c) × (was ≡ is_fact c.before f) × (next ≡ c.count)
-accepted f a was next r e d = go a refl (sym (ap paper_edit e) ∙ d)
+pub accepted : (f : Fact) (a : Answer Changed) (e : Edited) → good e ≡ was_before f a → (c : Changed) × (a ≡ good c) × (e.was ≡ is_fact c.before f) × (e.count ≡ c.count)
+accepted f a e d = go a refl d
   where
-    go : (z : Answer Changed) → a ≡ z → good (record { was = was; count = next }) ≡ was_before f z
-        → (c : Changed) × (a ≡ good c) × (was ≡ is_fact c.before f) × (next ≡ c.count)
-    go (good c) i h = let z = good-inj h in (c, i, ap (λ (w : Was). w.was) z, ap (λ (w : Was). w.count) z)
+    go : (z : Answer Changed) → a ≡ z → good e ≡ was_before f z → (c : Changed) × (a ≡ good c) × (e.was ≡ is_fact c.before f) × (e.count ≡ c.count)
+    go (good c) i h = let z = good-inj h in (c, i, ap (λ (w : Edited). w.was) z, ap (λ (w : Edited). w.count) z)
     go (refused y) i h = let z : ◌≡◌ {A = ℕ} 0 1 = cc in absurd (omega arith)
+
+-- a refusal writes no record, and an accepted edit one, at the count, for which there is a place
+module _ {R : Type 0} (of : Fact → Bool → R) (s : List ℕ) (log : List R) (count : ℕ) (f : Fact) (v : Bool) where
+  abbrev edited : Answer Changed
+  edited = edit_call s (length log) count (an_edit f v)
+
+  pub none_written : (x : Refusal) → refused x ≡ was_before f edited → (refused x ≡ counted edited) × (log ≡ records_after of log count f edited)
+  unfolding counted
+  none_written x d = go edited d
+    where
+      go : (a : Answer Changed) → refused x ≡ was_before f a → (refused x ≡ counted a) × (log ≡ records_after of log count f a)
+      go (good c) h = let z : ◌≡◌ {A = ℕ} 0 1 = cc in absurd (omega arith)
+      go (refused y) h = (ap refused (refused-inj h), refl)
+
+  pub has-place : (e : Edited) → good e ≡ was_before f edited → Bytes s → (count < length log) × Ranged most_items f
+  has-place e d by =
+      let q = accepted f edited e d in
+      let p = edit-passed s (length log) count (an_edit f v) q.0 q.1 in
+      let few = (image-fits s q.0.before by p.read).0.items in
+      (omega (arith, p.steps), go f few (sounds (length q.0.before.names) f p.range p.role))
+    where
+      go : (f : Fact) {n : ℕ} → n ≤ most_items → Sounds n f → Ranged most_items f
+      go (name_on i k) l o = (omega (arith, o.0), omega (arith, o.1))
+      go (link_of a r b) l o = (omega (arith, o.0), o.1, omega (arith, o.2))
+
+  pub one_written : (e : Edited) → good e ≡ was_before f edited → (good e.count ≡ counted edited) × (set log count (of f e.was) ≡ records_after of log count f edited)
+  unfolding counted
+  one_written e d =
+      let q = accepted f edited e d in (
+        ap good q.3 ∙ sym (ap counted q.1),
+        ap (λ (w : Bool). set log count (of f w)) q.2 ∙ sym (ap (records_after of log count f) q.1),
+      )

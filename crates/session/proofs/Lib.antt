@@ -1,4 +1,3 @@
-pub mod Clearing
 pub mod Answered
 pub mod Promise
 pub mod Followed

@@ -1,45 +1,27 @@
 -- Each promise of a session's calls allows one result: what is handed back, and the buffer afterwards.
 -- Assumes nothing.
-use mathlib.Core.Path.{◌≡◌, refl}
+use mathlib.Core.Path.{◌≡◌}
 use mathlib.Core.List.{List}
 use Prim.Native.Nat.{ℕ}
+use Rattle.std.specs.Prelude.{Result}
+use Rattle.meaning.specs.declared.Refusal.{Refusal}
 use Rattle.meaning.specs.declared.Step.{Step}
-use Rattle.meaning.specs.Refusal.{Answer, good, refused}
 use Rattle.meaning.specs.Session.{Edit}
-use Rattle.fields.proofs.Once.{Apart, told_back, once, once-left}
-use Rattle.session.specs.declared.Counted.{Counted}
-use Rattle.session.specs.declared.Counted.TheVariants.{Good, Refused}
+use Rattle.fields.proofs.Once.{Apart, paper_told, once, once-left}
 use Rattle.session.specs.declared.Edited.{Edited}
-use Rattle.session.specs.declared.Edited.TheVariants.{Accepted, Refused as NotEdited}
-use Rattle.session.specs.Calls.{paper_count, Was, paper_edit, OpenPromise, EditPromise, UndoPromise, KeepPromise}
-
-abbrev back_count : Answer ℕ → Counted
-back_count (good n) = Good n
-back_count (refused x) = Refused x
-
-abbrev back_edit : Answer Was → Edited
-back_edit (good w) = Accepted w.was w.count
-back_edit (refused x) = NotEdited x
+use Rattle.session.specs.Calls.{Counted, paper_count, paper_edit, OpenPromise, EditPromise, UndoPromise, KeepPromise}
 
 -- the document's words tell all results apart
 pub count-told : Apart paper_count
-count-told = told_back paper_count back_count go
-  where
-    go : (r : Counted) → back_count (paper_count r) ≡ r
-    go (Good n) = refl
-    go (Refused x) = refl
+count-told = paper_told
 
 pub edit-told : Apart paper_edit
-edit-told = told_back paper_edit back_edit go
-  where
-    go : (r : Edited) → back_edit (paper_edit r) ≡ r
-    go (Accepted w n) = refl
-    go (NotEdited x) = refl
+edit-told = paper_told
 
 pub one-open : (s : List ℕ) (r q : Counted) (t u : List ℕ) → OpenPromise s r t → OpenPromise s q u → (r ≡ q) × (t ≡ u)
 one-open s = once-left paper_count count-told _ _
 
-pub one-edit : (s : List ℕ) (log count : ℕ) (e : Edit) (r q : Edited) (t u : List ℕ) → EditPromise s log count e r t → EditPromise s log count e q u
+pub one-edit : (s : List ℕ) (log count : ℕ) (e : Edit) (r q : Result Edited Refusal) (t u : List ℕ) → EditPromise s log count e r t → EditPromise s log count e q u
     → (r ≡ q) × (t ≡ u)
 one-edit s log count e = once-left paper_edit edit-told _ _
 

@@ -1,73 +1,34 @@
 // A session of trial edits on the register image that a lent buffer begins with: opening, and the core of edit, undo and keep, which touches no log.
-// It is handed the log's length, the count of steps in use and, for an undo, the last step by value. The crates `numbered` and `recorded` stand over it,
-// each with a log of its own form.
+// It is handed the log's length, the count of steps in use and, for an undo, the last step by value. Over it stand the same calls on a lent log, of
+// any records of steps (record.rt); the crates `numbered` and `recorded` are the two that a log can have.
 #![tactic(auto)]
 
-ghost use Rattle.std.specs.Prelude.{◌≡◌, ◌++◌, min, ◌-◌, ◌≤◌, length, take};
-ghost use Rattle.meaning.specs.Bounds.{most_items, most_links, most_steps};
-ghost use Rattle.meaning.specs.Refusal.{on_call};
-ghost use Rattle.meaning.specs.Session.{zeros, out_of_range, role_above};
-ghost use Rattle.register.specs.Layout.{image_length};
-ghost use Rattle.register.specs.Image.{OfSize};
-ghost use Rattle.session.specs.Calls.{an_edit, OpenPromise, EditPromise, UndoPromise, KeepPromise};
+pub mod record; // record.rt: what a log's records say of its steps
 
-use meaning::{Fact, Refusal, Side, Step};
-use register::{Reading, layout};
-use setting::Setting;
+ghost use Rattle.std.specs.Prelude.{◌≡◌, ◌-◌, length, map, get_or};
+ghost use Rattle.meaning.specs.Session.{out_of_range, role_above, no_step};
+ghost use Rattle.session.specs.Calls.{an_edit, OpenPromise, EditPromise, UndoPromise, KeepPromise, LogPromise};
 
-// What a call hands back: the count of steps in use, or its refusal.
-#[derive(Drop)]
-pub enum Counted {
-    Good { count: usize },
-    Refused { refusal: Refusal },
-}
+use meaning::{Fact, Refusal, Rule, Step};
+use record::Record;
+use register::layout;
 
-// What the core answers to an edit: whether the fact was there before, and the count; or the refusal.
-#[derive(Drop)]
-pub enum Edited {
-    Accepted { was: bool, count: usize },
-    Refused { refusal: Refusal },
+// What the core answers to an edit: whether the fact was there before, and the count of steps in use.
+#[derive(Clone, Copy, Debug, PartialEq, Eq)]
+pub struct Edited {
+    pub was: bool,
+    pub count: usize,
 }
 
 // ---- the tests of a call
-
-fn on_call(number: usize) -> Refusal
-    ensures { result ≡ on_call number }
-{
-    Refusal {
-        side: Side::Call,
-        number,
-        place: 0,
-    }
-}
-
-// At most 64 steps are in use.
-fn room(log: usize) -> usize
-    ensures { result ≡ min log most_steps }
-{
-    if log < meaning::MOST_STEPS {
-        return log;
-    }
-    meaning::MOST_STEPS
-}
 
 // 15 for a fact that is edited.
 fn out_of_range(items: usize, fact: Fact) -> bool
     ensures { result ≡ out_of_range items fact }
 {
     match fact {
-        Fact::Name { item, name } => {
-            if items <= item {
-                return true;
-            }
-            meaning::MOST_NAME < name
-        }
-        Fact::Link { from, role: _, to } => {
-            if items <= from {
-                return true;
-            }
-            items <= to
-        }
+        Fact::Name { item, name } => items <= item || meaning::MOST_NAME < name,
+        Fact::Link { from, to, .. } => items <= from || items <= to,
     }
 }
 
@@ -76,171 +37,125 @@ fn role_above(fact: Fact) -> bool
     ensures { result ≡ role_above fact }
 {
     match fact {
-        Fact::Name { item: _, name: _ } => false,
-        Fact::Link {
-            from: _,
-            role,
-            to: _,
-        } => meaning::MOST_ROLE < role,
+        Fact::Name { .. } => false,
+        Fact::Link { role, .. } => meaning::MOST_ROLE < role,
     }
 }
 
 // ---- the calls
 
-// An edit of the image that the buffer begins with; the log has so many records, of which `count` are in use.
-pub fn edit_in(s: &mut [u8], log: usize, count: usize, fact: Fact, adds: bool) -> Edited
-    ensures { EditPromise s.old log count (an_edit fact adds) result s.new }
+// Opens the image that the buffer begins with: all behind it becomes zeros.
+pub fn open(s: &mut [u8]) -> Result<usize, Refusal>
+    ensures { OpenPromise s.old result s.new }
 {
-    let r = register::read(s, true);
-    match r {
-        Reading::Refused { refusal } => Edited::Refused { refusal },
-        Reading::Good { items, links } => edit_read(s, items, links, log, count, fact, adds),
-    }
+    let size = register::read(s, true)?;
+    let end = layout::image_len(size.items, size.links);
+    s[end..].fill(0);
+    Ok(0)
 }
 
-fn edit_read(
+// An edit of the image that the buffer begins with; the log has so many records, of which `count` are in use.
+pub fn edit_in(
     s: &mut [u8],
-    items: usize,
-    links: usize,
     log: usize,
     count: usize,
     fact: Fact,
     adds: bool,
-) -> Edited
-    requires { OfSize s.old items links }
+) -> Result<Edited, Refusal>
     ensures { EditPromise s.old log count (an_edit fact adds) result s.new }
 {
-    if room(log) < count {
-        return Edited::Refused {
-            refusal: on_call(17),
-        };
+    let size = register::read(s, true)?;
+    let room = log.min(meaning::MOST_STEPS);
+    if room < count {
+        return Err(Rule::StepsBeyondLog.of_call());
     }
-    if out_of_range(items, fact) {
-        return Edited::Refused {
-            refusal: on_call(15),
-        };
+    if out_of_range(size.items, fact) {
+        return Err(Rule::OutOfRange.of_call());
     }
     if role_above(fact) {
-        return Edited::Refused {
-            refusal: on_call(7),
-        };
+        return Err(Rule::RoleAbove.of_call());
     }
-    if count == room(log) {
-        return Edited::Refused {
-            refusal: on_call(18),
-        };
+    if count == room {
+        return Err(Rule::LogFull.of_call());
     }
-    let set = setting::set_fact(s, items, links, fact, adds);
-    match set {
-        Setting::Done { was } => Edited::Accepted {
-            was,
-            count: count + 1,
-        },
-        Setting::NoPlace => Edited::Refused {
-            refusal: on_call(20),
-        },
-    }
+    let set = setting::set_fact(s, size, fact, adds);
+    let was = set.ok_or(Rule::NoPlaceForLink.of_call())?;
+    Ok(Edited {
+        was,
+        count: count + 1,
+    })
 }
 
 // An undo of the last step in use.
-pub fn undo_in(s: &mut [u8], log: usize, count: usize, last: Step) -> Counted
+pub fn undo_in(s: &mut [u8], log: usize, count: usize, last: Step) -> Result<usize, Refusal>
     ensures { UndoPromise s.old log count last result s.new }
 {
-    let r = register::read(s, true);
-    match r {
-        Reading::Refused { refusal } => Counted::Refused { refusal },
-        Reading::Good { items, links } => undo_read(s, items, links, log, count, last),
+    let size = register::read(s, true)?;
+    if log.min(meaning::MOST_STEPS) < count {
+        return Err(Rule::StepsBeyondLog.of_call());
+    }
+    if count == 0 {
+        return Err(Rule::NothingToUndo.of_call());
+    }
+    if out_of_range(size.items, last.fact) || role_above(last.fact) {
+        return Err(Rule::StepsBeyondLog.of_call());
+    }
+    let set = setting::set_fact(s, size, last.fact, last.was);
+    set.ok_or(Rule::NoPlaceForLink.of_call())?;
+    Ok(count - 1)
+}
+
+// Keeps all edits: none can be taken back any more.
+pub fn keep_in(s: &[u8], log: usize, count: usize) -> Result<usize, Refusal>
+    ensures { KeepPromise s.now log count result }
+{
+    register::read(s, true)?;
+    if log.min(meaning::MOST_STEPS) < count {
+        Err(Rule::StepsBeyondLog.of_call())
+    } else {
+        Ok(0)
     }
 }
 
-fn undo_read(
+// ---- the calls on a log
+
+// An edit, which writes one record where it is accepted.
+pub fn edit<R: Record>(
     s: &mut [u8],
-    items: usize,
-    links: usize,
-    log: usize,
+    log: &mut [R],
     count: usize,
-    last: Step,
-) -> Counted
-    requires { OfSize s.old items links }
-    ensures { UndoPromise s.old log count last result s.new }
+    fact: Fact,
+    adds: bool,
+) -> Result<usize, Refusal>
+    ensures { LogPromise s.old R.of log.old count (an_edit fact adds) result s.new log.new }
 {
-    if room(log) < count {
-        return Counted::Refused {
-            refusal: on_call(17),
-        };
-    }
-    if count == 0 {
-        return Counted::Refused {
-            refusal: on_call(19),
-        };
-    }
-    let fact = last.fact;
-    if out_of_range(items, fact) {
-        return Counted::Refused {
-            refusal: on_call(17),
-        };
-    }
-    if role_above(fact) {
-        return Counted::Refused {
-            refusal: on_call(17),
-        };
-    }
-    let set = setting::set_fact(s, items, links, fact, last.was);
-    match set {
-        Setting::Done { was: _ } => Counted::Good { count: count - 1 },
-        Setting::NoPlace => Counted::Refused {
-            refusal: on_call(20),
+    let edited = edit_in(s, log.len(), count, fact, adds)?;
+    log[count] = R::of(fact, edited.was);
+    Ok(edited.count)
+}
+
+// The step that an undo is handed: that of the last record in use. Where there is none, nothing looks at it.
+fn last_step<R: Record>(log: &[R], count: usize) -> Step
+    ensures { result ≡ get_or (map R.step log.now) (count - 1) no_step }
+{
+    match log.get(count.saturating_sub(1)) {
+        Some(record) => record.step(),
+        None => Step {
+            fact: Fact::Name { item: 0, name: 0 },
+            was: false,
         },
     }
 }
 
-// Opens the image that the buffer begins with: all behind it becomes zeros.
-pub fn open(s: &mut [u8]) -> Counted
-    ensures { OpenPromise s.old result s.new }
+// An undo of the last record in use.
+pub fn undo<R: Record>(s: &mut [u8], log: &[R], count: usize) -> Result<usize, Refusal>
+    ensures { UndoPromise s.old (length log.now) count (get_or (map R.step log.now) (count - 1) no_step) result s.new }
 {
-    let r = register::read(s, true);
-    match r {
-        Reading::Refused { refusal } => Counted::Refused { refusal },
-        Reading::Good { items, links } => open_read(s, items, links),
-    }
+    undo_in(s, log.len(), count, last_step(log, count))
 }
 
-// Zeros all from a place on.
-fn clear(s: &mut [u8], from: usize)
-    requires { from ≤ length s.old }
-    ensures { s.new ≡ take from s.old ++ zeros (length s.old - from) }
+pub fn keep<R: Record>(s: &[u8], log: &[R], count: usize) -> Result<usize, Refusal>
+    ensures { KeepPromise s.now (length log.now) count result }
 {
-    let n = s.len();
-    let mut i = from;
-    while i < n {
-        s[i] = 0;
-        i += 1;
-    }
-}
-
-fn open_read(s: &mut [u8], items: usize, links: usize) -> Counted
-    requires of_size { OfSize s.old items links }
-    requires le_most_items { (items ≤ most_items) × (links ≤ most_links) × (image_length items links ≤ length s.old) }
-    ensures { OpenPromise s.old result s.new }
-{
-    clear(s, layout::image_len(items, links));
-    Counted::Good { count: 0 }
-}
-
-// Keeps all edits: none can be taken back any more.
-pub fn keep_in(s: &[u8], log: usize, count: usize) -> Counted
-    ensures { KeepPromise s.now log count result }
-{
-    let r = register::read(s, true);
-    match r {
-        Reading::Refused { refusal } => Counted::Refused { refusal },
-        Reading::Good { items: _, links: _ } => {
-            if room(log) < count {
-                return Counted::Refused {
-                    refusal: on_call(17),
-                };
-            }
-            Counted::Good { count: 0 }
-        }
-    }
+    keep_in(s, log.len(), count)
 }

@@ -4,5 +4,4 @@ use Rattle.numbered.proofs.keep.Goals as goal
 
 pub returns : goal.returns
 returns c =
-    let a = c.args in
-    record { bytes = bytes-known a.s.now c.shared_slice_known-1.given; promised = (c.keep_in.ensures, refl, refl); handed = refl }
+    record { bytes = bytes-known c.args.s.now c.type_inv.s; promised = (c.keep.ensures, refl, refl); handed = refl }

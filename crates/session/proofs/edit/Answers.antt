@@ -1,24 +1,27 @@
-use Rattle.std.proofs.Common.{rules, ◌≡◌, ◌-◌, length, map, get_or, ℕ, ◌+◌, ◌*◌, ◌<◌, ◌≤◌, ◌/◌, ◌%◌, Bool, true, false, nat_eq, nat_lt, List, [], ◌∷◌, ◌++◌, slice_set, bit_and, bit_or, Fits, w8, w32, w64, Bor, MutBor}
-use Rattle.meaning.specs.Session.{out_of_range, role_above, no_step}
-use Rattle.session.specs.Calls.{an_edit, OpenPromise, EditPromise, UndoPromise, KeepPromise, LogPromise}
+-- `session::edit` meets its contract: an accepted edit has a place in the log, and its record is written there.
+-- Assumes nothing.
+use Rattle.std.proofs.Common.{rules}
+use Rattle.std.proofs.lemmas.Result.{err_from_is_err_and}
+use Rattle.fields.proofs.Known.{bytes-known}
+use Rattle.session.proofs.Answered.{none_written, one_written, has-place}
 use Rattle.session.proofs.edit.Goals as goal
 
--- src/lib.rt:132:18
 pub returns-in_err-edited : goal.returns-in_err-edited
-returns-in_err-edited g c = ?
+returns-in_err-edited g c =
+    let p = err_from_is_err_and c.from_residual.result c.from_residual.ensures.1 in
+    let q = none_written g.R.Record.of c.args.s.now c.args.log.now c.args.count c.args.fact c.args.adds _ c.in_err-edited.ensures.0 in
+    rw (p.1, p.2) (q.0, c.in_err-edited.ensures.1, q.1)
 
--- src/lib.rt:133:18
 pub of-requires : goal.of-requires
-of-requires g c = ?
+of-requires g c = (has-place g.R.Record.of c.args.s.now c.args.log.now c.args.count c.args.fact c.args.adds _ c.in_ok-edited.ensures.0 (bytes-known c.args.s.now c.slice_known-1.given)).1
 
--- src/lib.rt:133:5
 pub offset_bounds-log-count : goal.offset_bounds-log-count
-offset_bounds-log-count g c = ?
+offset_bounds-log-count g c =
+    let h = (has-place g.R.Record.of c.args.s.now c.args.log.now c.args.count c.args.fact c.args.adds _ c.in_ok-edited.ensures.0 (bytes-known c.args.s.now c.slice_known-1.given)).0 in search rules
 
--- src/lib.rt:133:5
 pub bounds-log-count : goal.bounds-log-count
-bounds-log-count g c = ?
+bounds-log-count g c = (has-place g.R.Record.of c.args.s.now c.args.log.now c.args.count c.args.fact c.args.adds _ c.in_ok-edited.ensures.0 (bytes-known c.args.s.now c.slice_known-1.given)).0
 
--- src/lib.rt:123:1
 pub returns : goal.returns
-returns g c = ?
+returns g c =
+    let q = one_written g.R.Record.of c.args.s.now c.args.log.now c.args.count c.args.fact c.args.adds _ c.in_ok-edited.ensures.0 in (q.0, c.in_ok-edited.ensures.1, rw c.of.ensures q.1)

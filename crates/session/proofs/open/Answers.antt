@@ -1,16 +1,37 @@
+-- `session::open` meets its contract.
+-- Assumes nothing.
+use Rattle.std.proofs.Common.{rules, arith}
+use Rattle.std.proofs.lemmas.Result.{err_from_is_err_and}
 use Rattle.fields.proofs.Known.{bytes-known}
-use Rattle.session.proofs.Answered.{read-sizes, read-refused, open-unread, sizes-fit}
+use Rattle.setting.proofs.Set.{sizes-fit}
+use Rattle.session.proofs.Answered.{read-sizes, read-refused, filled, open-unread, open_done}
 use Rattle.session.proofs.open.Goals as goal
 
-pub open_read-requires : goal.open_read-requires
-open_read-requires c =
-    let s = c.args.s.now in
-    let a = read-sizes s _ _ c.read-r.result c.in-Good.is c.read-r.ensures in record {
-      of_size = a;
-      le_most_items = sizes-fit s (bytes-known s c.slice_known-1.given) _ _ a;
-    }
+pub returns-in_err-size : goal.returns-in_err-size
+returns-in_err-size c =
+    let p = err_from_is_err_and c.from_residual.result c.from_residual.ensures.1 in
+    rw (p.1, p.2) (open-unread c.args.s.now _ (read-refused c.args.s.now _ c.in_err-size.ensures))
 
-pub returns-in-Refused : goal.returns-in-Refused
-returns-in-Refused c =
-    let s = c.args.s.now in
-    open-unread s _ (read-refused s _ c.read-r.result c.in-Refused.is c.read-r.ensures)
+pub image_len-end-requires : goal.image_len-end-requires
+image_len-end-requires c =
+    let by = (bytes-known c.args.s.now c.slice_known-1.given) in
+    let q = sizes-fit c.args.s.now by _ _ (read-sizes c.args.s.now by c.in_ok-size.size c.in_ok-size.ensures) in (q.0, q.1)
+
+pub slice_bounds-fill-count : goal.slice_bounds-fill-count
+slice_bounds-fill-count c =
+    let by = (bytes-known c.args.s.now c.slice_known-1.given) in
+    let q = sizes-fit c.args.s.now by _ _ (read-sizes c.args.s.now by c.in_ok-size.size c.in_ok-size.ensures) in omega (arith, q.2, c.image_len-end.ensures)
+
+pub slice_bounds-fill-start : goal.slice_bounds-fill-start
+slice_bounds-fill-start c =
+    let by = (bytes-known c.args.s.now c.slice_known-1.given) in
+    let q = sizes-fit c.args.s.now by _ _ (read-sizes c.args.s.now by c.in_ok-size.size c.in_ok-size.ensures) in
+    search (rules, q.2, c.image_len-end.ensures)
+
+pub returns : goal.returns
+returns c =
+    let by = (bytes-known c.args.s.now c.slice_known-1.given) in
+    let a = read-sizes c.args.s.now by c.in_ok-size.size c.in_ok-size.ensures in
+    let q = sizes-fit c.args.s.now by _ _ a in
+    open_done c.args.s.now by _ _ _ _ c.image_len-end.ensures a
+    (filled c.args.s.now c.image_len-end.result c.fill.new.self (omega (arith, q.2, c.image_len-end.ensures)) (c.fill.ensures.after (λ y h. h)))
