@@ -8,9 +8,9 @@ use Rattle.readers.proofs.size_in.Goals as goal
 
 pub reduced_size-requires : goal.reduced_size-requires
 reduced_size-requires c =
-    same_rows (λ n r e. Held n r e 17 0) (sym c.names-names.ensures) (sym c.roles-roles.ensures) (sym c.ends-ends.ensures) c.requires.held
+    same_rows (λ n r e. Held n r e 17 0) (sym c.of.ensures.names) (sym c.of.ensures.roles) (sym c.of.ensures.ends) c.requires.held
 
 pub returns : goal.returns
 returns c =
-    same_rows (λ n r e. ForTree n r e 17 0 (λ t. c.reduced_size.result ≡ size (reduce t))) c.names-names.ensures c.roles-roles.ensures
-    c.ends-ends.ensures c.reduced_size.ensures.for_tree
+    same_rows (λ n r e. ForTree n r e 17 0 (λ t. c.reduced_size.result ≡ size (reduce t))) c.of.ensures.names c.of.ensures.roles
+    c.of.ensures.ends c.reduced_size.ensures.for_tree
