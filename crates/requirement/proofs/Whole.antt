@@ -18,12 +18,13 @@ use Rattle.meaning.specs.Message.{Part, Spot, read_node, with_thresholds, read_r
 use Rattle.meaning.specs.Rows.{Holds, HoldsF}
 use Rattle.meaning.proofs.Reading.{number-below, pass, stop, stopped, took, taken, below, not-below, good-inj}
 use Rattle.readers.specs.declared.Reached.{Reached}
-use Rattle.readers.specs.declared.Reached.TheVariants.{Good, Refused}
 use Rattle.requirement.specs.declared.Message.{Message}
-use Rattle.requirement.specs.declared.Message.TheVariants.{Good as GoodMessage}
+use Rattle.std.specs.Prelude.{Result, Ok, Err}
+use Rattle.meaning.specs.declared.Fault.{Fault}
+use Rattle.meaning.specs.Rules.{refusal_on}
 use Rattle.rows.specs.Packed.{names_in, roles_in, ends_in}
-use Rattle.readers.specs.Reading.{spot, PartsHeld, node_in, Outcome, ReadGood, NodeHeld, NodeDone}
-use Rattle.requirement.specs.Message.{refused_at, MessageOutcome, MessageDone, paper_message, counted}
+use Rattle.readers.specs.Reading.{reached, spot, PartsHeld, node_in, Outcome, ReadGood, NodeHeld, NodeDone}
+use Rattle.requirement.specs.Message.{MessageOutcome, MessageDone, paper_message, counted}
 use Rattle.readers.proofs.Outcomes.{outcome-refused, outcome-good}
 use Rattle.readers.proofs.Places.{no-parts}
 use Rattle.requirement.proofs.Bare.{names, bare_tree, bare-node}
@@ -56,11 +57,11 @@ pub head-short : (s : List ℕ) (end : ℕ) → Bytes s → read_head requiremen
 head-short s end b e = let h = read-head requirement unequal s end e in omega (arith, h.ends, number-below s 1 2 b)
 
 module _ (s : List ℕ) (B : List ℕ) where
-  pub head-refused : (k q : ℕ) → read_head requirement unequal s ≡ refused (at requirement k q) → MessageDone s B (refused_at k q)
+  pub head-refused : (e : Refusal) → read_head requirement unequal s ≡ refused e → MessageDone s B (Err e)
   unfolding read_requirement
-  head-refused k q e = subst (λ a. MessageOutcome B a (refused_at k q)) (sym (stopped (read_head requirement unequal s) _ _ e)) refl
+  head-refused f e = subst (λ a. MessageOutcome B a (Err f)) (sym (stopped (read_head requirement unequal s) _ _ e)) refl
 
-  module _ (A : List ℕ) (end : ℕ) (h : read_head requirement unequal s ≡ good end) (r : Reached) (done : NodeDone false s end 17 0 3 0 0 A B r) where
+  module _ (A : List ℕ) (end : ℕ) (h : read_head requirement unequal s ≡ good end) (r : Result Reached Fault) (done : NodeDone false s end 17 0 3 0 0 A B r) where
     abbrev tree : Answer (Tree Label × Spot)
     tree = read_node (with_thresholds s end) s end 17 (spot 3 0 [])
 
@@ -72,14 +73,14 @@ module _ (s : List ℕ) (B : List ℕ) where
     tree-refused (good x) e d = let z : ◌≡◌ {A = ℕ} 0 1 = cc in absurd (omega arith)
     tree-refused (refused f) e d = let z : ◌≡◌ {A = Answer (Concept × Spot)} (refused f) (refused e) = d in cc
 
-    pub whole-refused : (k q : ℕ) → r ≡ Refused k q → MessageDone s B (refused_at k q)
+    pub whole-refused : (g : Fault) → r ≡ Err g → MessageDone s B (Err (refusal_on requirement g))
     unfolding read_requirement
-    whole-refused k q e =
-        let d = outcome-refused (NodeHeld B 17 0 0) end 3 0 A B (node_in false s end 17 (spot 3 0 [])) r k q here e in
+    whole-refused g e =
+        let d = outcome-refused (NodeHeld B 17 0 0) end 3 0 A B (node_in false s end 17 (spot 3 0 [])) r g here e in
         let f = tree-refused tree _ (sym (bare-node s end 17 (spot 3 0 [])) ∙ d) in
-        subst (λ a. MessageOutcome B a (refused_at k q)) (sym (took (read_head requirement unequal s) _ end h ∙ stopped tree _ _ f)) refl
+        subst (λ a. MessageOutcome B a (Err (refusal_on requirement g))) (sym (took (read_head requirement unequal s) _ end h ∙ stopped tree _ _ f)) refl
 
-    module _ (i j m : ℕ) (e : r ≡ Good i j m) where
+    module _ (i j m : ℕ) (e : r ≡ reached i j m) where
       x : (x : Concept × Spot) × (node_in false s end 17 (spot 3 0 []) ≡ good x) × ReadGood (NodeHeld B 17 0 0) end 3 0 A B x.0 x.1 r
           × (x.1.next ≡ i) × (x.1.nodes ≡ j) × (length x.1.parts ≡ m)
       x = outcome-good (NodeHeld B 17 0 0) end 3 0 A B (node_in false s end 17 (spot 3 0 [])) r i j m here e
@@ -93,15 +94,15 @@ module _ (s : List ℕ) (B : List ℕ) where
       spots : y.0.1 ≡ x.0.1
       spots = ap (λ (z : Concept × Spot). z.1) same
 
-      pub whole-left : i < end → MessageDone s B (refused_at 8 i)
+      pub whole-left : i < end → MessageDone s B (Err (at requirement 8 i))
       unfolding read_requirement
       whole-left l =
           let n : y.0.1.next ≡ i = ap (λ (z : Spot). z.next) spots ∙ x.3 in
-          subst (λ a. MessageOutcome B a (refused_at 8 i))
+          subst (λ a. MessageOutcome B a (Err (at requirement 8 i)))
           (sym (took (read_head requirement unequal s) _ end h ∙ took tree _ y.0 y.1 ∙ stop (ltb y.0.1.next end) _ _ (below y.0.1.next end (omega arith))))
-          (ap (λ (k : ℕ). refused_at 8 k) (sym n))
+          (ap (λ (k : ℕ). Err (at requirement 8 k)) (sym n))
 
-      pub whole-good : end ≤ i → MessageDone s B (GoodMessage j m)
+      pub whole-good : end ≤ i → MessageDone s B (Ok (record { nodes = j; parts = m }))
       unfolding read_requirement
       whole-good l =
           let n : y.0.1.next ≡ i = ap (λ (z : Spot). z.next) spots ∙ x.3 in
@@ -109,10 +110,10 @@ module _ (s : List ℕ) (B : List ℕ) where
           let held = subst (λ (t : Concept). Holds (names_in B) (roles_in B) (ends_in B) t 17 0 j) (ap (λ (z : Concept × Spot). z.0) (sym same)) tree' in
           let rows : j ≡ nodes y.0.0 = tree-rows (names_in B) (roles_in B) (ends_in B) (bare y.0.0) 17 0 j held ∙ omega (arith, bare-nodes y.0.0) in
           let ps : y.0.1.parts ≡ x.0.1.parts = ap (λ (z : Spot). z.parts) spots in
-          subst (λ a. MessageOutcome B a (GoodMessage j m))
+          subst (λ a. MessageOutcome B a (Ok (record { nodes = j; parts = m })))
           (sym (took (read_head requirement unequal s) _ end h ∙ took tree _ y.0 y.1 ∙ pass (ltb y.0.1.next end) _ _ (not-below y.0.1.next end (omega arith))))
           (record {
-            answer = ap (λ (k : ℕ). GoodMessage k m) rows ∙ ap (λ (k : ℕ). GoodMessage (nodes y.0.0) k) (sym (ap length ps ∙ x.5));
+            answer = ap (λ (k : ℕ). Ok (record { nodes = k; parts = m })) rows ∙ ap (λ (k : ℕ). Ok (record { nodes = nodes y.0.0; parts = k })) (sym (ap length ps ∙ x.5));
             tree = subst (λ (k : ℕ). Holds (names_in B) (roles_in B) (ends_in B) (bare y.0.0) 17 0 k) rows held;
             few = omega (arith, x.2.further.few, x.4);
             room = omega (arith, x.2.further.room, ap length ps);
@@ -121,7 +122,7 @@ module _ (s : List ℕ) (B : List ℕ) where
 
 -- ---- without the rows
 
-pub message-counted : (s B : List ℕ) (r : Message) → MessageDone s B r → paper_message r ≡ counted (read_requirement s)
+pub message-counted : (s B : List ℕ) (r : Result Message Refusal) → MessageDone s B r → paper_message r ≡ counted (read_requirement s)
 message-counted s B r h = go (read_requirement s) h
   where
     go : (a : Answer (Requirement × List Part)) → MessageOutcome B a r → paper_message r ≡ counted a

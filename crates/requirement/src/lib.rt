@@ -3,58 +3,51 @@
 
 ghost use Rattle.std.specs.Prelude.{◌≡◌, ◌≤◌, length};
 ghost use Rattle.meaning.specs.Message.{read_requirement};
-ghost use Rattle.requirement.specs.Message.{refused_at, MessageDone, paper_message, counted};
+ghost use Rattle.requirement.specs.Message.{on_requirement, MessageDone, paper_message, counted};
 
-use fields::Head;
-use meaning::{Refusal, Side};
+use meaning::{Fault, Refusal, Rule, Side};
 use readers::Reached;
 
-// A message: how many nodes are written, and how many thresholds; or its refusal.
-#[derive(Drop)]
-pub enum Message {
-    Good { nodes: usize, parts: usize },
-    Refused { refusal: Refusal },
+// A message that was read: how many nodes are written, and how many thresholds.
+#[derive(Clone, Copy, Debug, PartialEq, Eq)]
+pub struct Message {
+    pub nodes: usize,
+    pub parts: usize,
 }
 
 // Reads a message, and keeps nothing of it.
-pub fn read(s: &[u8]) -> Message
+pub fn read(s: &[u8]) -> Result<Message, Refusal>
     ensures { paper_message result ≡ counted (read_requirement s.now) }
 {
-    let mut rows = [0u64; 144];
+    let mut rows = [0u64; rows::LEN];
     read_message(s, &mut rows)
 }
 
 // Reads a message into rows.
-pub fn read_message(s: &[u8], rows: &mut [u64]) -> Message
+pub fn read_message(s: &[u8], rows: &mut [u64]) -> Result<Message, Refusal>
     requires { 144 ≤ length rows.old }
     ensures { MessageDone s.now rows.new result }
 {
-    let h = fields::read_head(s, false);
-    match h {
-        Head::Good { end } => {
-            let t = readers::read_node(s, end, 3, meaning::MOST_LEVELS, false, 0, 0, 0, rows);
-            match t {
-                Reached::Good { next, nodes, parts } => {
-                    if next < end {
-                        return refused(8, next);
-                    }
-                    Message::Good { nodes, parts }
-                }
-                Reached::Refused { number, place } => refused(number, place),
-            }
-        }
-        Head::Refused { number, place } => refused(number, place),
-    }
+    read_whole(s, rows).map_err(|fault| fault.on(Side::Requirement))
 }
 
-fn refused(number: usize, place: usize) -> Message
-    ensures { result ≡ refused_at number place }
+// The head, the tree, and nothing behind it.
+fn read_whole(s: &[u8], rows: &mut [u64]) -> Result<Message, Fault>
+    requires { 144 ≤ length rows.old }
+    ensures { MessageDone s.now rows.new (on_requirement result) }
 {
-    Message::Refused {
-        refusal: Refusal {
-            side: Side::Requirement,
-            number,
-            place,
-        },
+    let end = fields::read_head(s, false)?;
+    let from = Reached {
+        next: 3,
+        nodes: 0,
+        parts: 0,
+    };
+    let reached = readers::read_node(s, end, from, meaning::MOST_LEVELS, false, 0, rows)?;
+    if reached.next < end {
+        return Err(Rule::LeftOver.at(reached.next));
     }
+    Ok(Message {
+        nodes: reached.nodes,
+        parts: reached.parts,
+    })
 }
