@@ -13,50 +13,38 @@ use Rattle.fields.proofs.read_head.Goals as goal
 ends_at : {a b : ℕ} {r : Answer ℕ} → r ≡ good b → a ≡ b → good a ≡ r
 ends_at h e = ap good e ∙ sym h
 
-pub returns-then-n-lt3 : goal.returns-then-n-lt3
-returns-then-n-lt3 c =
-    let h : length c.args.s.now < 3 = omega arith in record {
-      result_value = λ side. rw c.at.ensures (sym (head-short side (wrong_in c.args.session) c.args.s.now h));
-      ends_within = tt;
-    }
+pub returns-then-n-lt3-clause-result_value : goal.returns-then-n-lt3-clause-result_value
+returns-then-n-lt3-clause-result_value c =
+    let h : length c.args.s.now < 3 = omega arith in
+    λ side. rw c.at.ensures (sym (head-short side (wrong_in c.args.session) c.args.s.now h))
 
-pub returns-then-s-ne1 : goal.returns-then-s-ne1
-returns-then-s-ne1 c =
-    let h : 3 ≤ length c.args.s.now = omega arith in record {
-      result_value = λ side. rw c.at-then-s-ne1.ensures (sym (head-version side (wrong_in c.args.session) c.args.s.now h c.if-s-ne1.true));
-      ends_within = tt;
-    }
-
-pub returns-then-n-len : goal.returns-then-n-len
-returns-then-n-len c =
+pub returns-then-s-ne1-clause-result_value : goal.returns-then-s-ne1-clause-result_value
+returns-then-s-ne1-clause-result_value c =
     let h : 3 ≤ length c.args.s.now = omega arith in
-    let l : length c.args.s.now - 3 < number c.args.s.now 1 2 = omega (arith, c.two-len.ensures.value) in record {
-      result_value = λ side. rw c.at-then-n-len.ensures (sym (head-length side (wrong_in c.args.session) c.args.s.now h c.if-s-ne1.false (wrong-longer c.args.session _ _ l)));
-      ends_within = tt;
-    }
+    λ side. rw c.at-then-s-ne1.ensures (sym (head-version side (wrong_in c.args.session) c.args.s.now h c.if-s-ne1.true))
 
-pub returns-then-session : goal.returns-then-session
-returns-then-session c =
+pub returns-then-n-len-clause-result_value : goal.returns-then-n-len-clause-result_value
+returns-then-n-len-clause-result_value c =
     let h : 3 ≤ length c.args.s.now = omega arith in
-    let l : number c.args.s.now 1 2 ≤ length c.args.s.now - 3 = omega (arith, c.two-len.ensures.value) in record {
-      result_value = λ side. ends_at (head-good side (wrong_in c.args.session) c.args.s.now h c.if-s-ne1.false
-          (right-front c.args.session _ _ c.if-session.true l)) (omega (arith, c.two-len.ensures.value));
-      ends_within = omega arith;
-    }
+    let l : length c.args.s.now - 3 < number c.args.s.now 1 2 = omega arith in
+    λ side. rw c.at-then-n-len.ensures (sym (head-length side (wrong_in c.args.session) c.args.s.now h c.if-s-ne1.false (wrong-longer c.args.session _ _ l)))
 
-pub returns-then-len-n : goal.returns-then-len-n
-returns-then-len-n c =
+pub returns-then-session-clause-result_value : goal.returns-then-session-clause-result_value
+returns-then-session-clause-result_value c =
     let h : 3 ≤ length c.args.s.now = omega arith in
-    let l : number c.args.s.now 1 2 < length c.args.s.now - 3 = omega (arith, c.two-len.ensures.value) in record {
-      result_value = λ side. rw c.at-then-len-n.ensures (sym (head-length side (wrong_in c.args.session) c.args.s.now h c.if-s-ne1.false (wrong-shorter c.args.session _ _ c.if-session.false l)));
-      ends_within = tt;
-    }
+    let l : number c.args.s.now 1 2 ≤ length c.args.s.now - 3 = omega arith in
+    λ side. ends_at (head-good side (wrong_in c.args.session) c.args.s.now h c.if-s-ne1.false
+    (right-front c.args.session _ _ c.if-session.true l)) (omega arith)
 
-pub returns : goal.returns
-returns c =
+pub returns-then-len-n-clause-result_value : goal.returns-then-len-n-clause-result_value
+returns-then-len-n-clause-result_value c =
     let h : 3 ≤ length c.args.s.now = omega arith in
-    let l : number c.args.s.now 1 2 ≡ length c.args.s.now - 3 = omega (arith, c.two-len.ensures.value) in record {
-      result_value = λ side. ends_at (head-good side (wrong_in c.args.session) c.args.s.now h c.if-s-ne1.false
-          (right-whole c.args.session _ _ c.if-session.false l)) (omega (arith, c.two-len.ensures.value));
-      ends_within = omega arith;
-    }
+    let l : number c.args.s.now 1 2 < length c.args.s.now - 3 = omega arith in
+    λ side. rw c.at-then-len-n.ensures (sym (head-length side (wrong_in c.args.session) c.args.s.now h c.if-s-ne1.false (wrong-shorter c.args.session _ _ c.if-session.false l)))
+
+pub returns-clause-result_value : goal.returns-clause-result_value
+returns-clause-result_value c =
+    let h : 3 ≤ length c.args.s.now = omega arith in
+    let l : number c.args.s.now 1 2 ≡ length c.args.s.now - 3 = omega arith in
+    λ side. ends_at (head-good side (wrong_in c.args.session) c.args.s.now h c.if-s-ne1.false
+    (right-whole c.args.session _ _ c.if-session.false l)) (omega arith)
