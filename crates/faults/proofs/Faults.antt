@@ -1,11 +1,14 @@
 -- What reading would refuse: a number told is that of the first test that fails.
 -- Assumes nothing.
-use mathlib.Core.Path.{◌≡◌, refl, sym, ap, ◌∙◌}
+use mathlib.Core.Path.{◌≡◌, refl, sym, ap, ap₂, ◌∙◌}
 use mathlib.Core.Bool.{Bool, true, false, ◌&&◌, not}
 use mathlib.Core.List.{List}
-use Prim.Native.Nat.{ℕ, zero, suc, ◌+◌, ◌≤◌, ◌<◌}
+use Prim.Native.Nat.{ℕ, suc, ◌+◌, ◌≤◌, ◌<◌}
 use native.Mathlib.Omega.{arith}
 use lib.Dec.{leb, ltb}
+use Rattle.std.specs.Prelude.{Err}
+use Rattle.meaning.specs.declared.Rule.{Rule}
+use Rattle.meaning.specs.Rules.{number_of}
 use Rattle.meaning.specs.Refusal.{Answer, good, refused, on_call, refuse_if, ◌>>◌}
 use Rattle.meaning.specs.Bounds.{most_role, most_levels, most_nodes, most_thresholds, most_size}
 use Rattle.meaning.specs.Fraction.{wrong_with, lawful}
@@ -19,18 +22,16 @@ use Rattle.lists.specs.Handed.{nodes_to}
 use Rattle.faults.specs.Faulty.{told}
 use Rattle.lists.proofs.Peeled.{node-first, node-none}
 
--- ---- a number told, and what follows
+-- ---- a rule told, and what follows
 
-pub told-stop : (n : ℕ) (a b : Answer (Unit {0})) → (n ≡ 0 → ⊥) → told n ≡ a → told n ≡ (a >> b)
-told-stop zero a b h e = absurd (h refl)
-told-stop (suc n) a b h e = sym (halted a b (on_call (suc n)) (sym e))
+pub told-stop : (r : Rule) (a b : Answer (Unit {0})) → told {A = Unit {0}} (Err r) ≡ a → told {A = Unit {0}} (Err r) ≡ (a >> b)
+told-stop r a b e = sym (halted a b (on_call (number_of r)) (sym e))
 
-told-some : (n : ℕ) → (n ≡ 0 → ⊥) → told n ≡ refused (on_call n)
-told-some zero h = absurd (h refl)
-told-some (suc n) h = refl
+pub told-go : (a b : Answer (Unit {0})) → good tt ≡ a → (a >> b) ≡ b
+told-go a b e = went a b (sym e)
 
-pub told-go : (n : ℕ) (a b : Answer (Unit {0})) → n ≡ 0 → told n ≡ a → (a >> b) ≡ b
-told-go n a b h e = went a b (sym e ∙ ap told h)
+number-some : (r : Rule) → number_of r ≡ 0 → ⊥
+number-some r e = grind arith
 
 last-stop : (b : Bool) (n : ℕ) → b ≡ true → refuse_if b (on_call n) ≡ refused (on_call n)
 unfolding refuse_if
@@ -43,38 +44,40 @@ last-pass b n e = rw e refl
 -- ---- a node
 
 module _ (i : ℕ) (x : Listed ℕ) where
-  pub node-role : 0 < i → most_role < x.role → told 7 ≡ node_fits i x
+  pub node-role : 0 < i → most_role < x.role → refused (on_call 7) ≡ node_fits i x
   unfolding node_fits
   node-role h l = sym (stop (ltb 0 i && ltb most_role x.role) _ _ (rw (below 0 i h, below most_role x.role l) refl))
 
-  pub node-level : (0 < i → x.role ≤ most_role) → most_levels ≤ x.depth → told 9 ≡ node_fits i x
+  pub node-level : (0 < i → x.role ≤ most_role) → most_levels ≤ x.depth → refused (on_call 9) ≡ node_fits i x
   unfolding node_fits
   node-level r l = sym (pass _ _ _ (test-role i x.role r) ∙ stop (leb most_levels x.depth) _ _ (at_most most_levels x.depth l))
 
-  pub node-many : (0 < i → x.role ≤ most_role) → x.depth < most_levels → most_nodes ≤ i → told 10 ≡ node_fits i x
+  pub node-many : (0 < i → x.role ≤ most_role) → x.depth < most_levels → most_nodes ≤ i → refused (on_call 10) ≡ node_fits i x
   unfolding node_fits
   node-many r l m =
       sym (pass _ _ _ (test-role i x.role r) ∙ pass (leb most_levels x.depth) _ _ (not-le most_levels x.depth l)
       ∙ last-stop (leb most_nodes i) 10 (at_most most_nodes i m))
 
-  pub node-good : (0 < i → x.role ≤ most_role) → x.depth < most_levels → i < most_nodes → told 0 ≡ node_fits i x
+  pub node-good : (0 < i → x.role ≤ most_role) → x.depth < most_levels → i < most_nodes → good tt ≡ node_fits i x
   node-good r l m = sym (fits-node i x (r, l, m))
 
 -- ---- nodes
 
-module _ (list : List ℕ) (i k end : ℕ) where
-  pub nodes-none : end ≤ k → told 0 ≡ nodes_fit i (nodes_to list k end)
+module _ (list : List ℕ) (k end : ℕ) where
+  pub nodes-none : end ≤ k → good tt ≡ nodes_fit k (nodes_to list k end)
   unfolding nodes_fit
-  nodes-none h = sym (ap (nodes_fit i) (node-none list k end h))
+  nodes-none h = sym (ap (nodes_fit k) (node-none list k end h))
 
-  pub nodes-stop : (n : ℕ) → k < end → told n ≡ node_fits i (node_at list k) → (n ≡ 0 → ⊥) → told n ≡ nodes_fit i (nodes_to list k end)
+  pub nodes-stop : (r : Rule) → k < end → told {A = Unit {0}} (Err r) ≡ node_fits k (node_at list k)
+      → told {A = Unit {0}} (Err r) ≡ nodes_fit k (nodes_to list k end)
   unfolding nodes_fit
-  nodes-stop n h e z = told-stop n _ _ z e ∙ sym (ap (nodes_fit i) (node-first list k end h))
+  nodes-stop r h e = told-stop r _ _ e ∙ sym (ap (nodes_fit k) (node-first list k end h))
 
-  pub nodes-next : (n : ℕ) → k < end → told n ≡ node_fits i (node_at list k) → n ≡ 0
-      → nodes_fit i (nodes_to list k end) ≡ nodes_fit (suc i) (nodes_to list (k + 1) end)
+  pub nodes-next : k < end → good tt ≡ node_fits k (node_at list k) → nodes_fit k (nodes_to list k end) ≡ nodes_fit (k + 1) (nodes_to list (k + 1) end)
   unfolding nodes_fit
-  nodes-next n h e z = ap (nodes_fit i) (node-first list k end h) ∙ told-go n (node_fits i (node_at list k)) _ z e
+  nodes-next h e =
+      let n : suc k ≡ k + 1 = omega arith in
+      ap (nodes_fit k) (node-first list k end h) ∙ told-go (node_fits k (node_at list k)) _ e ∙ ap (λ (z : ℕ). nodes_fit z (nodes_to list (k + 1) end)) n
 
 -- ---- a threshold
 
@@ -84,21 +87,24 @@ pub record Begun (k : ℕ) (h : Limit) : Type 0 where
   pub kind : h.how ≤ 3
   pub right : wrong_with h.p h.q ≡ 0
 
+pub begun : {p q : ℕ} (k : ℕ) (h : Limit) → k < most_thresholds → h.how ≤ 3 → p ≡ h.p → q ≡ h.q → 0 ≡ wrong_with p q → Begun k h
+begun k h f l ep eq z = record { few = f; kind = l; right = sym (z ∙ ap₂ wrong_with ep eq) }
+
 module _ (k : ℕ) (h : Limit) where
-  pub limit-many : most_thresholds ≤ k → told 12 ≡ limit_fits k h
+  pub limit-many : most_thresholds ≤ k → refused (on_call 12) ≡ limit_fits k h
   unfolding limit_fits
   limit-many l = sym (stop (leb most_thresholds k) _ _ (at_most most_thresholds k l))
 
-  pub limit-how : k < most_thresholds → 3 < h.how → told 13 ≡ limit_fits k h
+  pub limit-how : k < most_thresholds → 3 < h.how → refused (on_call 13) ≡ limit_fits k h
   unfolding limit_fits
   limit-how f l = sym (pass (leb most_thresholds k) _ _ (not-le most_thresholds k f) ∙ stop (ltb 3 h.how) _ _ (below 3 h.how l))
 
-  pub limit-wrong : k < most_thresholds → h.how ≤ 3 → (n : ℕ) → n ≡ wrong_with h.p h.q → (n ≡ 0 → ⊥) → told n ≡ limit_fits k h
+  pub limit-wrong : k < most_thresholds → h.how ≤ 3 → (r : Rule) → number_of r ≡ wrong_with h.p h.q → told {A = Unit {0}} (Err r) ≡ limit_fits k h
   unfolding limit_fits
-  limit-wrong f l n is z =
-      told-some n z ∙ ap (λ (m : ℕ). refused (on_call m)) is
+  limit-wrong f l r is =
+      ap (λ (m : ℕ). refused (on_call m)) is
       ∙ sym (pass (leb most_thresholds k) _ _ (not-le most_thresholds k f) ∙ pass (ltb 3 h.how) _ _ (not-below 3 h.how l)
-      ∙ stop (not (lawful h.p h.q)) _ _ (found_some n h.p h.q is z))
+      ∙ stop (not (lawful h.p h.q)) _ _ (found_some (number_of r) h.p h.q is (number-some r)))
 
   module _ (b : Begun k h) where
     left : limit_fits k h ≡ (nodes_fit 0 h.inner >> refuse_if (ltb most_size (size (reduce (concept h.inner)))) (on_call 14))
@@ -108,19 +114,19 @@ module _ (k : ℕ) (h : Limit) where
         ∙ pass (not (lawful h.p h.q)) _ _ (found_none _ h.p h.q refl b.right)
 
     -- what the tests of its inner list say, which is xs
-    module _ (n : ℕ) (xs : List (Listed ℕ)) (same : xs ≡ h.inner) (e : told n ≡ nodes_fit 0 xs) where
-      pub limit-nodes : (n ≡ 0 → ⊥) → told n ≡ limit_fits k h
-      limit-nodes z = told-stop n _ _ z (e ∙ ap (nodes_fit 0) same) ∙ sym left
+    module _ (xs : List (Listed ℕ)) (same : xs ≡ h.inner) where
+      pub limit-nodes : (r : Rule) → told {A = Unit {0}} (Err r) ≡ nodes_fit 0 xs → told {A = Unit {0}} (Err r) ≡ limit_fits k h
+      limit-nodes r e = told-stop r _ _ (e ∙ ap (nodes_fit 0) same) ∙ sym left
 
-      module _ (z : n ≡ 0) (s : ℕ) (d : s ≡ size (reduce (concept xs))) where
+      module _ (e : good tt ≡ nodes_fit 0 xs) (s : ℕ) (d : s ≡ size (reduce (concept xs))) where
         sized : s ≡ size (reduce (concept h.inner))
         sized = d ∙ ap (λ (y : List (Listed ℕ)). size (reduce (concept y))) same
 
         last : limit_fits k h ≡ refuse_if (ltb most_size (size (reduce (concept h.inner)))) (on_call 14)
-        last = left ∙ told-go n (nodes_fit 0 h.inner) _ z (e ∙ ap (nodes_fit 0) same)
+        last = left ∙ told-go (nodes_fit 0 h.inner) _ (e ∙ ap (nodes_fit 0) same)
 
-        pub limit-size : most_size < s → told 14 ≡ limit_fits k h
+        pub limit-size : most_size < s → refused (on_call 14) ≡ limit_fits k h
         limit-size l = sym (last ∙ last-stop _ 14 (below most_size (size (reduce (concept h.inner))) (omega (arith, sized, l))))
 
-        pub limit-good : s ≤ most_size → told 0 ≡ limit_fits k h
+        pub limit-good : s ≤ most_size → good tt ≡ limit_fits k h
         limit-good l = sym (last ∙ last-pass _ 14 (not-below most_size (size (reduce (concept h.inner))) (omega (arith, sized, l))))

@@ -3,20 +3,20 @@
 use mathlib.Core.Path.{◌≡◌, refl, sym, ap, ◌∙◌, subst}
 use mathlib.Core.Bool.{true}
 use mathlib.Core.List.{List, [], ◌∷◌, ◌++◌, append_assoc, append-nil}
-use Prim.Native.Nat.{ℕ, zero, suc, ◌+◌, ◌*◌, ◌-◌, ◌%◌, ◌≤◌, ◌<◌}
+use Prim.Native.Nat.{ℕ, zero, suc, ◌+◌, ◌*◌, ◌-◌, ◌/◌, ◌%◌, ◌≤◌, ◌<◌}
 use native.Mathlib.Omega.{arith}
 use lib.ListN.{length, get_or}
 use Rattle.meaning.specs.Bounds.{most_levels, most_nodes}
 use Rattle.meaning.specs.Tree.{node, Forest, none, more, Concept, nodes, nodes_f, levels, levels_f}
 use Rattle.meaning.specs.Rows.{Holds, HoldsF}
 use Rattle.meaning.specs.Lists.{Listed, concept, listed, listed_f}
-use Rattle.meaning.specs.Writing.{nodes_from}
+use Rattle.meaning.specs.Writing.{nodes_from, nodes_in}
 use Rattle.meaning.proofs.Reading.{at_most, not-le}
 use Rattle.meaning.proofs.Lists.{Shallow, shallow-more, shallow-listed, root_role}
 use Rattle.meaning.proofs.ListsFit.{listed-length, Fit, Ok, tree-fits, nodes-fit}
 use Rattle.meaning.proofs.ListsSound.{inner-listed}
 use Rattle.reduction.specs.Held.{Held}
-use Rattle.lists.specs.Handed.{nodes_to, Stand, Inner}
+use Rattle.lists.specs.Handed.{nodes_to, Inner}
 use Rattle.faults.specs.Faulty.{deeper}
 use Rattle.lists.proofs.Peeled.{nodes-many}
 
@@ -106,63 +106,60 @@ unfolding Ok
 all-ok [] = tt
 all-ok (x ∷ xs) = (tt, all-ok xs)
 
-module _ (list : List ℕ) (first end : ℕ) (w : Inner list first end) where
-  abbrev tree : Concept
-  tree = concept (nodes_to list first end)
+module _ (list : List ℕ) (w : Inner list) where
+  abbrev end : ℕ
+  end = length list / 3
 
-  back : listed 0 (root_role (nodes_to list first end)) tree ≡ nodes_to list first end
-  back = inner-listed (nodes_to list first end) w.forms
+  abbrev tree : Concept
+  tree = concept (nodes_in list)
+
+  back : listed 0 (root_role (nodes_in list)) tree ≡ nodes_in list
+  back = inner-listed (nodes_in list) w.forms
 
   bounds : (levels tree ≤ most_levels) × (nodes tree ≤ most_nodes)
   bounds =
-      let r = root_role (nodes_to list first end) in
-      let f = tree-fits (λ a. true) tree 0 r 0 (subst (Fit 0) (sym back) (nodes-fit 0 (nodes_to list first end) w.fits)) (all-ok (listed 0 r tree)) in
+      let r = root_role (nodes_in list) in
+      let f = tree-fits (λ a. true) tree 0 r 0 (subst (Fit 0) (sym back) (nodes-fit 0 (nodes_in list) w.fits)) (all-ok (listed 0 r tree)) in
       (omega (arith, f.1), omega (arith, f.2))
 
-  many : nodes tree ≡ end - first
-  many = sym (listed-length tree 0 (root_role (nodes_to list first end))) ∙ ap length back ∙ nodes-many list first (end - first)
+  many : nodes tree ≡ end
+  many = sym (listed-length tree 0 (root_role (nodes_in list))) ∙ ap length back ∙ nodes-many list 0 end
 
-  pub inner-few : Stand list first end × (end - first ≤ 64)
-  inner-few = (w.stands, omega (arith, many, bounds.1))
+  pub inner-few : end ≤ 64
+  inner-few = omega (arith, many, bounds.1)
 
   module _ (names roles ends : List ℕ)
-      (n : (i : ℕ) → i < end - first → get_or names i 0 ≡ get_or list (3 * (first + i)) 0)
-      (r : (i : ℕ) → i < end - first → get_or roles i 0 ≡ get_or list (3 * (first + i) + 2) 0 % 256)
-      (e : (i : ℕ) → i < end - first → get_or ends i 0 ≡ i + 1 + deeper (get_or list (3 * (first + i) + 1) 0) (nodes_to list (first + i + 1) end)) where
-    says : (m i : ℕ) → i + m ≡ end - first → Fit i (nodes_from list (first + i) m) → Say names roles ends i (nodes_from list (first + i) m)
+      (n : (i : ℕ) → i < end → get_or names i 0 ≡ get_or list (3 * i) 0)
+      (r : (i : ℕ) → i < end → get_or roles i 0 ≡ get_or list (3 * i + 2) 0 % 256)
+      (e : (i : ℕ) → i < end → get_or ends i 0 ≡ i + 1 + deeper (get_or list (3 * i + 1) 0) (nodes_to list (i + 1) end)) where
+    says : (m i : ℕ) → i + m ≡ end → Fit i (nodes_from list i m) → Say names roles ends i (nodes_from list i m)
     unfolding Say nodes_from Fit
     says zero i q f = tt
     says (suc m) i q f =
-        let l : i < end - first = omega (arith, q) in
-        let g : end - (first + i + 1) ≡ m = omega (arith, q) in
-        let h : first + i + 1 ≡ suc (first + i) = omega arith in
-        let up : suc (first + i) ≡ first + suc i = omega arith in
-        let d = get_or list (3 * (first + i) + 1) 0 in
-        let xs : nodes_to list (first + i + 1) end ≡ nodes_from list (suc (first + i)) m =
-        ap (nodes_from list (first + i + 1)) g ∙ ap (λ (z : ℕ). nodes_from list z m) h in
-        let rest = says m (suc i) (omega (arith, q)) (subst (λ (z : ℕ). Fit (suc i) (nodes_from list z m)) up f.1) in (
+        let l : i < end = omega (arith, q) in
+        let g : end - (i + 1) ≡ m = omega (arith, q) in
+        let h : i + 1 ≡ suc i = omega arith in
+        let d = get_or list (3 * i + 1) 0 in
+        let xs : nodes_to list (i + 1) end ≡ nodes_from list (suc i) m = ap (nodes_from list (i + 1)) g ∙ ap (λ (z : ℕ). nodes_from list z m) h in (
           n i l,
           λ b. r i l ∙ (let y = f.0.0 b in omega (arith, y)),
           e i l ∙ ap (λ (z : List (Listed ℕ)). i + 1 + deeper d z) xs,
-          subst (λ (z : ℕ). Say names roles ends (suc i) (nodes_from list z m)) (sym up) rest,
+          says m (suc i) (omega (arith, q)) f.1,
         )
 
-    said : Say names roles ends 0 (listed 0 (root_role (nodes_to list first end)) tree ++ [])
+    said : Say names roles ends 0 (listed 0 (root_role (nodes_in list)) tree ++ [])
     said =
-        let z : first + 0 ≡ first = omega arith in
-        let f = nodes-fit 0 (nodes_to list first end) w.fits in
-        let s = says (end - first) 0 (omega arith) (subst (λ (y : ℕ). Fit 0 (nodes_from list y (end - first))) (sym z) f) in
-        subst (Say names roles ends 0) (sym (append-nil (listed 0 (root_role (nodes_to list first end)) tree) ∙ back))
-        (subst (λ (y : ℕ). Say names roles ends 0 (nodes_from list y (end - first))) z s)
+        subst (Say names roles ends 0) (sym (append-nil (listed 0 (root_role (nodes_in list)) tree) ∙ back))
+        (says end 0 (omega arith) (nodes-fit 0 (nodes_in list) w.fits))
 
     -- they hold the tree up to the end of the first
     pub inner-holds : Holds names roles ends tree 17 0 (get_or ends 0 0)
     inner-holds =
-        let f = say-first names roles ends tree 0 (root_role (nodes_to list first end)) 0 [] tt said in
-        let h = say-holds names roles ends tree 0 (root_role (nodes_to list first end)) 0 17 [] tt bounds.0 said in
+        let f = say-first names roles ends tree 0 (root_role (nodes_in list)) 0 [] tt said in
+        let h = say-holds names roles ends tree 0 (root_role (nodes_in list)) 0 17 [] tt bounds.0 said in
         subst (Holds names roles ends tree 17 0) (sym f.1) h
 
     pub inner-held : Held names roles ends 17 0
     inner-held =
-        let f = say-first names roles ends tree 0 (root_role (nodes_to list first end)) 0 [] tt said in
+        let f = say-first names roles ends tree 0 (root_role (nodes_in list)) 0 [] tt said in
         record { tree = tree; holds = inner-holds; fits = omega (arith, f.1, bounds.1) }

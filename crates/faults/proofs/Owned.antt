@@ -7,6 +7,9 @@ use Prim.Native.Nat.{ℕ, suc, ◌+◌, ◌*◌, ◌-◌, ◌/◌, ◌%◌, ◌�
 use native.Mathlib.Omega.{arith}
 use lib.Dec.{T, eqb, leb, leb→le}
 use lib.ListN.{length, get_or}
+use Rattle.std.specs.Prelude.{Ok, Err}
+use Rattle.meaning.specs.declared.Rule.{Rule}
+use Rattle.faults.specs.declared.Next.{Next}
 use Rattle.meaning.specs.Refusal.{Answer, good, ◌>>◌}
 use Rattle.meaning.specs.Lists.{Listed, Limit, form_tree, stand_at, form}
 use Rattle.meaning.specs.Writing.{node_at, nodes_from, nodes_in, inners_at, limit_at, limits_from, lists_in, shared_out, whole, node_fits, limit_fits, own_fit, lists_fit}
@@ -25,17 +28,17 @@ module _ (i k : ℕ) (h : Limit) (hs : List Limit) where
   unfolding own_fit ◌>>◌
   own-other n = rw (other h.owner i n) refl
 
-  own-stop : (n : ℕ) → h.owner ≡ i → told n ≡ limit_fits k h → (n ≡ 0 → ⊥) → told n ≡ own_fit i k (h ∷ hs)
+  own-stop : (r : Rule) → h.owner ≡ i → told {A = Unit {0}} (Err r) ≡ limit_fits k h → told {A = Unit {0}} (Err r) ≡ own_fit i k (h ∷ hs)
   unfolding own_fit
-  own-stop n o e z =
+  own-stop r o e =
       let w : limit_fits k h ≡ cond (eqb h.owner i) (limit_fits k h) (good tt) = rw (same h.owner i o) refl in
-      told-stop n _ (own_fit i (suc k) hs) z (e ∙ w)
+      told-stop r _ (own_fit i (suc k) hs) (e ∙ w)
 
-  own-pass : (n : ℕ) → h.owner ≡ i → told n ≡ limit_fits k h → n ≡ 0 → own_fit i k (h ∷ hs) ≡ own_fit i (suc k) hs
+  own-pass : h.owner ≡ i → good tt ≡ limit_fits k h → own_fit i k (h ∷ hs) ≡ own_fit i (suc k) hs
   unfolding own_fit
-  own-pass n o e z =
+  own-pass o e =
       let w : limit_fits k h ≡ cond (eqb h.owner i) (limit_fits k h) (good tt) = rw (same h.owner i o) refl in
-      told-go n (cond (eqb h.owner i) (limit_fits k h) (good tt)) (own_fit i (suc k) hs) z (e ∙ w)
+      told-go (cond (eqb h.owner i) (limit_fits k h) (good tt)) (own_fit i (suc k) hs) (e ∙ w)
 
 -- thresholds of later nodes
 own-later : (n b i k : ℕ) (hs : List Limit) → T (stand_at n b hs) → i < b → own_fit i k hs ≡ good tt
@@ -112,16 +115,17 @@ module _ (hs inner : List ℕ) where
     up : own_fit i (suc j) (limits_on hs inner (j + 1) (k + inners_at hs j)) ≡ then
     up = let e : suc j ≡ j + 1 = omega arith in ap (λ (z : ℕ). own_fit i z (limits_on hs inner (j + 1) (k + inners_at hs j))) e
 
-    pub on-stop : (n : ℕ) → j < length hs / 5 → get_or hs (5 * j) 0 ≡ i → told n ≡ limit_fits j (limit_at hs inner j k) → (n ≡ 0 → ⊥) → told n ≡ own
-    on-stop n l o e z = own-stop i j (limit_at hs inner j k) (limits_on hs inner (j + 1) (k + inners_at hs j)) n o e z ∙ sym (on l)
+    pub on-stop : (r : Rule) → j < length hs / 5 → get_or hs (5 * j) 0 ≡ i → told {A = Unit {0}} (Err r) ≡ limit_fits j (limit_at hs inner j k)
+        → told {A = Unit {0}} (Err r) ≡ own
+    on-stop r l o e = own-stop i j (limit_at hs inner j k) (limits_on hs inner (j + 1) (k + inners_at hs j)) r o e ∙ sym (on l)
 
-    pub on-next : (n : ℕ) → j < length hs / 5 → get_or hs (5 * j) 0 ≡ i → told n ≡ limit_fits j (limit_at hs inner j k) → n ≡ 0 → own ≡ then
-    on-next n l o e z = on l ∙ own-pass i j (limit_at hs inner j k) (limits_on hs inner (j + 1) (k + inners_at hs j)) n o e z ∙ up
+    pub on-next : j < length hs / 5 → get_or hs (5 * j) 0 ≡ i → good tt ≡ limit_fits j (limit_at hs inner j k) → own ≡ then
+    on-next l o e = on l ∙ own-pass i j (limit_at hs inner j k) (limits_on hs inner (j + 1) (k + inners_at hs j)) o e ∙ up
 
     pub on-other : j < length hs / 5 → (get_or hs (5 * j) 0 ≡ i → ⊥) → own ≡ then
     on-other l d = on l ∙ own-other i j (limit_at hs inner j k) (limits_on hs inner (j + 1) (k + inners_at hs j)) d ∙ up
 
-    pub on-later : (n : ℕ) → Rest hs inner n (suc i) j k → told 0 ≡ own
+    pub on-later : (n : ℕ) → Rest hs inner n (suc i) j k → good tt ≡ own
     on-later n w = sym (own-later n (suc i) i j (limits_on hs inner j k) w.stands (omega arith))
 
 -- ---- from threshold to threshold of a node
@@ -136,31 +140,30 @@ pub passed_none : {hs inner : List ℕ} {n i j k : ℕ} → Rest hs inner n i j 
 passed_none w = record { rest = w; own = refl; later = λ h l. refl }
 
 module _ (hs inner : List ℕ) (n i j k next at : ℕ) (w : Passed hs inner n i j k next at) where
-  pub passed-more : (number count : ℕ) → next < length hs / 5 → get_or hs (5 * next) 0 ≡ i → told number ≡ limit_fits next (limit_at hs inner next at) → number ≡ 0
+  pub passed-more : (count : ℕ) → next < length hs / 5 → get_or hs (5 * next) 0 ≡ i → good tt ≡ limit_fits next (limit_at hs inner next at)
       → count ≡ inners_at hs next → Passed hs inner n i j k (next + 1) (at + count)
-  passed-more number count l o e z c =
+  passed-more count l o e c =
       subst (λ (y : ℕ). Passed hs inner n i j k (next + 1) (at + y)) (sym c) (record {
         rest = rest-next hs inner n i next at w.rest l o;
-        own = w.own ∙ on-next hs inner i next at number l o e z;
+        own = w.own ∙ on-next hs inner i next at l o e;
         later = λ h m. w.later h m ∙ on-other hs inner h next at l (λ q. let y : get_or hs (5 * next) 0 ≡ h = q in omega (arith, o, m));
       })
 
-  found : Rest hs inner n (suc i) next at → Found hs inner n i j k 0 next at
-  found r = record { answer = on-later hs inner i next at n r ∙ sym w.own; rest = λ z. r; later = λ z. w.later }
+  abbrev here : Next
+  here = record { limit = next; first = at }
 
-  pub found-other : next < length hs / 5 → (get_or hs (5 * next) 0 ≡ i → ⊥) → Found hs inner n i j k 0 next at
+  found : Rest hs inner n (suc i) next at → Found hs inner n i j k (Ok here)
+  found r = record { answer = on-later hs inner i next at n r ∙ sym w.own; rest = r; later = w.later }
+
+  pub found-other : next < length hs / 5 → (get_or hs (5 * next) 0 ≡ i → ⊥) → Found hs inner n i j k (Ok here)
   found-other l d = found (rest-later hs inner n i next at w.rest l d)
 
-  pub found-end : length hs / 5 ≤ next → Found hs inner n i j k 0 next at
+  pub found-end : length hs / 5 ≤ next → Found hs inner n i j k (Ok here)
   found-end l = found (rest_end hs inner n i next at w.rest l)
 
-  pub found-stop : (number : ℕ) → next < length hs / 5 → get_or hs (5 * next) 0 ≡ i → told number ≡ limit_fits next (limit_at hs inner next at)
-      → (number ≡ 0 → ⊥) → Found hs inner n i j k number next at
-  found-stop number l o e z = record {
-    answer = on-stop hs inner i next at number l o e z ∙ sym w.own;
-    rest = λ y. absurd (z y);
-    later = λ y. absurd (z y);
-  }
+  pub found-stop : (r : Rule) → next < length hs / 5 → get_or hs (5 * next) 0 ≡ i → told {A = Unit {0}} (Err r) ≡ limit_fits next (limit_at hs inner next at)
+      → Found hs inner n i j k (Err r)
+  found-stop r l o e = record { answer = on-stop hs inner i next at r l o e ∙ sym w.own; rest = tt; later = tt }
 
 -- ---- from node to node
 
@@ -199,39 +202,38 @@ module _ (nodes hs inner : List ℕ) where
       }
 
   module _ (i j k : ℕ) (w : Gone nodes hs inner i j k) where
-    pub gone-end : length nodes / 3 ≤ i → told 0 ≡ lists_fit 0 (lists_in nodes hs inner).outer (lists_in nodes hs inner).limits
+    pub gone-end : length nodes / 3 ≤ i → good tt ≡ lists_fit 0 (lists_in nodes hs inner).outer (lists_in nodes hs inner).limits
     unfolding lists_fit
     gone-end l = sym (w.all ∙ ap (fits i) (node-none nodes i (length nodes / 3) l))
 
-    module _ (number : ℕ) (l : i < length nodes / 3) (e : told number ≡ node_fits i (node_at nodes i)) where
-      pub gone-node : (number ≡ 0 → ⊥) → told number ≡ lists_fit 0 (lists_in nodes hs inner).outer (lists_in nodes hs inner).limits
+    module _ (l : i < length nodes / 3) where
+      pub gone-node : (r : Rule) → told {A = Unit {0}} (Err r) ≡ node_fits i (node_at nodes i)
+          → told {A = Unit {0}} (Err r) ≡ lists_fit 0 (lists_in nodes hs inner).outer (lists_in nodes hs inner).limits
       unfolding lists_fit
-      gone-node z =
-          told-stop number (node_fits i (node_at nodes i)) _ z e ∙ sym (w.all ∙ ap (fits i) (node-first nodes i (length nodes / 3) l))
+      gone-node r e = told-stop r (node_fits i (node_at nodes i)) _ e ∙ sym (w.all ∙ ap (fits i) (node-first nodes i (length nodes / 3) l))
 
       -- the node passes
-      behind : number ≡ 0 → fits 0 (nodes_in nodes)
-          ≡ (own_fit i 0 (limits_from hs inner 0 0 (length hs / 5)) >> fits (suc i) (nodes_to nodes (i + 1) (length nodes / 3)))
-      unfolding lists_fit
-      behind z =
-          let own = own_fit i 0 (limits_from hs inner 0 0 (length hs / 5)) in
-          w.all ∙ ap (fits i) (node-first nodes i (length nodes / 3) l)
-          ∙ told-go number (node_fits i (node_at nodes i)) (own >> fits (suc i) (nodes_to nodes (i + 1) (length nodes / 3))) z e
+      module _ (e : good tt ≡ node_fits i (node_at nodes i)) where
+        behind : fits 0 (nodes_in nodes) ≡ (own_fit i 0 (limits_from hs inner 0 0 (length hs / 5)) >> fits (suc i) (nodes_to nodes (i + 1) (length nodes / 3)))
+        unfolding lists_fit
+        behind =
+            let own = own_fit i 0 (limits_from hs inner 0 0 (length hs / 5)) in
+            w.all ∙ ap (fits i) (node-first nodes i (length nodes / 3) l)
+            ∙ told-go (node_fits i (node_at nodes i)) (own >> fits (suc i) (nodes_to nodes (i + 1) (length nodes / 3))) e
 
-      module _ (found next first : ℕ) (f : Found hs inner (length nodes / 3) i j k found next first) (z : number ≡ 0) where
-        pub gone-own : (found ≡ 0 → ⊥) → told found ≡ lists_fit 0 (lists_in nodes hs inner).outer (lists_in nodes hs inner).limits
-        gone-own y =
-            told-stop found (own_fit i 0 (limits_from hs inner 0 0 (length hs / 5))) _ y (f.answer ∙ sym (w.own i (omega arith))) ∙ sym (behind z)
+        pub gone-own : (r : Rule) → Found hs inner (length nodes / 3) i j k (Err r)
+            → told {A = Unit {0}} (Err r) ≡ lists_fit 0 (lists_in nodes hs inner).outer (lists_in nodes hs inner).limits
+        gone-own r f = told-stop r (own_fit i 0 (limits_from hs inner 0 0 (length hs / 5))) _ (f.answer ∙ sym (w.own i (omega arith))) ∙ sym behind
 
-        pub gone-more : found ≡ 0 → Gone nodes hs inner (i + 1) next first
-        gone-more y =
+        pub gone-more : (m : Next) → Found hs inner (length nodes / 3) i j k (Ok m) → Gone nodes hs inner (i + 1) m.limit m.first
+        gone-more m f =
             let up : suc i ≡ i + 1 = omega arith in
             record {
               here = omega arith;
-              rest = subst (λ (x : ℕ). Rest hs inner (length nodes / 3) x next first) up (f.rest y);
-              all = behind z
-                  ∙ told-go found (own_fit i 0 (limits_from hs inner 0 0 (length hs / 5))) (fits (suc i) (nodes_to nodes (i + 1) (length nodes / 3))) y
+              rest = subst (λ (x : ℕ). Rest hs inner (length nodes / 3) x m.limit m.first) up f.rest;
+              all = behind
+                  ∙ told-go (own_fit i 0 (limits_from hs inner 0 0 (length hs / 5))) (fits (suc i) (nodes_to nodes (i + 1) (length nodes / 3)))
                   (f.answer ∙ sym (w.own i (omega arith)))
                   ∙ ap (λ (x : ℕ). fits x (nodes_to nodes (i + 1) (length nodes / 3))) up;
-              own = λ h m. w.own h (omega (arith, m)) ∙ f.later y h (omega (arith, m));
+              own = λ h q. w.own h (omega (arith, q)) ∙ f.later h (omega (arith, q));
             }

@@ -1,212 +1,151 @@
-// What reading would refuse of a requirement that is handed over as lists (the crate `lists` says how): the first number in the order of reading, or 0.
+// What reading would refuse of a requirement that is handed over as lists (the crate `lists` says how): the first rule that it breaks, in the order of reading.
 #![tactic(auto)]
 
-ghost use Rattle.std.specs.Prelude.{◌≡◌, ℕ, ◌+◌, ◌*◌, ◌-◌, ◌%◌, ◌≤◌, ◌<◌, T, length, get_or};
+ghost use Rattle.std.specs.Prelude.{◌≡◌, ℕ, ◌+◌, ◌*◌, ◌/◌, ◌%◌, ◌≤◌, ◌<◌, T, length, get_or};
 ghost use Rattle.meaning.specs.Reduce.{size, reduce};
-ghost use Rattle.meaning.specs.Lists.{Listed, form, concept};
-ghost use Rattle.meaning.specs.Writing.{lists_in, limit_at, whole, node_fits, nodes_fit, limit_fits, lists_fit};
-ghost use Rattle.lists.specs.Handed.{nodes_to, Stand, One, Inner};
-ghost use Rattle.faults.specs.Faulty.{told, Rest, deeper};
-ghost use Rattle.faults.specs.Faulty.{Found as Finds};
+ghost use Rattle.meaning.specs.Lists.{form, concept};
+ghost use Rattle.meaning.specs.Writing.{node_at, nodes_in, inners_at, lists_in, limit_at, whole, node_fits, nodes_fit, limit_fits, lists_fit};
+ghost use Rattle.lists.specs.Handed.{nodes_to, One, Inner};
+ghost use Rattle.faults.specs.Faulty.{told, Rest, Found, deeper};
 
-// ---- a number, or 0
+use lists::{Handed, Limits, Nodes};
+use meaning::Rule;
+use rows::Tree;
 
-// The i-th node of a list: 7 (not at the root), 9, 10.
-fn node_fault(i: usize, depth: usize, role: usize) -> usize
-    ensures { (x : Listed ℕ) → x.depth ≡ depth → x.role ≡ role → told result ≡ node_fits i x }
+// ---- what is broken
+
+// The i-th node of a list.
+fn node_fault(list: &Nodes, i: usize) -> Result<(), Rule>
+    requires { 3 * i + 3 ≤ length list.now }
+    ensures { told result ≡ node_fits i (node_at list.now i) }
 {
-    if 0 < i {
-        if meaning::MOST_ROLE < role {
-            return 7;
-        }
+    if 0 < i && meaning::MOST_ROLE < list.role(i) {
+        return Err(Rule::RoleAbove);
     }
-    if meaning::MOST_LEVELS <= depth {
-        return 9;
+    if meaning::MOST_LEVELS <= list.depth(i) {
+        return Err(Rule::TooDeep);
     }
     if meaning::MOST_NODES <= i {
-        return 10;
+        return Err(Rule::TooManyNodes);
     }
-    0
+    Ok(())
 }
 
-// The nodes of an inner list, from `first` up to `end`.
-fn nodes_fault(list: &[u64], first: usize, end: usize) -> usize
-    requires { Stand list.now first end }
-    ensures { told result ≡ nodes_fit 0 (nodes_to list.now first end) }
+// The nodes of an inner list.
+fn nodes_fault(list: &Nodes) -> Result<(), Rule>
+    ensures { told result ≡ nodes_fit 0 (nodes_in list.now) }
 {
-    let mut k = first;
-    while k < end {
-        let number = node_fault(k - first, lists::depth(list, k), lists::role(list, k));
-        if number != 0 {
-            return number;
-        }
-        k += 1;
+    for i in 0..list.count() {
+        node_fault(list, i)?;
     }
-    0
+    Ok(())
 }
 
-// The j-th threshold, whose inner nodes begin at `first`: 12, 13, what is wrong with its fraction, those of the inner list, 14.
-fn limit_fault(limits: &[u64], inner: &[u64], j: usize, first: usize) -> usize
-    requires { One limits.now inner.now j first }
-    ensures { told result ≡ limit_fits j (limit_at limits.now inner.now j first) }
+// The j-th threshold with its inner nodes.
+fn limit_fault(limits: &Limits, j: usize, inner: &Nodes) -> Result<(), Rule>
+    requires { One limits.now inner.now j 0 × (length inner.now ≡ 3 * inners_at limits.now j) }
+    ensures { told result ≡ limit_fits j (limit_at limits.now inner.now j 0) }
 {
     if meaning::MOST_THRESHOLDS <= j {
-        return 12;
+        return Err(Rule::TooManyThresholds);
     }
-    if 3 < lists::part(limits, j, 1) {
-        return 13;
+    if 3 < limits.how(j) {
+        return Err(Rule::NoComparison);
     }
-    let wrong = fractions::wrong(lists::part(limits, j, 2), lists::part(limits, j, 3));
-    if wrong != 0 {
-        return wrong;
+    fractions::wrong(limits.p(j), limits.q(j))?;
+    nodes_fault(inner)?;
+    if meaning::MOST_SIZE < inner_size(inner) {
+        return Err(Rule::TooLarge);
     }
-    let end = first + lists::part(limits, j, 4);
-    let number = nodes_fault(inner, first, end);
-    if number != 0 {
-        return number;
-    }
-    if meaning::MOST_SIZE < inner_size(inner, first, end) {
-        return 14;
-    }
-    0
+    Ok(())
 }
 
-// What is found at the thresholds of a node: a number or 0, the next threshold, and where its inner nodes begin.
-#[derive(Drop)]
-struct Found {
-    number: usize,
-    next: usize,
+// Behind the thresholds of a node: the next threshold, and where its inner nodes begin.
+#[derive(Clone, Copy)]
+struct Next {
+    limit: usize,
     first: usize,
 }
 
-// The thresholds of the i-th of n nodes, of which the first is the j-th of all.
-fn own_fault(n: usize, limits: &[u64], inner: &[u64], i: usize, j: usize, first: usize) -> Found
-    requires { Rest limits.now inner.now n i j first }
-    ensures { Finds limits.now inner.now n i j first result.number result.next result.first }
+// The thresholds of the i-th node, of which the first is the j-th of all.
+fn own_fault(of: &Handed, i: usize, j: usize, first: usize) -> Result<Next, Rule>
+    requires { Rest of.now.limits of.now.inner (length of.now.nodes / 3) i j first }
+    ensures { Found of.now.limits of.now.inner (length of.now.nodes / 3) i j first result }
 {
-    let many = limits.len() / 5;
-    let mut next = j;
     let mut at = first;
-    while next < many {
-        if lists::part(limits, next, 0) != i {
-            return Found {
-                number: 0,
-                next,
+    let many = of.limits.count();
+    for next in j..many {
+        if of.limits.owner(next) != i {
+            return Ok(Next {
+                limit: next,
                 first: at,
-            };
+            });
         }
-        let number = limit_fault(limits, inner, next, at);
-        if number != 0 {
-            return Found {
-                number,
-                next,
-                first: at,
-            };
-        }
-        at += lists::part(limits, next, 4);
-        next += 1;
+        let n = of.limits.inners(next);
+        limit_fault(&of.limits, next, &of.inner.part(at, n))?;
+        at += n;
     }
-    Found {
-        number: 0,
-        next,
+    Ok(Next {
+        limit: many,
         first: at,
-    }
+    })
 }
 
 // Node after node, each with its thresholds.
-pub fn fault(nodes: &[u64], limits: &[u64], inner: &[u64]) -> usize
-    requires { T (whole nodes.now limits.now inner.now) × T (form (lists_in nodes.now limits.now inner.now)) }
-    ensures { told result ≡ lists_fit 0 (lists_in nodes.now limits.now inner.now).outer
-        (lists_in nodes.now limits.now inner.now).limits }
+pub fn fault(of: &Handed) -> Result<(), Rule>
+    requires { T (whole of.now.nodes of.now.limits of.now.inner) × T (form (lists_in of.now.nodes of.now.limits of.now.inner)) }
+    ensures { told result ≡ lists_fit 0 (lists_in of.now.nodes of.now.limits of.now.inner).outer
+        (lists_in of.now.nodes of.now.limits of.now.inner).limits }
 {
-    let n = nodes.len() / 3;
-    let mut i = 0;
-    let mut j = 0;
-    let mut first = 0;
-    while i < n {
-        let number = node_fault(i, lists::depth(nodes, i), lists::role(nodes, i));
-        if number != 0 {
-            return number;
-        }
-        let own = own_fault(n, limits, inner, i, j, first);
-        let found = own.number;
-        if found != 0 {
-            return found;
-        }
-        j = own.next;
-        first = own.first;
-        i += 1;
+    let mut next = Next { limit: 0, first: 0 };
+    for i in 0..of.nodes.count() {
+        node_fault(&of.nodes, i)?;
+        next = own_fault(of, i, next.limit, next.first)?;
     }
-    0
+    Ok(())
 }
 
-// ---- number 14: an inner list as rows
+// ---- the size of an inner list
 
-// Where the nodes below the k-th end, of those up to `end`.
-fn past(list: &[u64], k: usize, end: usize) -> usize
-    requires { (k < end) × (3 * end ≤ length list.now) }
-    ensures value { result ≡ k + 1 + deeper (get_or list.now (3 * k + 1) 0) (nodes_to list.now (k + 1) end) }
-    ensures lower_bound { (k < result) × (result ≤ end) }
+// Where the nodes below the k-th end.
+fn past(list: &Nodes, k: usize) -> usize
+    requires { 3 * k + 3 ≤ length list.now }
+    ensures value { result ≡ k + 1 + deeper (get_or list.now (3 * k + 1) 0) (nodes_to list.now (k + 1) (length list.now / 3)) }
+    ensures lower_bound { (k < result) × (result ≤ length list.now / 3) }
 {
-    let d = lists::depth(list, k);
-    let mut e = k + 1;
-    while e < end {
-        if lists::depth(list, e) <= d {
+    let end = list.count();
+    let d = list.depth(k);
+    for e in k + 1..end {
+        if list.depth(e) <= d {
             return e;
         }
-        e += 1;
     }
-    e
+    end
 }
 
-// Names, roles and ends of the nodes from `first` up to `end`.
-fn names_of(list: &[u64], first: usize, end: usize) -> [u64; 64]
-    requires { Stand list.now first end × (end - first ≤ 64) }
-    ensures { (i : ℕ) → i < end - first → get_or result i 0 ≡ get_or list.now (3 * (first + i)) 0 }
+// The nodes as a tree in reading order.
+fn tree_of(list: &Nodes) -> Tree
+    requires { length list.now / 3 ≤ 64 }
+    ensures names { (i : ℕ) → i < length list.now / 3 → get_or result.names i 0 ≡ get_or list.now (3 * i) 0 }
+    ensures roles { (i : ℕ) → i < length list.now / 3 → get_or result.roles i 0 ≡ get_or list.now (3 * i + 2) 0 % 256 }
+    ensures ends { (i : ℕ) → i < length list.now / 3
+        → get_or result.ends i 0 ≡ i + 1 + deeper (get_or list.now (3 * i + 1) 0) (nodes_to list.now (i + 1) (length list.now / 3)) }
 {
-    let mut out = [0u64; 64];
-    let mut k = first;
-    while k < end {
-        out[k - first] = lists::names(list, k);
-        k += 1;
+    let mut names = [0u64; 64];
+    let mut roles = [0u8; 64];
+    let mut ends = [0u8; 64];
+    for i in 0..list.count() {
+        names[i] = list.names(i);
+        roles[i] = (list.role(i) % 256) as u8;
+        ends[i] = past(list, i) as u8;
     }
-    out
-}
-
-fn roles_of(list: &[u64], first: usize, end: usize) -> [u8; 64]
-    requires { Stand list.now first end × (end - first ≤ 64) }
-    ensures { (i : ℕ) → i < end - first → get_or result i 0 ≡ get_or list.now (3 * (first + i) + 2) 0 % 256 }
-{
-    let mut out = [0u8; 64];
-    let mut k = first;
-    while k < end {
-        out[k - first] = (lists::role(list, k) % 256) as u8;
-        k += 1;
-    }
-    out
-}
-
-fn ends_of(list: &[u64], first: usize, end: usize) -> [u8; 64]
-    requires { Stand list.now first end × (end - first ≤ 64) }
-    ensures { (i : ℕ) → i < end - first
-        → get_or result i 0 ≡ i + 1 + deeper (get_or list.now (3 * (first + i) + 1) 0) (nodes_to list.now (first + i + 1) end) }
-{
-    let mut out = [0u8; 64];
-    let mut k = first;
-    while k < end {
-        out[k - first] = (past(list, k, end) - first) as u8;
-        k += 1;
-    }
-    out
+    Tree { names, roles, ends }
 }
 
 // The reduced size of the concept that an inner list says.
-fn inner_size(list: &[u64], first: usize, end: usize) -> usize
-    requires { Inner list.now first end }
-    ensures { result ≡ size (reduce (concept (nodes_to list.now first end))) }
+fn inner_size(list: &Nodes) -> usize
+    requires { Inner list.now }
+    ensures { result ≡ size (reduce (concept (nodes_in list.now))) }
 {
-    let names = names_of(list, first, end);
-    let roles = roles_of(list, first, end);
-    let ends = ends_of(list, first, end);
-    reduction::reduced_size(&names, &roles, &ends)
+    reduction::reduced_size(&tree_of(list))
 }

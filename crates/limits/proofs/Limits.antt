@@ -2,7 +2,7 @@
 -- Assumes nothing.
 use mathlib.Core.Path.{◌≡◌, sym, ap, ◌∙◌, subst}
 use mathlib.Core.List.{List, [], ◌∷◌, ◌++◌, append-nil}
-use Prim.Native.Nat.{ℕ, ◌+◌, ◌*◌, ◌/◌, ◌≤◌, ◌<◌}
+use Prim.Native.Nat.{ℕ, ◌+◌, ◌*◌, ◌≤◌, ◌<◌}
 use native.Mathlib.Omega.{arith}
 use lib.Dec.{T}
 use lib.ListN.{length, get_or}
@@ -13,13 +13,14 @@ use Rattle.meaning.specs.Bounds.{most_thresholds}
 use Rattle.meaning.specs.Tree.{nodes}
 use Rattle.meaning.specs.Lists.{Listed, Limit, form_tree, concept, threshold}
 use Rattle.meaning.specs.Message.{code, comparison, concept_bytes, threshold_bytes}
-use Rattle.meaning.specs.Writing.{nodes_from, nodes_in, inners_at, limit_at, nodes_fit, limit_fits}
+use Rattle.meaning.specs.Writing.{nodes_in, inners_at, limit_at, nodes_fit, limit_fits}
 use Rattle.meaning.proofs.Reading.{bytes-length, passed, gone, le-of-not-below, lt_of_not_le}
 use Rattle.meaning.proofs.Lists.{root_role}
 use Rattle.meaning.proofs.ListsFit.{listed-length}
 use Rattle.meaning.proofs.ListsSound.{inner-listed}
 use Rattle.meaning.proofs.MessageLabel.{coded, concept-length}
 use Rattle.lists.specs.Handed.{One, Inner}
+use Rattle.lists.proofs.Parts.{nodes-own}
 use Rattle.limits.proofs.Nodes.{nodes-length}
 use Rattle.limits.proofs.Inner.{inner-some}
 use Rattle.limits.proofs.Putting.{bytes_one, put-none, put-more, put_all, put_as}
@@ -34,10 +35,6 @@ limit-open k h e =
     let d = gone (nodes_fit 0 h.inner) _ c.1 in
     (lt_of_not_le _ _ a.0, le-of-not-below _ _ b.0, d.0)
 
--- its own nodes are all that a list has
-pub nodes-own : (hs own : List ℕ) (j : ℕ) → length own ≡ 3 * inners_at hs j → nodes_in own ≡ nodes_from own 0 (inners_at hs j)
-nodes-own hs own j e = let q : length own / 3 ≡ inners_at hs j = omega (arith, e) in ap (nodes_from own 0) q
-
 pub limit-inner : (hs own : List ℕ) (j : ℕ) → length own ≡ 3 * inners_at hs j → One hs own j 0 → limit_fits j (limit_at hs own j 0) ≡ good tt → Inner own
 limit-inner hs own j e w f =
     let q = sym (nodes-own hs own j e) in
@@ -45,20 +42,6 @@ limit-inner hs own j e w f =
       forms = subst (λ (z : List (Listed ℕ)). T (form_tree z)) q w.forms;
       fits = subst (λ (z : List (Listed ℕ)). nodes_fit 0 z ≡ good tt) q (limit-open j (limit_at hs own j 0) f).2;
     }
-
--- a threshold whose inner nodes are a list of their own
-module _ (hs inner own : List ℕ) (j k n : ℕ) (e : nodes_in own ≡ nodes_from inner k n) (long : length own ≡ 3 * n) (q : n ≡ inners_at hs j) where
-  own-nodes : nodes_from own 0 (inners_at hs j) ≡ nodes_from inner k (inners_at hs j)
-  own-nodes = sym (nodes-own hs own j (omega (arith, long, q))) ∙ e ∙ ap (nodes_from inner k) q
-
-  pub limit-own : limit_at hs own j 0 ≡ limit_at hs inner j k
-  limit-own = let e = own-nodes in cc
-
-  pub one-own : One hs inner j k × (limit_fits j (limit_at hs inner j k) ≡ good tt) → One hs own j 0 × (limit_fits j (limit_at hs own j 0) ≡ good tt)
-  one-own w = (
-    record { whole = w.0.whole; room = omega (arith, long, q); forms = subst (λ (z : List (Listed ℕ)). T (form_tree z)) (sym own-nodes) w.0.forms },
-    ap (limit_fits j) limit-own ∙ w.1,
-  )
 
 -- a threshold has at least one inner node
 pub limit-some : (hs own : List ℕ) (j : ℕ) → length own ≡ 3 * inners_at hs j → One hs own j 0 → limit_fits j (limit_at hs own j 0) ≡ good tt

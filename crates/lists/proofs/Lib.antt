@@ -1,2 +1,3 @@
 pub mod Peeled
 pub mod Forms
+pub mod Parts

@@ -1,37 +1,26 @@
 -- `faults::nodes_fault` meets its contract: node after node passes, up to the first that does not.
 -- Assumes nothing.
-use mathlib.Core.Path.{◌≡◌, sym, ap, ◌∙◌}
-use Prim.Native.Nat.{ℕ, suc, ◌+◌, ◌-◌}
+use mathlib.Core.Path.{sym, ap, ◌∙◌}
 use native.Mathlib.Omega.{arith}
-use Rattle.meaning.specs.Writing.{node_at, node_fits, nodes_fit}
-use Rattle.lists.specs.Handed.{nodes_to}
-use Rattle.faults.specs.Faulty.{told}
+use Rattle.std.proofs.lemmas.Result.{err_from_is_err_and}
+use Rattle.meaning.specs.Writing.{nodes_fit}
+use Rattle.lists.proofs.Forms.{nodes_whole}
 use Rattle.faults.proofs.Faults.{nodes-none, nodes-stop, nodes-next}
 use Rattle.faults.proofs.nodes_fault.Goals as goal
 
-pub loop-k-init : goal.loop-k-init
-loop-k-init c =
-    let a = c.args in
-    let e : 0 ≡ a.first - a.first = omega arith in
-    (omega arith, omega arith, ap (λ (z : ℕ). nodes_fit z (nodes_to a.list.now a.first a.end)) e)
+pub loop-i-init : goal.loop-i-init
+loop-i-init c =
+    ap (nodes_fit 0) (sym (nodes_whole c.args.list.now))
 
-pub returns-then-number-ne0 : goal.returns-then-number-ne0
-returns-then-number-ne0 c =
-    let found : told c.node_fault-number.result ≡ node_fits (c.loop-k.k - c.args.first) (node_at c.args.list.now c.loop-k.k) =
-    c.node_fault-number.ensures _ (sym c.depth.ensures) (sym c.role.ensures) in
-    nodes-stop _ _ _ _ _ c.loop-k-test.true found c.if-number-ne0.true ∙ sym c.loop-k.invariant.2
+pub returns-in_err-node_fault : goal.returns-in_err-node_fault
+returns-in_err-node_fault c =
+    let p = err_from_is_err_and c.from_residual.result c.from_residual.ensures.1 in
+    rw (p.1, p.2) (nodes-stop _ _ _ _ (omega arith) c.in_err-node_fault.ensures ∙ sym c.loop-i.invariant)
 
-pub loop-k-preserved : goal.loop-k-preserved
-loop-k-preserved c =
-    let found : told c.node_fault-number.result ≡ node_fits (c.loop-k.k - c.args.first) (node_at c.args.list.now c.loop-k.k) =
-    c.node_fault-number.ensures _ (sym c.depth.ensures) (sym c.role.ensures) in
-    let a = c.args in
-    let k = c.loop-k.k in
-    let w = c.loop-k.invariant in
-    let e : suc (k - a.first) ≡ k + 1 - a.first = omega (arith, w.0) in
-    let next = nodes-next a.list.now (k - a.first) k a.end _ c.loop-k-test.true found c.if-number-ne0.false in
-    (omega arith, omega arith, w.2 ∙ next ∙ ap (λ (z : ℕ). nodes_fit z (nodes_to a.list.now (k + 1) a.end)) e)
+pub loop-i-preserved : goal.loop-i-preserved
+loop-i-preserved c =
+    c.loop-i.invariant ∙ nodes-next _ _ _ (omega arith) c.in_ok-node_fault.ensures
 
 pub returns : goal.returns
 returns c =
-    nodes-none _ _ _ _ c.loop-k-test.false ∙ sym c.loop-k.invariant.2
+    nodes-none _ _ _ (omega arith) ∙ sym c.loop-i.invariant

@@ -4,8 +4,9 @@ use mathlib.Core.Path.{refl, sym, ap, ◌∙◌}
 use native.Mathlib.Omega.{arith}
 use lib.Seq.{sets}
 use Rattle.meaning.specs.Lists.{Limit, threshold}
+use Rattle.meaning.specs.Writing.{limit_fits}
 use Rattle.meaning.specs.Message.{threshold_bytes}
-use Rattle.limits.proofs.Limits.{limit-own, one-own}
+use Rattle.lists.proofs.Parts.{limit-own, one-own}
 use Rattle.limits.proofs.Putting.{put-none, put-length}
 use Rattle.limits.proofs.Runs.{after_next, after-room, after_none, each-here, each_next, limits-more, limits-all}
 use Rattle.limits.proofs.put_limits.Goals as goal
@@ -25,8 +26,10 @@ part-requires c =
 pub put_limit-p-requires : goal.put_limit-p-requires
 put_limit-p-requires c =
     let n = c.inners-n.ensures in
+    let here = each-here _ _ _ _ _ c.loop-e-test.true c.loop-e.invariant.each in
+    let own = limit-own c.args.of.now.limits c.args.of.now.inner _ c.loop-e.e c.loop-e.k _ c.part.ensures.nodes c.part.ensures.len n in
     record {
-      one = one-own _ _ _ _ _ _ c.part.ensures.nodes c.part.ensures.len n (each-here _ _ _ _ _ c.loop-e-test.true c.loop-e.invariant.each);
+      one = (one-own _ _ _ _ _ _ c.part.ensures.nodes c.part.ensures.len n here.0, ap (limit_fits c.loop-e.e) own ∙ here.1);
       in_bounds = (omega arith, omega (arith, after-room c.args.of.now.limits c.loop-e.e c.loop-e.k c.args.end c.loop-e-test.true));
     }
 
