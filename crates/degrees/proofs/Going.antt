@@ -1,6 +1,6 @@
 -- The kept children of a node but the heaviest, folded in one after the other.
 -- Assumes nothing.
-use mathlib.Core.Path.{◌≡◌, refl, sym, ap, ◌∙◌}
+use mathlib.Core.Path.{◌≡◌, refl, sym, ◌∙◌}
 use mathlib.Core.Bool.{Bool, true, false, ◌||◌}
 use mathlib.Core.Logic.{◌⊎◌, inl, inr}
 use mathlib.Core.List.{List}
@@ -17,7 +17,7 @@ use Rattle.meaning.specs.Tree.{Concept, children}
 use Rattle.meaning.specs.InPlace.{scale_in}
 use Rattle.meaning.proofs.Tests.{true-false}
 use Rattle.graph.specs.Judged.{Judged}
-use Rattle.degrees.specs.Gradable.{Gradable, Member, Items}
+use Rattle.degrees.specs.Gradable.{Gradable, Member}
 use Rattle.degrees.specs.Room.{Lent}
 use Rattle.degrees.specs.Notes.{flag}
 use Rattle.heaviest.specs.Heavy.{Stands}
@@ -30,10 +30,9 @@ use Rattle.degrees.proofs.Noted.{Entered, entered-start, entered-pass, entered-c
 use Rattle.degrees.proofs.Reaching.{graph, rows, done-for, reach-best, reach-one}
 
 module _ (s : List ℕ) (items : ℕ) (index names roles ends marks : List ℕ) (node left : ℕ) (set : List ℕ) (heavy at first : ℕ) (notes₀ numbers₀ : List ℕ) where
-  -- the children from row c on are left, but for the heaviest; the last of all ends at row e
-  pub record Going (e : ℕ) (notes numbers : List ℕ) (n product c : ℕ) : Type 0 where
+  -- the children from row c on are left, but for the heaviest
+  pub record Going (notes numbers : List ℕ) (n product c : ℕ) : Type 0 where
     pub headed : Headed s items index names roles ends marks node left set heavy at first notes₀ numbers₀
-    pub ended : e ≡ get_or ends node 0
     pub some : 1 ≤ n
     pub rest : Rest names roles ends marks (graph headed.asked) headed.asked.tree (left - 1) (get_or ends node 0) heavy c n product (row_at numbers at) (Member set)
     pub entered : Entered names roles ends marks headed.asked.posed.graph.register (Member set) (children headed.asked.tree) (left - 1) (node + 1)
@@ -42,14 +41,13 @@ module _ (s : List ℕ) (items : ℕ) (index names roles ends marks : List ℕ) 
     pub long : length notes ≡ length notes₀
     pub size : length numbers ≡ length numbers₀
 
-  pub going_start : Headed s items index names roles ends marks node left set heavy at first notes₀ numbers₀ → (e n : ℕ) → e ≡ get_or ends node 0
-      → n ≡ many (get_or names node 0) → Going e notes₀ numbers₀ (n + 1) first (node + 1)
-  going_start h e n ee en = let k = h.asked in record {
+  pub going_start : Headed s items index names roles ends marks node left set heavy at first notes₀ numbers₀
+      → Going notes₀ numbers₀ (many (get_or names node 0) + 1) first (node + 1)
+  going_start h = let k = h.asked in record {
     headed = h;
-    ended = ee;
     some = omega arith;
     rest = (head names roles ends marks (graph k) left (get_or ends node 0) node heavy h.tree (Member set) k.tree k.posed.held k.marked h.stands h.kept
-        ).then (n + 1) first (row_at numbers₀ at) (ap (λ (z : ℕ). z + 1) en) h.scaled h.summed;
+        ).then (many (get_or names node 0) + 1) first (row_at numbers₀ at) refl h.scaled h.summed;
     entered = entered-start names roles ends marks k.posed.graph.register (Member set) (children k.tree) (left - 1) (node + 1) (get_or ends node 0) (rows k)
         heavy h.tree h.stands notes₀ h.noted (λ j l p q w. h.clear j l (omega arith) q w);
     kept = λ i l. refl;
@@ -57,8 +55,8 @@ module _ (s : List ℕ) (items : ℕ) (index names roles ends marks : List ℕ) 
     size = refl;
   }
 
-module _ {s : List ℕ} {items : ℕ} {index names roles ends marks : List ℕ} {node left : ℕ} {set : List ℕ} {heavy at first : ℕ} {notes₀ numbers₀ : List ℕ} {e : ℕ}
-    {notes numbers : List ℕ} {n product c : ℕ} (w : Going s items index names roles ends marks node left set heavy at first notes₀ numbers₀ e notes numbers n product c) where
+module _ {s : List ℕ} {items : ℕ} {index names roles ends marks : List ℕ} {node left : ℕ} {set : List ℕ} {heavy at first : ℕ} {notes₀ numbers₀ : List ℕ}
+    {notes numbers : List ℕ} {n product c : ℕ} (w : Going s items index names roles ends marks node left set heavy at first notes₀ numbers₀ notes numbers n product c) where
   abbrev h : Headed s items index names roles ends marks node left set heavy at first notes₀ numbers₀
   h = w.headed
 
@@ -66,21 +64,12 @@ module _ {s : List ℕ} {items : ℕ} {index names roles ends marks : List ℕ} 
   k = w.headed.asked
 
   abbrev Next : List ℕ → List ℕ → ℕ → ℕ → ℕ → Type 0
-  Next = Going s items index names roles ends marks node left set heavy at first notes₀ numbers₀ e
+  Next = Going s items index names roles ends marks node left set heavy at first notes₀ numbers₀
 
   pub inside : c < get_or ends node 0 → (c < get_or ends c 0) × (get_or ends c 0 ≤ get_or ends node 0)
   inside l = rest-next w.rest l
 
-  module _ (l : c < e) where
-    below : c < get_or ends node 0
-    below = omega (arith, w.ended)
-
-    pub going-low : c < 64
-    going-low = omega (arith, below, k.posed.few)
-
-    pub going_less : (j : ℕ) → j ≡ get_or ends c 0 → e - j < e - c
-    going_less j ej = omega (arith, (inside below).0)
-
+  module _ (below : c < get_or ends node 0) where
     pub going-pass : (j : ℕ) → j ≡ get_or ends c 0 → (b : Bool) → b ≡ (eqb (get_or marks c 0) 0 || eqb c heavy) → b ≡ true → Next notes numbers n product j
     going-pass j ej b eb t = go (eqb (get_or marks c 0) 0) refl (sym eb ∙ t)
       where
@@ -89,7 +78,6 @@ module _ {s : List ℕ} {items : ℕ} {index names roles ends marks : List ℕ} 
             → Next notes numbers n product j
         over o r = record {
           headed = h;
-          ended = w.ended;
           some = w.some;
           rest = rest_at ej r;
           entered = entered-pass _ _ _ _ _ _ _ _ _ _ _ _ _ _ _ w.entered below j ej o;
@@ -108,12 +96,12 @@ module _ {s : List ℕ} {items : ℕ} {index names roles ends marks : List ℕ} 
     pub kept : get_or marks c 0 ≡ 0 → ⊥
     pub other : c ≡ heavy → ⊥
 
-  pub at-hand : c < e → (b : Bool) → b ≡ (eqb (get_or marks c 0) 0 || eqb c heavy) → b ≡ false → Hand
+  pub at-hand : c < get_or ends node 0 → (b : Bool) → b ≡ (eqb (get_or marks c 0) 0 || eqb c heavy) → b ≡ false → Hand
   at-hand l b eb f = go (eqb (get_or marks c 0) 0) refl (sym eb ∙ f)
     where
       go : (d : Bool) → eqb (get_or marks c 0) 0 ≡ d → (d || eqb c heavy) ≡ false → Hand
       go true ed z = absurd (true-false refl z)
-      go false ed z = record { below = below l; kept = eqb-false (get_or marks c 0) 0 ed; other = eqb-false c heavy z }
+      go false ed z = record { below = l; kept = eqb-false (get_or marks c 0) 0 ed; other = eqb-false c heavy z }
 
   module _ (o : Hand) where
     abbrev child : Child names roles ends marks (graph k) k.tree (left - 1) (get_or ends node 0) heavy c n product (row_at numbers at) (Member set)
@@ -183,7 +171,7 @@ module _ {s : List ℕ} {items : ℕ} {index names roles ends marks : List ℕ} 
       same_sum : (x : ℕ) → Member set x → sum_with (graph k) ys role from at scale product x
           ≡ row_at numbers at x * scale_in child.tree + given roles (graph k) c child.tree x * product
       same_sum x m =
-          let stays : row_at ys at x ≡ row_at numbers at x = d.kept (at + x) (let q = h.members.1 x m in let r = k.posed.graph.most in omega arith) in
+          let stays : row_at ys at x ≡ row_at numbers at x = d.kept (at + x) (let q = h.members x m in let r = k.posed.graph.most in omega arith) in
           rw (stays, d.worked.scaled, reach-best child-asked set role (at + 512) from scale notes mid numbers ys er d x m)
 
       -- the child's numbers stand before the sums or behind them
@@ -194,27 +182,23 @@ module _ {s : List ℕ} {items : ℕ} {index names roles ends marks : List ℕ} 
           go (inl e) = (omega arith, inl (omega (arith, room-low h.room)))
           go (inr e) = (omega arith, inr (omega arith))
 
-      pub child-folding : length ys ≡ length numbers → Folding s items index set mid ys role c from at scale product × Items items set
-      child-folding es = (
-        record {
-          graph = k.posed.graph;
-          fits = λ x m. let q = child.sum_fits x m in let r = k.small in rw (same_sum x m) (omega arith);
-          clear = λ i. d.outside c i (inl (omega arith)) ∙ empty c i (omega arith) (inside o.below).0;
-          inside = let l = o.below in let q = k.posed.few in omega arith;
-          short = omega (arith, w.size, h.room.size_is);
-          from-fits = omega (arith, beside.0, w.size, h.room.size_is, child-two);
-          to-fits = omega (arith, w.size, h.room.size_is, child-two);
-          apart = beside.1;
-        },
-        h.members,
-      )
+      pub child-folding : length ys ≡ length numbers → Folding s items index set mid ys role c from at scale product
+      child-folding es = record {
+        graph = k.posed.graph;
+        fits = λ x m. let q = child.sum_fits x m in let r = k.small in rw (same_sum x m) (omega arith);
+        clear = λ i. d.outside c i (inl (omega arith)) ∙ empty c i (omega arith) (inside o.below).0;
+        inside = let l = o.below in let q = k.posed.few in omega arith;
+        short = omega (arith, w.size, h.room.size_is);
+        from-fits = omega (arith, beside.0, w.size, h.room.size_is, child-two);
+        to-fits = omega (arith, w.size, h.room.size_is, child-two);
+        apart = beside.1;
+      }
 
       pub child-next : (j : ℕ) → j ≡ get_or ends c 0 → (new zs : List ℕ) → length mid ≡ length notes → length ys ≡ length numbers → length new ≡ length mid
           → length zs ≡ length ys → ((g : Judged s items index) → Folded g.register set mid new ys zs role c from at scale product) → Next new zs (n + 1) (product * scale) j
       child-next j ej new zs sm sy sn sz done =
           let f = done k.posed.graph in record {
             headed = h;
-            ended = w.ended;
             some = omega arith;
             rest = rest_at ej (rw d.worked.scaled (child.then (row_at zs at) (λ x m. f.sums x m ∙ same_sum x m)));
             entered = entered-next _ _ _ _ _ _ _ _ _ _ _ _ _ _ _ w.entered o.below o.other j ej child.tree child.held mid new sm sn d.outside f.outside
@@ -225,10 +209,7 @@ module _ {s : List ℕ} {items : ℕ} {index names roles ends marks : List ℕ} 
           }
 
   -- no child is left
-  module _ (l : e ≤ c) where
-    behind : get_or ends node 0 ≤ c
-    behind = omega (arith, w.ended)
-
+  module _ (behind : get_or ends node 0 ≤ c) where
     pub going-fits : n * product ≤ most_scale
     going-fits = le_trans (whole-fits w.rest behind) k.small
 

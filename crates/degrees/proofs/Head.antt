@@ -19,10 +19,11 @@ use Rattle.meaning.specs.Degree.{or_one, best}
 use Rattle.meaning.specs.InPlace.{count_in, scale_in, scale_in_f, degree_in, degree_in_f}
 use Rattle.meaning.specs.Bytes.{Bytes}
 use Rattle.meaning.specs.Rows.{Holds, HoldsF, Marked, MarkedF}
-use Rattle.register.specs.Image.{Asked, Image}
 use Rattle.graph.specs.Judged.{Judged}
-use Rattle.graph.proofs.Use.{next-inside}
-use Rattle.degrees.specs.Gradable.{Gradable, Member, Items}
+use Rattle.graph.proofs.Use.{next-inside, one-register}
+use Rattle.std.specs.Prelude.{Some, None}
+use Rattle.std.proofs.lemmas.Option.{none-some}
+use Rattle.degrees.specs.Gradable.{Gradable, Member}
 use Rattle.degrees.specs.Room.{Ones, Lent}
 use Rattle.degrees.specs.Notes.{Outside}
 use Rattle.heaviest.specs.Heavy.{Stands, Heavy}
@@ -33,12 +34,12 @@ use Rattle.heaviest.proofs.Stands.{Place}
 use Rattle.degrees.proofs.But.{mark-zero}
 use Rattle.degrees.proofs.Folding.{Head, head, given}
 use Rattle.degrees.proofs.Noted.{outside-then, noted-node}
-use Rattle.degrees.proofs.Reaching.{graph, rows, items-named, done-for, reach-best, reach-one}
+use Rattle.degrees.proofs.Reaching.{graph, rows, done-for, reach-best, reach-one}
 
 module _ {s : List ℕ} {items : ℕ} {index names roles ends marks : List ℕ} {node left : ℕ} (k : Gradable (Judged s items index) names roles ends marks node left) where
   -- ---- no child is kept
 
-  module _ (h : Heavy ends marks k.tree node (get_or ends node 0)) where
+  module _ (h : Heavy ends marks k.tree node None) where
     -- nothing is counted
     bare : (f b : Forest ℕ) (i : ℕ) → MarkedF ends marks f b i → ((c : ℕ) (u : Concept) → Stands ends f i c u → get_or marks c 0 ≡ 0)
         → (count_in f b ≡ 0) × (scale_in_f f b ≡ 1) × ((x : ℕ) → degree_in_f (graph k) f b x ≡ 0)
@@ -60,12 +61,12 @@ module _ {s : List ℕ} {items : ℕ} {index names roles ends marks : List ℕ} 
         rw (same, q.0, q.1, z) (omega arith, λ x. rw (q.2 x) (ap (or_one (many a)) (omega arith)))
 
     pub alone-done : (X : ℕ → Type 0) (at from scale : ℕ) (notes numbers out : List ℕ) → scale ≡ max 1 (many (get_or names node 0))
-        → Image s (λ g. (x : ℕ) → X x → row_at out from x ≡ or_one (many (get_or names node 0)) (common (get_or names node 0) ((walked g).names x)))
+        → ((g : Judged s items index) (x : ℕ) → X x → row_at out from x ≡ or_one (many (get_or names node 0)) (common (get_or names node 0) ((walked g.register).names x)))
         → Kept at numbers out → (j : Gradable (Judged s items index) names roles ends marks node left) → Done j X at from scale notes notes numbers out
     alone-done X at from scale notes numbers out es eo kept =
         let q = alone-is k.tree k.posed.held k.marked (h.none refl) in
         done-for k (record {
-          worked = record { scaled = es ∙ q.0; each = λ x m. eo k.posed.graph.register k.posed.graph.read x m ∙ q.1 x };
+          worked = record { scaled = es ∙ q.0; each = λ x m. eo k.posed.graph x m ∙ q.1 x };
           noted = noted-node names roles ends marks k.posed.graph.register X notes k.tree left node (get_or ends node 0) k.posed.held
               (λ c u s m. absurd (m (h.none refl c u s)));
           outside = λ j l o. refl;
@@ -84,31 +85,30 @@ module _ {s : List ℕ} {items : ℕ} {index names roles ends marks : List ℕ} 
       → (j : Gradable (Judged s items index) names roles ends marks node left) → Done j (Below (graph j) set (get_or roles node 0)) at 0 1 notes notes numbers numbers
   empty-done b set at notes numbers bare' ee ones j =
       let en : many (get_or names node 0) ≡ 0 = ap many bare' ∙ ones-ones 0 in
-      let heavy : Heavy ends marks k.tree node (get_or ends node 0) = record {
+      let heavy : Heavy ends marks k.tree node None = record {
         none = λ e c u q. absurd (childless (children k.tree) (node + 1) (get_or ends node 0) c u (rows k) (omega arith) q);
-        some = λ d. absurd (d refl);
-        most = λ d. absurd (d refl);
+        some = λ c d. absurd (none-some c d);
+        most = λ c d. absurd (none-some c d);
       } in
       alone-done heavy (Below (graph j) set (get_or roles node 0)) at 0 1 notes numbers numbers (rw en refl)
-      (λ g h x m. let few : x < 512 = omega (arith, next-inside j.posed.graph b m.0 (get_or roles node 0) x m.2, j.posed.graph.most) in
+      (λ g x m. let few : x < 512 = omega (arith, next-inside j.posed.graph b m.0 (get_or roles node 0) x m.2, j.posed.graph.most) in
       ap (λ (z : ℕ). get_or numbers z 0) (zero-add x) ∙ ones x few ∙ rw en refl) (λ i l. refl) j
 
   -- ---- the heaviest child, where one is kept
 
   module _ {set notes numbers : List ℕ} {at : ℕ} (lent : Lent items set notes numbers ends node at) where
-    pub record First (heavy : ℕ) : Type 0 where
-      pub heaviest : Heavy ends marks k.tree node heavy
-      pub some : heavy ≡ get_or ends node 0 → ⊥
+    module _ {heavy : ℕ} (f : Heavy ends marks k.tree node (Some heavy)) where
+      abbrev chosen : (get_or marks heavy 0 ≡ 0 → ⊥) × ((u : Concept) × Stands ends (children k.tree) (node + 1) heavy u)
+      chosen = f.some heavy refl
 
-    module _ {heavy : ℕ} (f : First heavy) where
       abbrev pub child : Concept
-      child = (f.heaviest.some f.some).1.0
+      child = chosen.1.0
 
       pub stands : Stands ends (children k.tree) (node + 1) heavy child
-      stands = (f.heaviest.some f.some).1.1
+      stands = chosen.1.1
 
       pub top : Head names roles ends marks (graph k) left (get_or ends node 0) node heavy child (λ x. ⊥) k.tree
-      top = head names roles ends marks (graph k) left (get_or ends node 0) node heavy child (λ x. ⊥) k.tree k.posed.held k.marked stands (f.heaviest.some f.some).0
+      top = head names roles ends marks (graph k) left (get_or ends node 0) node heavy child (λ x. ⊥) k.tree k.posed.held k.marked stands chosen.0
 
       pub place : Place names roles ends (left - 1) (node + 1) (get_or ends node 0) heavy child
       place = top.place
@@ -158,20 +158,17 @@ module _ {s : List ℕ} {items : ℕ} {index names roles ends marks : List ℕ} 
         fits : (x : ℕ) → shared x * scale + given roles (graph k) heavy child x * 1 < 4294967296
         fits x = let q = top.sum_fits x in let l = k.small in rw d.worked.scaled (omega arith)
 
-        pub first-folding : Folding s items index set mid ys role heavy from (at + 512) 0 1 × Items items set
-        first-folding = (
-          record {
-            graph = k.posed.graph;
-            fits = λ x m. let q = fits x in rw (reach-part x m) (omega arith);
-            clear = λ l. d.outside heavy l (inl (omega arith)) ∙ lent.clear heavy l (omega (arith, place.behind)) (omega (arith, place.inside, place.within));
-            inside = first-low;
-            short = omega (arith, lent.room.size_is);
-            from-fits = omega (arith, low, first_two, lent.room.size_is);
-            to-fits = omega (arith, first_two, lent.room.size_is);
-            apart = inl (omega (arith, low));
-          },
-          lent.members,
-        )
+        pub first-folding : Folding s items index set mid ys role heavy from (at + 512) 0 1
+        first-folding = record {
+          graph = k.posed.graph;
+          fits = λ x m. let q = fits x in rw (reach-part x m) (omega arith);
+          clear = λ l. d.outside heavy l (inl (omega arith)) ∙ lent.clear heavy l (omega (arith, place.behind)) (omega (arith, place.inside, place.within));
+          inside = first-low;
+          short = omega (arith, lent.room.size_is);
+          from-fits = omega (arith, low, first_two, lent.room.size_is);
+          to-fits = omega (arith, first_two, lent.room.size_is);
+          apart = inl (omega (arith, low));
+        }
 
         -- its part stands in the next row, and it is noted
         module _ (new zs : List ℕ) (folded : (g : Judged s items index) → Folded g.register set mid new ys zs role heavy from (at + 512) 0 1)
@@ -186,20 +183,19 @@ module _ {s : List ℕ} {items : ℕ} {index names roles ends marks : List ℕ} 
           change = outside-then (heavy + 1) (get_or ends heavy 0) heavy (heavy + 1) heavy (get_or ends heavy 0) notes mid new
               (omega arith) (omega arith) (omega arith) (omega (arith, place.inside)) d.outside part.outside
 
-          pub first-own : Asked s (λ g. Items (length g.names) set
-              × ((x : ℕ) → Member set x → common (get_or names node 0) ((walked g).names x) * scale + row_at zs (at + 512) x < 4294967296)) × (at + 512 + 512 ≤ length zs)
-          first-own = (
-            record {
-              register = k.posed.graph.register;
-              read = k.posed.graph.read;
-              holds = (items-named k set lent.members, λ x m. let q = fits x in rw (part-is x m) (omega arith));
-            },
-            omega (arith, first_two, lent.room.size_is),
-          )
+          pub first-own : (g : Judged s items index) (x : ℕ) → Member set x
+              → common (get_or names node 0) ((walked g.register).names x) * scale + row_at zs (at + 512) x < 4294967296
+          first-own g x m =
+              let same = one-register g k.posed.graph.register k.posed.graph.read in
+              rw (same, part-is x m) (let q = fits x in omega arith)
+
+          pub first-rows : at + 512 + 512 ≤ length zs
+          first-rows = omega (arith, first_two, lent.room.size_is)
 
           -- so it is at the head of the others
           pub first-headed : (out : List ℕ) → length out ≡ length zs → Kept at zs out
-              → Image s (λ g. (x : ℕ) → Member set x → row_at out at x ≡ common (get_or names node 0) ((walked g).names x) * scale + row_at zs (at + 512) x)
+              → ((g : Judged s items index) (x : ℕ) → Member set x
+              → row_at out at x ≡ common (get_or names node 0) ((walked g.register).names x) * scale + row_at zs (at + 512) x)
               → Headed s items index names roles ends marks node left set heavy at scale new out
           first-headed out so kept sum = record {
             asked = k;
@@ -208,10 +204,10 @@ module _ {s : List ℕ} {items : ℕ} {index names roles ends marks : List ℕ} 
             ones = λ x l. let m = room-low lent.room in kept x (omega arith) ∙ part.kept x (omega arith) ∙ d.kept x (omega arith) ∙ lent.ones x l;
             tree = child;
             stands = stands;
-            kept = (f.heaviest.some f.some).0;
-            most = f.heaviest.most f.some;
+            kept = chosen.0;
+            most = f.most heavy refl;
             scaled = d.worked.scaled;
-            summed = λ x m. sum k.posed.graph.register k.posed.graph.read x m ∙ ap (λ (z : ℕ). shared x * scale + z) (part-is x m);
+            summed = λ x m. sum k.posed.graph x m ∙ ap (λ (z : ℕ). shared x * scale + z) (part-is x m);
             noted = λ x m. reach-one first-asked set role at from scale notes mid numbers ys er d x m new sn part.outside (part.noted x m);
             clear = λ j l p q w. change j l w ∙ lent.clear j l (omega arith) q;
           }

@@ -15,12 +15,13 @@ use Rattle.meaning.specs.InPlace.{degree_in}
 use Rattle.meaning.specs.Shown.{pick}
 use Rattle.meaning.specs.Rows.{HoldsF}
 use Rattle.meaning.proofs.Rows.{opened, holds-one}
-use Rattle.register.specs.Image.{Asked}
+use Rattle.rows.specs.Rising.{Rising}
+use Rattle.rows.proofs.Rising.{rising}
 use Rattle.graph.specs.Judged.{Judged}
 use Rattle.graph.specs.Sets.{Spread}
 use Rattle.graph.proofs.Use.{one-register}
 use Rattle.meaning.proofs.Same.{best-same, pick_same}
-use Rattle.degrees.specs.Gradable.{Gradable, Member, Items}
+use Rattle.degrees.specs.Gradable.{Gradable, Member}
 use Rattle.degrees.specs.Room.{Lent}
 use Rattle.degrees.specs.Notes.{Note, Noted, Outside}
 use Rattle.heaviest.specs.Heavy.{Written}
@@ -45,15 +46,13 @@ module _ {s : List ℕ} {items : ℕ} {index names roles ends marks : List ℕ} 
   pub rows : HoldsF names roles ends (children k.tree) (left - 1) (node + 1) (get_or ends node 0)
   rows = below names roles ends k.tree left node (get_or ends node 0) k.posed.held
 
-  pub items-named : (set : List ℕ) → Items items set → Items (length k.posed.graph.register.names) set
-  items-named set w = (w.0, λ x m. omega (arith, w.1 x m, k.posed.graph.items-are))
+  -- its children may be gone over
+  pub rises : Rising ends (node + 1) (get_or ends node 0)
+  rises = rising names roles ends (children k.tree) (left - 1) (node + 1) (get_or ends node 0) rows k.posed.few
 
   -- enough is lent for a node alone
-  pub lent-here : {set notes numbers : List ℕ} {at : ℕ} → Lent items set notes numbers ends node at → Asked s (λ g. Items (length g.names) set) × (at + 512 ≤ length numbers)
-  lent-here {set} w = (
-    record { register = k.posed.graph.register; read = k.posed.graph.read; holds = items-named set w.members },
-    room-one w.room (omega (arith, here.2)),
-  )
+  pub lent-here : {set notes numbers : List ℕ} {at : ℕ} → Lent items set notes numbers ends node at → at + 512 ≤ length numbers
+  lent-here w = room-one w.room (omega (arith, here.2))
 
   -- what is done is so for all that is asked there
   pub done-for : {X : ℕ → Type 0} {at from scale : ℕ} {notes mid numbers ys : List ℕ} → Done k X at from scale notes mid numbers ys

@@ -5,8 +5,11 @@ use Rattle.meaning.specs.Bounds.{most_scale}
 use Rattle.meaning.specs.Tree.{Concept}
 use Rattle.meaning.specs.InPlace.{scale_in}
 use Rattle.meaning.specs.Rows.{Marked}
+use Rattle.graph.specs.declared.Indexed.{Indexed}
+use Rattle.graph.specs.On.{JudgedOn}
 use Rattle.graph.specs.Posed.{Posed}
-pub use Rattle.folds.specs.Members.{Member, Items}
+use Rattle.rows.specs.declared.Reduced.{Reduced}
+pub use Rattle.folds.specs.Members.{Member}
 
 -- the register is known as R says, and the tree at a row has at most `left` levels
 pub record Gradable (R : Type 0) (names roles ends marks : List ℕ) (node left : ℕ) : Type 0 where
@@ -14,3 +17,7 @@ pub record Gradable (R : Type 0) (names roles ends marks : List ℕ) (node left 
   pub posed : Posed R names roles ends tree node left
   pub marked : Marked ends marks tree node
   pub small : scale_in tree ≤ most_scale
+
+-- the same of a tree in code, put to a register with its index
+abbrev pub GradableOn : Indexed → Reduced → ℕ → ℕ → Type 0
+GradableOn on of node left = Gradable (JudgedOn on) of.tree.names of.tree.roles of.tree.ends of.marks node left

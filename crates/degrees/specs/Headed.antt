@@ -11,7 +11,10 @@ use Rattle.meaning.specs.InPlace.{scale_in, degree_in}
 use Rattle.meaning.specs.Shown.{pick}
 use Rattle.heaviest.specs.Heavy.{Stands, Most}
 use Rattle.graph.specs.Judged.{Judged}
-use Rattle.degrees.specs.Gradable.{Gradable, Member, Items}
+use Rattle.graph.specs.Sets.{Among}
+use Rattle.graph.specs.declared.Indexed.{Indexed}
+use Rattle.rows.specs.declared.Reduced.{Reduced}
+use Rattle.degrees.specs.Gradable.{Gradable, Member}
 use Rattle.degrees.specs.Room.{Room, Ones}
 use Rattle.degrees.specs.Notes.{flag, Note, Noted}
 
@@ -24,7 +27,7 @@ One roles ends marks g X notes c u =
 -- of the tree at a row the child at row h is folded in and noted, for each member of a set, and no other is; from `at` on there is room for them
 pub record Headed (s : List ℕ) (items : ℕ) (index names roles ends marks : List ℕ) (node left : ℕ) (set : List ℕ) (h at scale : ℕ) (notes numbers : List ℕ) : Type 0 where
   pub asked : Gradable (Judged s items index) names roles ends marks node left
-  pub members : Items items set
+  pub members : Among items set
   pub room : Room (length numbers) at (get_or ends node 0 - node)
   pub ones : Ones numbers
   pub tree : Concept
@@ -37,3 +40,6 @@ pub record Headed (s : List ℕ) (items : ℕ) (index names roles ends marks : L
       + best (λ y. degree_in (walked asked.posed.graph.register) tree y) ((walked asked.posed.graph.register).next x (get_or roles h 0))
   pub noted : One roles ends marks asked.posed.graph.register (Member set) notes h tree
   pub clear : (j l : ℕ) → node < j → j < get_or ends node 0 → (j < h) ⊎ (get_or ends h 0 ≤ j) → flag notes j l ≡ false
+
+abbrev pub HeadedOn : Indexed → Reduced → ℕ → ℕ → List ℕ → ℕ → ℕ → ℕ → List ℕ → List ℕ → Type 0
+HeadedOn on of = Headed on.image.now on.items on.index of.tree.names of.tree.roles of.tree.ends of.marks

@@ -1,7 +1,7 @@
 -- Room for numbers: a row of 512 ones, and behind it six rows of which some are in use.
 -- Assumes nothing.
 use Rattle.std.specs.Prelude.{◌≡◌, List, ℕ, zero, suc, ◌+◌, ◌-◌, ◌*◌, ◌≤◌, ◌<◌, length, get_or}
-use Rattle.folds.specs.Members.{Items}
+use Rattle.graph.specs.Sets.{Among}
 use Rattle.folds.specs.Notes.{Clear}
 
 unfoldable pub doubled : ℕ → ℕ
@@ -22,7 +22,7 @@ Ones numbers = (x : ℕ) → x < 512 → get_or numbers x 0 ≡ 1
 
 -- what is lent for the tree at a row: a set of items, notes that say nothing yet of the rows below it, and room for its numbers from `at` on
 pub record Lent (items : ℕ) (set notes numbers ends : List ℕ) (node at : ℕ) : Type 0 where
-  pub members : Items items set
+  pub members : Among items set
   pub clear : Clear notes (node + 1) (get_or ends node 0)
   pub room : Room (length numbers) at (get_or ends node 0 - node)
   pub ones : Ones numbers

@@ -1,4 +1,6 @@
-use Prim.Native.Nat.{◌+◌, ◌-◌, ◌*◌}
+use Prim.Native.Nat.{◌+◌, ◌*◌}
+use lib.ListN.{get_or}
+use Rattle.rows.proofs.Going.{Going as Over}
 use Rattle.degrees.proofs.Going.{Going}
 use Rattle.degrees.proofs.+others_reach_work.Given as goal
 
@@ -14,10 +16,10 @@ abbrev pub decreases-others : goal.decreases-others
 decreases-others l =
     3 * l.left + 1
 
-abbrev pub invariant-others-loop-c : goal.invariant-others-loop-c
-invariant-others-loop-c l =
-    Going l.s l.items l.index l.names l.roles l.ends l.marks l.node l.left l.set l.heavy l.at l.first l.initial.notes l.initial.numbers l.e l.notes l.numbers l.n l.product l.c
-
-abbrev pub decreases-others-loop-c : goal.decreases-others-loop-c
-decreases-others-loop-c l =
-    l.e - l.c
+abbrev pub invariant-others-loop-child : goal.invariant-others-loop-child
+invariant-others-loop-child l =
+    record {
+      over : Over l.of.tree.ends (get_or l.of.tree.ends l.node 0) l.child-iterator;
+      going : Going l.on.image.now l.on.items l.on.index l.of.tree.names l.of.tree.roles l.of.tree.ends l.of.marks l.node l.left l.set.words l.heavy l.at l.first
+          l.initial.notes l.initial.numbers l.notes l.numbers l.n l.product l.child-iterator.at;
+    }

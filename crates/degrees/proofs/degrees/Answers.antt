@@ -4,22 +4,11 @@ use Rattle.degrees.proofs.Room.{room-start, ones_low}
 use Rattle.folds.proofs.Noting.{clear_none}
 use Rattle.degrees.proofs.degrees.Goals as goal
 
-pub ones-requires : goal.ones-requires
-ones-requires c =
-    omega (arith, c.requires.items.1)
-
-pub work-requires : goal.work-requires
-work-requires c =
+pub work-requires-clause-lent : goal.work-requires-clause-lent
+work-requires-clause-lent c =
     record {
-      gradable = c.requires.gradable;
-      lent = record {
-        members = c.requires.items.0;
-        clear = clear_none _ _;
-        room = room-start _ _ (c.ones.auto.numbers ∙ c.requires.items.1) (omega (arith, c.requires.gradable.posed.few));
-        ones = ones_low c.ones.new.numbers c.ones.ensures.by_index;
-      };
+      members = c.requires.items.0;
+      clear = clear_none _ _;
+      room = room-start _ _ (c.ones.auto.numbers ∙ c.requires.items.1) (omega (arith, c.requires.gradable.posed.few));
+      ones = ones_low c.ones.new.numbers c.ones.ensures.by_index;
     }
-
-pub returns : goal.returns
-returns c =
-    λ k. (c.work.ensures k).worked
