@@ -89,6 +89,7 @@ pub fn put(s: &mut [u8], at: usize, width: usize, n: usize)
 }
 
 // Reads the head of a whole input, or in a session of what a buffer begins with: where what it heads ends.
+// Kept: `session` is a flag, since the promises speak of it (`ReadPromise`, and `RegisterPromise` of the call from C, whose argument it is).
 pub fn read_head(s: &[u8], session: bool) -> Result<usize, Fault>
     ensures result_value { (side : Side) → paper_on side result ≡ read_head side (wrong_in session) s.now }
     ensures ends_within { EndsWithin (length s.now) result }

@@ -34,6 +34,7 @@ pub fn common_divisor(p: usize, q: usize) -> usize
 {
     let mut a = p;
     let mut b = q;
+    // Kept: a while. Euclid's turns go over nothing: the loop ends where the second number is 0.
     while 0 < b {
         let rest = a % b;
         a = b;
