@@ -5,12 +5,13 @@ use mathlib.Core.List.{List}
 use Prim.Native.Nat.{ℕ}
 use Rattle.meaning.specs.Message.{read_requirement, inner_part}
 use Rattle.fields.proofs.Once.{itself, once}
+use Rattle.std.specs.Prelude.{Option}
 use Rattle.parts.specs.declared.Place.{Place}
 use Rattle.parts.specs.Inner.{inner_place}
 
 -- `find_inner`: place and length
-pub one_place : (s : List ℕ) (k : ℕ) (p q : Place) → p ≡ inner_place k (read_requirement s) → q ≡ inner_place k (read_requirement s) → p ≡ q
-one_place s k = once (λ (x : Place). x) itself (inner_place k (read_requirement s))
+pub one_place : (s : List ℕ) (k : ℕ) (p q : Option Place) → p ≡ inner_place k (read_requirement s) → q ≡ inner_place k (read_requirement s) → p ≡ q
+one_place s k = once (λ (x : Option Place). x) itself (inner_place k (read_requirement s))
 
 -- `inner_part`: the bytes
 pub one-part : (s : List ℕ) (k : ℕ) (p q : List ℕ) → p ≡ inner_part s k → q ≡ inner_part s k → p ≡ q

@@ -9,14 +9,13 @@ use native.Mathlib.Omega.{arith}
 use lib.ListN.{length, get_or, take, drop}
 use Rattle.meaning.specs.declared.Refusal.{Refusal}
 use Rattle.meaning.specs.Refusal.{Answer, good, refused}
-use Rattle.meaning.specs.Tree.{nodes}
 use Rattle.meaning.specs.Bytes.{number, Bytes}
 use Rattle.meaning.specs.Requirement.{Threshold, Requirement}
 use Rattle.meaning.specs.Message.{Part, read_requirement, kth, part_of, inner_part, thresholds_of}
 use Rattle.meaning.proofs.MessageLabel.{PartAt}
 use Rattle.meaning.proofs.Message.{Accepted, read_back, parts-stand, parts-inside}
 use Rattle.requirement.specs.declared.Message.{Message}
-use Rattle.requirement.specs.declared.Message.TheVariants.{Good as GoodMessage, Refused as RefusedMessage}
+use Rattle.std.specs.Prelude.{Option, Some, None, Result, Ok, Err}
 use Rattle.rows.specs.Packed.{firsts_in}
 use Rattle.readers.specs.Reading.{PartsHeld, no_part}
 use Rattle.requirement.specs.Message.{MessageOutcome, MessageDone}
@@ -24,13 +23,13 @@ use Rattle.parts.specs.declared.Place.{Place}
 use Rattle.parts.specs.Inner.{place_among, inner_place}
 
 -- the k-th part by number
-pub place_at : (k : ℕ) (ps : List Part) → k < length ps → place_among k ps ≡ record { start = (get_or ps k no_part).first + 7; len = (get_or ps k no_part).len }
+pub place_at : (k : ℕ) (ps : List Part) → k < length ps → place_among k ps ≡ Some (record { start = (get_or ps k no_part).first + 7; len = (get_or ps k no_part).len })
 unfolding place_among
 place_at k [] l = absurd (omega arith)
 place_at zero (x ∷ ps) l = refl
 place_at (suc k) (x ∷ ps) l = place_at k ps (omega arith)
 
-pub place_none : (k : ℕ) (ps : List Part) → length ps ≤ k → place_among k ps ≡ record { start = 0; len = 0 }
+pub place_none : (k : ℕ) (ps : List Part) → length ps ≤ k → place_among k ps ≡ None
 unfolding place_among
 place_none k [] l = refl
 place_none zero (x ∷ ps) l = absurd (omega arith)
@@ -60,17 +59,21 @@ module _ (s : List ℕ) where
     part-inside = (parts-inside s x a (member-at k x.1 l)).0
 
   -- the bytes there are the k-th inner concept's
-  kth-place : (k : ℕ) (ps : List Part) → take (place_among k ps).len (drop (place_among k ps).start s) ≡ kth s ps k
+  abbrev pub bytes_of : Option Place → List ℕ
+  bytes_of (Some p) = take p.len (drop p.start s)
+  bytes_of None = []
+
+  kth-place : (k : ℕ) (ps : List Part) → bytes_of (place_among k ps) ≡ kth s ps k
   unfolding place_among kth
   kth-place k [] = refl
   kth-place zero (x ∷ ps) = refl
   kth-place (suc k) (x ∷ ps) = kth-place k ps
 
-  pub inner-bytes : (k : ℕ) → take (inner_place k (read_requirement s)).len (drop (inner_place k (read_requirement s)).start s) ≡ inner_part s k
+  pub inner-bytes : (k : ℕ) → bytes_of (inner_place k (read_requirement s)) ≡ inner_part s k
   unfolding inner_part
   inner-bytes k = go (read_requirement s)
     where
-      go : (r : Answer (Requirement × List Part)) → take (inner_place k r).len (drop (inner_place k r).start s) ≡ part_of s k r
+      go : (r : Answer (Requirement × List Part)) → bytes_of (inner_place k r) ≡ part_of s k r
       go (good x) = kth-place k x.1
       go (refused f) = refl
 
@@ -83,43 +86,39 @@ pub record Found (s : List ℕ) (B : List ℕ) (parts : ℕ) : Type 0 where
   pub few : parts ≤ 16
   pub held : PartsHeld B what.1
 
-pub found : (s : List ℕ) (B : List ℕ) (r : Message) (n parts : ℕ) → MessageDone s B r → r ≡ GoodMessage n parts → Found s B parts
-found s B r n parts h e = go (read_requirement s) refl h
+abbrev counted : Result Message Refusal → ℕ
+counted (Ok m) = m.parts
+counted (Err e) = 0
+
+pub found : (s : List ℕ) (B : List ℕ) (m : Message) → MessageDone s B (Ok m) → Found s B m.parts
+found s B m h = go (read_requirement s) refl h
   where
-    go : (a : Answer (Requirement × List Part)) → read_requirement s ≡ a → MessageOutcome B a r → Found s B parts
-    go (good x) d m =
-        let z : GoodMessage (nodes x.0) (length x.1) ≡ GoodMessage n parts = sym m.answer ∙ e in
-        let y : length x.1 ≡ parts = cc in
-        record { what = x; read = d; many = y; few = omega (arith, m.room); held = m.parted }
-    go (refused f) d m = let z : RefusedMessage f ≡ GoodMessage n parts = sym m ∙ e in let y : ◌≡◌ {A = ℕ} 0 1 = cc in absurd (omega arith)
+    go : (a : Answer (Requirement × List Part)) → read_requirement s ≡ a → MessageOutcome B a (Ok m) → Found s B m.parts
+    go (good x) d g =
+        let y : length x.1 ≡ m.parts = sym (ap counted g.answer) in
+        record { what = x; read = d; many = y; few = omega (arith, g.room); held = g.parted }
+    go (refused f) d g = let y : ◌≡◌ {A = ℕ} 0 1 = cc in absurd (omega arith)
 
-abbrev Right : List ℕ → ℕ → Place → Type 0
-Right s k p = (p ≡ inner_place k (read_requirement s)) × (p.start + p.len ≤ length s)
+pub found_none : (s : List ℕ) (B : List ℕ) (parts : ℕ) → Found s B parts → (k : ℕ) → parts ≤ k → None ≡ inner_place k (read_requirement s)
+found_none s B parts f k l = sym (ap (inner_place k) f.read ∙ place_none k f.what.1 (omega (arith, f.many)))
 
-pub found_none : (s : List ℕ) (B : List ℕ) (parts : ℕ) → Found s B parts → (k : ℕ) → parts ≤ k → Right s k (record { start = 0; len = 0 })
-found_none s B parts f k l =
-    (sym (ap (inner_place k) f.read ∙ place_none k f.what.1 (omega (arith, f.many))), omega arith)
-
-pub found-refused : (s : List ℕ) (B : List ℕ) (r : Message) (k : ℕ) {e : Refusal} → MessageDone s B r → r ≡ RefusedMessage e → Right s k (record { start = 0; len = 0 })
-found-refused s B r k {e} h q = go (read_requirement s) refl h
-  where
-    go : (a : Answer (Requirement × List Part)) → read_requirement s ≡ a → MessageOutcome B a r → Right s k (record { start = 0; len = 0 })
-    go (good x) d m = let z : GoodMessage (nodes x.0) (length x.1) ≡ RefusedMessage e = sym m.answer ∙ q in let y : ◌≡◌ {A = ℕ} 0 1 = cc in absurd (omega arith)
-    go (refused f) d m = (sym (ap (inner_place k) d), omega arith)
-
-module _ (s : List ℕ) (b : Bytes s) (B : List ℕ) (parts : ℕ) (f : Found s B parts) (k : ℕ) (l : k < parts) (first : ℕ) (is : first ≡ get_or (firsts_in B) k 0) where
+module _ (s : List ℕ) (b : Bytes s) (B : List ℕ) (parts : ℕ) (f : Found s B parts) (k : ℕ) (l : k < parts)
+    (firsts : List ℕ) (held : firsts ≡ firsts_in B) (first : ℕ) (is : first ≡ get_or firsts k 0) where
   here : k < length f.what.1
   here = omega (arith, f.many)
 
   same : first ≡ (get_or f.what.1 k no_part).first
-  same = is ∙ f.held.first k here
+  same = is ∙ ap (λ (a : List ℕ). get_or a k 0) held ∙ f.held.first k here
 
   pub found-room : first + 7 ≤ length s
   found-room = omega (arith, part-inside s f.what b f.read k here, same)
 
-  pub found-place : (len : ℕ) → len ≡ number s (first + 5) 2 → Right s k (record { start = first + 7; len = len })
-  found-place len e =
-      let z : len ≡ (get_or f.what.1 k no_part).len = e ∙ ap (λ (p : ℕ). number s (p + 5) 2) same ∙ sym (part_length s f.what b f.read k here) in (
-        (λ i. record { start = same i + 7; len = z i }) ∙ sym (ap (inner_place k) f.read ∙ place_at k f.what.1 here),
-        omega (arith, part-inside s f.what b f.read k here, same),
-      )
+  module _ (len : ℕ) (e : len ≡ number s (first + 5) 2) where
+    long : len ≡ (get_or f.what.1 k no_part).len
+    long = e ∙ ap (λ (p : ℕ). number s (p + 5) 2) same ∙ sym (part_length s f.what b f.read k here)
+
+    pub found-place : Some (record { start = first + 7; len = len }) ≡ inner_place k (read_requirement s)
+    found-place = (λ i. Some (record { start = same i + 7; len = long i })) ∙ sym (ap (inner_place k) f.read ∙ place_at k f.what.1 here)
+
+    pub found-inside : first + 7 + len ≤ length s
+    found-inside = omega (arith, part-inside s f.what b f.read k here, same, long)
