@@ -1,65 +1,49 @@
 -- The calls of a history one by one, as the program comes to them.
 -- Assumes nothing.
-use mathlib.Core.Path.{◌≡◌, refl, sym, ap, ◌∙◌, subst}
-use mathlib.Core.List.{List, [], ◌∷◌}
-use Prim.Native.Nat.{ℕ, suc, ◌+◌, ◌≤◌, ◌<◌}
+use mathlib.Core.Path.{◌≡◌, refl, sym, ap, ◌∙◌}
+use mathlib.Core.List.{List, [], ◌∷◌, map}
+use Prim.Native.Nat.{ℕ, suc, ◌+◌, ◌/◌, ◌<◌}
 use native.Mathlib.Omega.{arith}
-use lib.ListN.{length, get_or, drop, length-drop}
-use lib.Seq.{drop-cons}
+use Rattle.std.proofs.Common.{add-one}
+use lib.ListN.{length, get_or, drop}
+use lib.Seq.{drop-cons, drop-length}
+use Rattle.std.specs.Simd.{first_chunks}
 use Rattle.meaning.specs.Session.{Call, Session, play}
-use Rattle.session.specs.declared.Counted.{Counted}
-use Rattle.numbered.specs.Played.{Lent, lent, Called, steps}
+use Rattle.session.specs.Calls.{Counted}
+use Rattle.numbered.specs.Played.{Lent, Called, steps}
 use Rattle.numbered.proofs.Played.{one-call}
-use Rattle.history.specs.Histories.{call_of, calls_of}
+use Rattle.history.specs.Histories.{call_in, calls_of}
 
-pub called : {s t : Lent} {r : Counted} {c d : Call} → d ≡ c → Called s c r t → Called s d r t
-called {s} {t} {r} e h = subst (λ (z : Call). Called s z r t) (sym e) h
+-- ---- the calls of a history are those of its bytes, four and four
 
--- ---- four bytes more
-
-next-four : (h : List ℕ) (i : ℕ) → i + 4 ≤ length h
-    → drop i h ≡ get_or h i 0 ∷ get_or h (i + 1) 0 ∷ get_or h (i + 2) 0 ∷ get_or h (i + 3) 0 ∷ drop (i + 4) h
-next-four h i l =
-    at i (i + 1) (omega arith) (omega arith)
-    ∙ ap (λ (z : List ℕ). get_or h i 0 ∷ z) (at (i + 1) (i + 2) (omega arith) (omega arith))
-    ∙ ap (λ (z : List ℕ). get_or h i 0 ∷ get_or h (i + 1) 0 ∷ z) (at (i + 2) (i + 3) (omega arith) (omega arith))
-    ∙ ap (λ (z : List ℕ). get_or h i 0 ∷ get_or h (i + 1) 0 ∷ get_or h (i + 2) 0 ∷ z) (at (i + 3) (i + 4) (omega arith) (omega arith))
-  where
-    at : (j k : ℕ) → j < length h → suc j ≡ k → drop j h ≡ get_or h j 0 ∷ drop k h
-    at j k m e = drop-cons h j 0 m ∙ ap (λ (n : ℕ). get_or h j 0 ∷ drop n h) e
-
-pub next-call : (h : List ℕ) (i : ℕ) → i + 4 ≤ length h
-    → calls_of (drop i h) ≡ call_of (get_or h i 0) (get_or h (i + 1) 0) (get_or h (i + 2) 0) (get_or h (i + 3) 0) ∷ calls_of (drop (i + 4) h)
+pub in-fours : (h : List ℕ) → map call_in (first_chunks 4 (length h / 4) h) ≡ calls_of h
 unfolding calls_of
-next-call h i l = ap calls_of (next-four h i l)
-
-no_call : (l : List ℕ) → length l < 4 → calls_of l ≡ []
-unfolding calls_of
-no_call [] h = refl
-no_call (k ∷ []) h = refl
-no_call (k ∷ a ∷ []) h = refl
-no_call (k ∷ a ∷ b ∷ []) h = refl
-no_call (k ∷ a ∷ b ∷ c ∷ l) h = absurd (omega arith)
+in-fours [] = refl
+in-fours (k ∷ []) = refl
+in-fours (k ∷ a ∷ []) = refl
+in-fours (k ∷ a ∷ b ∷ []) = refl
+in-fours (k ∷ a ∷ b ∷ c ∷ rest) =
+    let n : length (k ∷ a ∷ b ∷ c ∷ rest) / 4 ≡ suc (length rest / 4) = omega arith in
+    ap (λ (m : ℕ). map call_in (first_chunks 4 m (k ∷ a ∷ b ∷ c ∷ rest))) n ∙ ap (λ (z : List Call). call_in (k ∷ a ∷ b ∷ c ∷ []) ∷ z) (in-fours rest)
 
 -- ---- what is still to be played
 
-abbrev pub Playing : List ℕ → Lent → ℕ → Lent → Type 0
-Playing h start i now = play (steps now) (calls_of (drop i h)) ≡ play (steps start) (calls_of h)
+abbrev pub Playing : List (List ℕ) → Lent → ℕ → Lent → Type 0
+Playing rows start i now = play (steps now) (map call_in (drop i rows)) ≡ play (steps start) (map call_in rows)
 
-same-call : (k : ℕ) {a b c x y z : ℕ} → a ≡ x → b ≡ y → c ≡ z → call_of k x y z ≡ call_of k a b c
-same-call k {a} {b} {c} {x} {y} e f g =
-    sym (ap (λ (n : ℕ). call_of k n b c) e ∙ ap (λ (n : ℕ). call_of k x n c) f ∙ ap (λ (n : ℕ). call_of k x y n) g)
-
--- one more call, of the next four bytes
-pub played-on : (h : List ℕ) (start now : Lent) (i : ℕ) (r : Counted) (a b c : ℕ) (s l : List ℕ) (n m : ℕ) → i + 4 ≤ length h → Playing h start i now
-    → a ≡ get_or h (i + 1) 0 → b ≡ get_or h (i + 2) 0 → c ≡ get_or h (i + 3) 0 → m ≡ n
-    → Called now (call_of (get_or h i 0) a b c) r (lent s l n) → Playing h start (i + 4) (lent s l m)
+-- one more call
+pub played-on : (rows : List (List ℕ)) (start now : Lent) (i : ℕ) (r : Counted) (then : Lent) → i < length rows → Playing rows start i now
+    → Called now (call_in (get_or rows i [])) r then → Playing rows start (i + 1) then
 unfolding play
-played-on h start now i r a b c s l n m few p ea eb ec en done =
-    let k = called (same-call (get_or h i 0) ea eb ec) done in
-    subst (λ (z : ℕ). Playing h start (i + 4) (lent s l z)) (sym en)
-    (ap (λ (z : Session). play z (calls_of (drop (i + 4) h))) (one-call now _ r (lent s l n) k).1 ∙ sym (ap (play (steps now)) (next-call h i few)) ∙ p)
+played-on rows start now i r then few p done =
+    let next : drop i rows ≡ get_or rows i [] ∷ drop (i + 1) rows = drop-cons rows i [] few ∙ ap (λ (k : ℕ). get_or rows i [] ∷ drop k rows) (sym (add-one i)) in
+    ap (λ (z : Session). play z (map call_in (drop (i + 1) rows))) (one-call now _ r then done).1
+    ∙ sym (ap (λ (z : List (List ℕ)). play (steps now) (map call_in z)) next) ∙ p
 
-pub played-out : (h : List ℕ) (start now : Lent) (i : ℕ) → length h < i + 4 → Playing h start i now → steps now ≡ play (steps start) (calls_of h)
+pub played-out : (h : List ℕ) (rows : List (List ℕ)) (start now : Lent) (i : ℕ) → rows ≡ first_chunks 4 (length h / 4) h → length rows ≡ i → Playing rows start i now
+    → steps now ≡ play (steps start) (calls_of h)
 unfolding play
-played-out h start now i l p = sym (ap (play (steps now)) (no_call (drop i h) (omega (arith, length-drop i h)))) ∙ p
+played-out h rows start now i fours all p =
+    let none : drop i rows ≡ [] = ap (λ (k : ℕ). drop k rows) (sym all) ∙ drop-length rows in
+    sym (ap (λ (z : List (List ℕ)). play (steps now) (map call_in z)) none) ∙ p
+    ∙ ap (λ (z : List Call). play (steps start) z) (ap (map call_in) fours ∙ in-fours h)

@@ -1,6 +1,6 @@
 -- The history that the program is handed, as calls: four bytes for each call, its kind as a letter, then a, b and c.
 -- Assumes nothing.
-use Rattle.std.specs.Prelude.{true, false, cond, List, [], ◌∷◌, ℕ, eqb}
+use Rattle.std.specs.Prelude.{true, false, cond, List, [], ◌∷◌, ℕ, eqb, get_or}
 use Rattle.meaning.specs.declared.Fact.TheVariants.{Name as name_on, Link as link_of}
 use Rattle.meaning.specs.Session.{Call, opens, edits, undoes, keeps}
 use Rattle.session.specs.Calls.{an_edit}
@@ -13,6 +13,10 @@ call_of kind a b c =
     (cond (eqb kind 78) (edits (an_edit (name_on a b) false))
     (cond (eqb kind 108) (edits (an_edit (link_of a b c) true))
     (cond (eqb kind 76) (edits (an_edit (link_of a b c) false)) (cond (eqb kind 117) undoes keeps)))))
+
+-- in its four bytes
+abbrev pub call_in : List ℕ → Call
+call_in bytes = call_of (get_or bytes 0 0) (get_or bytes 1 0) (get_or bytes 2 0) (get_or bytes 3 0)
 
 -- bytes at the end that make no call are passed over
 unfoldable pub calls_of : List ℕ → List Call

@@ -3,68 +3,49 @@
 // away and undoes that, keeps, takes a name away, undoes that, and asks for one undo too many.
 #![tactic(auto)]
 
-use meaning::{Fact, Step};
+use meaning::{Fact, Refusal, Step};
 use recorded::held;
-use session::Counted;
-use std::io;
+use std::{fmt, io};
 
-fn text(rt: &impl Print, t: &str) -> io::Result<()> {
-    print!(rt; "{t}")
-}
+// A step as it is printed.
+#[derive(Drop)]
+struct Shown(Step);
 
-fn number(rt: &impl Print, n: usize) -> io::Result<()> {
-    print!(rt; " {n}")
-}
-
-// Prints what a call hands back, and gives the count to hand over next.
-fn told(rt: &impl Print, name: &str, answer: Counted, count: usize) -> io::Result<usize> {
-    text(rt, name)?;
-    match answer {
-        Counted::Good { count: next } => {
-            number(rt, next)?;
-            text(rt, "\n")?;
-            Ok(next)
+impl fmt::Display for Shown {
+    fn fmt<W: fmt::Write>(&self, f: &mut fmt::Formatter<W>) -> fmt::Result {
+        let Step { fact, was } = self.0;
+        match fact {
+            Fact::Name { item, name } => write!(f, "name {item} {name}")?,
+            Fact::Link { from, role, to } => write!(f, "link {from} {role} {to}")?,
         }
-        Counted::Refused { refusal } => {
-            text(rt, " refused")?;
-            number(rt, refusal.number)?;
-            text(rt, "\n")?;
-            Ok(count)
-        }
+        write!(f, "{}", if was { " was there" } else { " was not there" })
     }
-}
-
-fn show(rt: &impl Print, step: Step) -> io::Result<()> {
-    let fact = step.fact;
-    match fact {
-        Fact::Name { item, name } => {
-            text(rt, "name")?;
-            number(rt, item)?;
-            number(rt, name)?;
-        }
-        Fact::Link { from, role, to } => {
-            text(rt, "link")?;
-            number(rt, from)?;
-            number(rt, role)?;
-            number(rt, to)?;
-        }
-    }
-    if step.was {
-        text(rt, " was there\n")
-    } else {
-        text(rt, " was not there\n")
-    }
-}
-
-fn byte(rt: &impl Print, b: u8) -> io::Result<()> {
-    print!(rt; "{b:02x}")
 }
 
 fn show_bytes(rt: &impl Print, s: &[u8]) -> io::Result<()> {
     for b in s {
-        byte(rt, *b)?;
+        print!(rt; "{b:02x}")?;
     }
-    text(rt, "\n")
+    println!(rt)
+}
+
+// Prints what a call hands back, and gives the count to hand over next.
+fn told(
+    rt: &impl Print,
+    name: &str,
+    answer: Result<usize, Refusal>,
+    count: usize,
+) -> io::Result<usize> {
+    match answer {
+        Ok(next) => {
+            println!(rt; "{name} {next}")?;
+            Ok(next)
+        }
+        Err(refusal) => {
+            println!(rt; "{name} refused {}", refusal.number)?;
+            Ok(count)
+        }
+    }
 }
 
 // The log, and the count of steps in use.
@@ -74,40 +55,38 @@ struct Steps {
     count: usize,
 }
 
-fn edit(rt: &impl Print, s: &mut [u8], steps: Steps, fact: Fact, adds: bool) -> io::Result<Steps> {
-    let before = steps.log;
-    let done = held::edit(s, before, steps.count, fact, adds);
-    let answer = done.answer;
-    let count = told(rt, "edit", answer, steps.count)?;
-    let log = done.log;
-    Ok(Steps { log, count })
-}
+impl Steps {
+    fn open(rt: &impl Print, s: &mut [u8]) -> io::Result<Steps> {
+        let none = Step {
+            fact: Fact::Name { item: 0, name: 0 },
+            was: false,
+        };
+        let count = told(rt, "open", session::open(s), 0)?;
+        Ok(Steps {
+            log: [none; 64],
+            count,
+        })
+    }
 
-fn undo(rt: &impl Print, s: &mut [u8], steps: Steps) -> io::Result<Steps> {
-    let log = steps.log;
-    let answer = held::undo(s, log, steps.count);
-    let count = told(rt, "undo", answer, steps.count)?;
-    Ok(Steps { log, count })
-}
+    fn edit(&mut self, rt: &impl Print, s: &mut [u8], fact: Fact, adds: bool) -> io::Result<()> {
+        let done = held::edit(s, self.log, self.count, fact, adds);
+        let log = done.log;
+        self.log = log;
+        self.count = told(rt, "edit", done.answer, self.count)?;
+        Ok(())
+    }
 
-fn keep(rt: &impl Print, s: &[u8], steps: Steps) -> io::Result<Steps> {
-    let log = steps.log;
-    let answer = held::keep(s, log, steps.count);
-    let count = told(rt, "keep", answer, steps.count)?;
-    Ok(Steps { log, count })
-}
+    fn undo(&mut self, rt: &impl Print, s: &mut [u8]) -> io::Result<()> {
+        let answer = held::undo(s, self.log, self.count);
+        self.count = told(rt, "undo", answer, self.count)?;
+        Ok(())
+    }
 
-fn open(rt: &impl Print, s: &mut [u8]) -> io::Result<Steps> {
-    let none = Step {
-        fact: Fact::Name { item: 0, name: 0 },
-        was: false,
-    };
-    let answer = session::open(s);
-    let count = told(rt, "open", answer, 0)?;
-    Ok(Steps {
-        log: [none; 64],
-        count,
-    })
+    fn keep(&mut self, rt: &impl Print, s: &[u8]) -> io::Result<()> {
+        let answer = held::keep(s, self.log, self.count);
+        self.count = told(rt, "keep", answer, self.count)?;
+        Ok(())
+    }
 }
 
 fn link(from: usize, role: usize, to: usize) -> Fact {
@@ -119,21 +98,20 @@ fn main(rt: HostRuntime) -> io::Result<()> {
         1, 0, 38, 0, 3, 0, 0, 0, 0, 0, 0, 0, 10, 0, 0, 0, 0, 0, 0, 0, 2, 0, 0, 0, 0, 0, 0, 0, 4, 0,
         2, 0, 0, 0, 0, 1, 0, 0, 1, 0, 2, 9, 9, 9, 9, 9, 9, 9u8,
     ];
-    let opened = open(&rt, &mut s)?;
-    let named = edit(&rt, &mut s, opened, Fact::Name { item: 0, name: 5 }, true)?;
-    let stands = edit(&rt, &mut s, named, link(0, 0, 1), true)?;
-    let back = undo(&rt, &mut s, stands)?;
-    let away = edit(&rt, &mut s, back, link(0, 1, 2), false)?;
+    let mut steps = Steps::open(&rt, &mut s)?;
+    steps.edit(&rt, &mut s, Fact::Name { item: 0, name: 5 }, true)?;
+    steps.edit(&rt, &mut s, link(0, 0, 1), true)?;
+    steps.undo(&rt, &mut s)?;
+    steps.edit(&rt, &mut s, link(0, 1, 2), false)?;
     show_bytes(&rt, &s)?;
-    let there = undo(&rt, &mut s, away)?;
-    let kept = keep(&rt, &s, there)?;
-    let last = edit(&rt, &mut s, kept, Fact::Name { item: 0, name: 3 }, false)?;
+    steps.undo(&rt, &mut s)?;
+    steps.keep(&rt, &s)?;
+    steps.edit(&rt, &mut s, Fact::Name { item: 0, name: 3 }, false)?;
     show_bytes(&rt, &s)?;
-    let log = last.log;
-    show(&rt, log[0])?;
-    show(&rt, log[1])?;
-    show(&rt, log[2])?;
-    let none = undo(&rt, &mut s, last)?;
-    let _same = undo(&rt, &mut s, none)?;
+    for step in &steps.log[..3] {
+        println!(rt; "{}", Shown(*step))?;
+    }
+    steps.undo(&rt, &mut s)?;
+    steps.undo(&rt, &mut s)?;
     show_bytes(&rt, &s)
 }
