@@ -54,14 +54,6 @@ module _ (s : List ℕ) (items : ℕ) where
           earlier j i d (yes p) = absurd (q (sym d ∙ ap (λ (z : ℕ). start_no g z) p ∙ sym (from g h)))
           earlier j i d (no p) = (w.1 g h x m).all j (omega (arith, p)) d
 
-  -- two links more
-  pub noted-two : (k at then : ℕ) (index : List ℕ) → Image s (λ g. at ≡ start_no g k) → Image s (λ g. then ≡ start_no g (k + 1)) → at + 1 < length index
-      → then + 1 < length index → Noted s items k index → Noted s items (k + 2) (set (set index (at + 1) (k + 1)) (then + 1) (k + 2))
-  noted-two k at then index from next l m w =
-      let two : k + 1 + 1 ≡ k + 2 = omega arith in
-      let r = noted_more (k + 1) then (set index (at + 1) (k + 1)) next (omega (arith, m, length-set index (at + 1) (k + 1))) (noted_more k at index from l w) in
-      subst (λ (z : ℕ). Noted s items z (set (set index (at + 1) (k + 1)) (then + 1) z)) two r
-
 -- ---- each place at least what stands before it
 
 pub risen-none : (old : List ℕ) → Risen 0 old old
@@ -128,9 +120,6 @@ module _ (s : List ℕ) (b : Bytes s) (g : Register) (h : read_buffer s ≡ good
       let p = next k (get_or index k 0) (get_or ends (k + 1) 0) (begins-all items ends index w r k (omega arith)) (w.1 g h k (omega arith)) in
       let q : k + 1 ≡ suc k = omega arith in
       subst (λ (y : ℕ). Begins g.links y (get_or index y 0)) q (subst (λ (y : ℕ). Begins g.links (k + 1) y) (sym (r.done k (omega arith))) p)
-
-pub risen-all : (n items : ℕ) (old new : List ℕ) → Risen n old new → n ≡ items → Risen items old new
-risen-all n items old new w e = subst (λ (z : ℕ). Risen z old new) e w
 
 -- ---- the last place, which is no item's
 

@@ -243,11 +243,3 @@ pub found_word : (set : List ℕ) (w n : ℕ) → n ≡ get_or set w 0 → n < w
 found_word set w n e f l d =
     let z : w * 64 + 0 ≡ w * 64 = omega arith in
     subst (λ (y : ℕ). Found set y (Some (y + count_trailing_zeros 64 n))) z (found_left set w 0 n (omega arith) (e ∙ omega arith) (omega arith) l d)
-
-pub none-word : (set : List ℕ) (a w : ℕ) → ((x : ℕ) → a ≤ x → x < w * 64 → in_set set x ≡ false) → get_or set w 0 ≡ 0
-    → (x : ℕ) → a ≤ x → x < (w + 1) * 64 → in_set set x ≡ false
-none-word set a w h d x l m = go (dec_lt x (w * 64))
-  where
-    go : Dec (x < w * 64) → in_set set x ≡ false
-    go (yes p) = h x l p
-    go (no p) = none_left set w 0 (get_or set w 0) (omega arith) (omega arith) d x (omega (arith, p)) m

@@ -75,36 +75,12 @@ pub fn all_serve(index: &[u16]) -> bool
     index[INDEX - 1] == 0
 }
 
-// Behind the place of each item that links lead from: where its last one ends. Two links in a turn, read a turn before they are noted (so that the
-// compiler reads an item in one load).
+// Behind the place of each item that links lead from: where its last one ends.
 fn note_ends(read: &Reading, index: &mut [u16; INDEX])
     requires { (k : ℕ) → get_or index.old k 0 ≡ 0 }
     ensures { Noted read.now.bytes.now read.now.items read.now.links index.new }
 {
-    if read.links < 4 {
-        note_rest(read, 0, index);
-        return;
-    }
-    let stop = read.links - 3;
-    let mut k = 0;
-    let mut from = read.from_of(0);
-    let mut next = read.from_of(1);
-    while k < stop {
-        index[from + 1] = (k + 1) as u16;
-        k += 2;
-        index[next + 1] = k as u16;
-        from = read.from_of(k);
-        next = read.from_of(k + 1);
-    }
-    note_rest(read, k, index);
-}
-
-// The same for the links from `first` on, once those before it are noted.
-fn note_rest(read: &Reading, first: usize, index: &mut [u16; INDEX])
-    requires { (first ≤ read.now.links) × Noted read.now.bytes.now read.now.items first index.old }
-    ensures { Noted read.now.bytes.now read.now.items read.now.links index.new }
-{
-    for k in first..read.links {
+    for k in 0..read.links {
         index[read.from_of(k) + 1] = (k + 1) as u16;
     }
 }
