@@ -1,10 +1,10 @@
 -- What a call knows once it has read a register and a plain requirement, or once one of them was refused.
 -- Assumes nothing.
-use mathlib.Core.Path.{◌≡◌, refl, sym, ap, ◌∙◌}
+use mathlib.Core.Path.{◌≡◌, refl, sym, ap}
 use mathlib.Core.List.{List}
 use Prim.Native.Nat.{ℕ}
 use native.Mathlib.Omega.{arith}
-use lib.ListN.{length, get_or}
+use lib.ListN.{get_or}
 use Rattle.meaning.specs.declared.Refusal.{Refusal}
 use Rattle.meaning.specs.Refusal.{Answer, good, refused, ◌>>=◌}
 use Rattle.meaning.specs.Bytes.{Bytes}
@@ -13,8 +13,8 @@ use Rattle.meaning.specs.Register.{Register, read_register}
 use Rattle.meaning.specs.Calls.{read_plain}
 use Rattle.meaning.proofs.Rows.{holds-nodes}
 use Rattle.plain.specs.declared.Both.{Both}
-use Rattle.plain.specs.declared.Both.TheVariants.{Good as GoodBoth, Refused as RefusedBoth}
-use Rattle.plain.specs.Reading.{Rows, read_both, BothGood, BothOutcome, BothDone}
+use Rattle.std.specs.Prelude.{Ok, Err}
+use Rattle.plain.specs.Reading.{read_both, BothGood, BothOutcome, BothDone}
 
 abbrev both_of : Register → Concept → Answer (Register × Concept)
 both_of g t = good (g, t)
@@ -30,44 +30,31 @@ both_first next image message = go (read_register image) (read_plain message)
     go (good g) (refused f) = refl
     go (refused f) b = refl
 
-module _ (image message : List ℕ) (A : Rows) (b : Both) (done : BothDone image message A b) where
-  -- ---- refused by a reader
+-- refused by a reader
+pub both-no : (image message : List ℕ) (f : Refusal) → BothDone image message (Err f) → read_both image message ≡ refused f
+both-no image message f done = go (read_both image message) done
+  where
+    go : (a : Answer (Register × Concept)) → BothOutcome image a (Err f) → a ≡ refused f
+    go (good x) o = absurd o
+    go (refused q) o = ap refused (sym o)
 
-  pub both-no : (f : Refusal) → b ≡ RefusedBoth f → read_both image message ≡ refused f
-  both-no f e = go (read_both image message) done
-    where
-      go : (a : Answer (Register × Concept)) → BothOutcome image A a b → a ≡ refused f
-      go (good x) o =
-          let z : GoodBoth (length x.0.names) (length x.0.links) (nodes x.1) ≡ RefusedBoth f = sym o.answer ∙ e in
-          let y : ◌≡◌ {A = ℕ} 0 1 = cc in absurd (omega arith)
-      go (refused q) o = let z : RefusedBoth q ≡ RefusedBoth f = sym o ∙ e in let y : q ≡ f = cc in ap refused y
+-- both were read
+pub record Known (image message : List ℕ) (b : Both) : Type 0 where
+  pub register : Register
+  pub tree : Concept
+  pub both : read_both image message ≡ good (register, tree)
+  pub held : BothGood image register tree b
+  pub bytes : Bytes image
 
-  -- ---- both were read
-
-  module _ (n m k : ℕ) (e : b ≡ GoodBoth n m k) where
-    pub record Known : Type 0 where
-      pub register : Register
-      pub tree : Concept
-      pub both : read_both image message ≡ good (register, tree)
-      pub held : BothGood image A register tree b
-      pub items : n ≡ length register.names
-      pub links : m ≡ length register.links
-      pub written : k ≡ nodes tree
-      pub bytes : Bytes image
-
-    pub known : Bytes image → Known
-    known by = go (read_both image message) refl done
-      where
-        go : (a : Answer (Register × Concept)) → read_both image message ≡ a → BothOutcome image A a b → Known
-        go (good x) d o =
-            let z : GoodBoth (length x.0.names) (length x.0.links) (nodes x.1) ≡ GoodBoth n m k = sym o.answer ∙ e in
-            let i : n ≡ length x.0.names = cc in
-            let l : m ≡ length x.0.links = cc in
-            let w : k ≡ nodes x.1 = cc in
-            record { register = x.0; tree = x.1; both = d; held = o; items = i; links = l; written = w; bytes = by }
-        go (refused q) d o = let z : RefusedBoth q ≡ GoodBoth n m k = sym o ∙ e in let y : ◌≡◌ {A = ℕ} 0 1 = cc in absurd (omega arith)
+pub known : {image message : List ℕ} {b : Both} → BothDone image message (Ok b) → Bytes image → Known image message b
+known {image} {message} {b} done by = go (read_both image message) refl done
+  where
+    go : (a : Answer (Register × Concept)) → read_both image message ≡ a → BothOutcome image a (Ok b) → Known image message b
+    go (good x) d o = record { register = x.0; tree = x.1; both = d; held = o; bytes = by }
+    go (refused q) d o = absurd o
 
 -- the rows end where the written nodes do
-pub ended : {image message : List ℕ} {A : Rows} {b : Both} {done : BothDone image message A b} {n m k : ℕ} {e : b ≡ GoodBoth n m k}
-    (w : Known image message A b done n m k e) → get_or A.ends 0 0 ≡ nodes w.tree
-ended {A} w = omega (arith, holds-nodes A.names A.roles A.ends w.tree 17 0 _ w.held.held.posed.held)
+pub ended : {image message : List ℕ} {b : Both} (w : Known image message b) → get_or b.plain.reduced.tree.ends 0 0 ≡ nodes w.tree
+ended {b} w =
+    let t = b.plain.reduced.tree in
+    omega (arith, holds-nodes t.names t.roles t.ends w.tree 17 0 _ w.held.held.posed.held)

@@ -1,8 +1,8 @@
 -- What reading leaves: a plain requirement in rows that are marked by the drop rule, and the register it is asked of.
 -- Assumes nothing.
-use Rattle.std.specs.Prelude.{◌≡◌, List, ℕ, ◌≤◌, length}
-use Rattle.meaning.specs.declared.Side.TheVariants.{Requirement as requirement}
-use Rattle.meaning.specs.Refusal.{Answer, good, refused, at, ◌>>=◌}
+use Rattle.std.specs.Prelude.{◌≡◌, List, ℕ, ◌≤◌, length, Result, Ok, Err}
+use Rattle.meaning.specs.declared.Refusal.{Refusal}
+use Rattle.meaning.specs.Refusal.{Answer, good, refused, ◌>>=◌}
 use Rattle.meaning.specs.Tree.{Concept, nodes}
 use Rattle.meaning.specs.Register.{Register, read_register}
 use Rattle.meaning.specs.Bounds.{most_levels, most_size}
@@ -10,10 +10,9 @@ use Rattle.meaning.specs.InPlace.{size_in}
 use Rattle.meaning.specs.Rows.{Marked}
 use Rattle.meaning.specs.Calls.{read_plain}
 use Rattle.graph.specs.Posed.{Posed}
+use Rattle.rows.specs.declared.Reduced.{Reduced}
 use Rattle.plain.specs.declared.Plain.{Plain}
-use Rattle.plain.specs.declared.Plain.TheVariants.{Good as GoodPlain, Refused as RefusedPlain}
 use Rattle.plain.specs.declared.Both.{Both}
-use Rattle.plain.specs.declared.Both.TheVariants.{Good as GoodBoth, Refused as RefusedBoth}
 
 -- the rows of a requirement
 pub record Rows : Type 0 where
@@ -25,6 +24,9 @@ pub record Rows : Type 0 where
 abbrev pub rows : List ℕ → List ℕ → List ℕ → List ℕ → Rows
 rows n r e m = record { names = n; roles = r; ends = e; marks = m }
 
+abbrev pub rows_of : Reduced → Rows
+rows_of r = rows r.tree.names r.tree.roles r.tree.ends r.marks
+
 -- they hold the tree of a plain requirement, small enough for a degree, and are marked; of a register R is known
 pub record PlainRows (R : Type 0) (A : Rows) (t : Concept) : Type 0 where
   pub posed : Posed R A.names A.roles A.ends t 0 most_levels
@@ -33,20 +35,18 @@ pub record PlainRows (R : Type 0) (A : Rows) (t : Concept) : Type 0 where
 
 -- ---- the requirement
 
-abbrev pub plain_refused : ℕ → ℕ → Plain
-plain_refused n p = RefusedPlain (at requirement n p)
+pub record PlainGood (t : Concept) (p : Plain) : Type 0 where
+  pub written : p.nodes ≡ nodes t
+  pub held : PlainRows (Unit {0}) (rows_of p.reduced) t
 
-pub record PlainGood (A : Rows) (t : Concept) (r : Plain) : Type 0 where
-  pub answer : r ≡ GoodPlain (nodes t)
-  pub held : PlainRows (Unit {0}) A t
+abbrev pub PlainOutcome : Answer Concept → Result Plain Refusal → Type 0
+PlainOutcome (good t) (Ok p) = PlainGood t p
+PlainOutcome (good t) (Err e) = ⊥
+PlainOutcome (refused f) (Ok p) = ⊥
+PlainOutcome (refused f) (Err e) = e ≡ f
 
--- after a refusal the rows, which are the library's own, may hold anything
-abbrev pub PlainOutcome : Rows → Answer Concept → Plain → Type 0
-PlainOutcome A (good t) r = PlainGood A t r
-PlainOutcome A (refused f) r = r ≡ RefusedPlain f
-
-abbrev pub PlainDone : List ℕ → Rows → Plain → Type 0
-PlainDone message A r = PlainOutcome A (read_plain message) r
+abbrev pub PlainDone : List ℕ → Result Plain Refusal → Type 0
+PlainDone message r = PlainOutcome (read_plain message) r
 
 -- ---- the register, and then the requirement
 
@@ -56,13 +56,17 @@ read_both image message = do
   t ← read_plain message
   good (g, t)
 
-pub record BothGood (image : List ℕ) (A : Rows) (g : Register) (t : Concept) (r : Both) : Type 0 where
-  pub answer : r ≡ GoodBoth (length g.names) (length g.links) (nodes t)
-  pub held : PlainRows (read_register image ≡ good g) A t
+pub record BothGood (image : List ℕ) (g : Register) (t : Concept) (b : Both) : Type 0 where
+  pub items : b.size.items ≡ length g.names
+  pub links : b.size.links ≡ length g.links
+  pub written : b.plain.nodes ≡ nodes t
+  pub held : PlainRows (read_register image ≡ good g) (rows_of b.plain.reduced) t
 
-abbrev pub BothOutcome : List ℕ → Rows → Answer (Register × Concept) → Both → Type 0
-BothOutcome image A (good x) r = BothGood image A x.0 x.1 r
-BothOutcome image A (refused f) r = r ≡ RefusedBoth f
+abbrev pub BothOutcome : List ℕ → Answer (Register × Concept) → Result Both Refusal → Type 0
+BothOutcome image (good x) (Ok b) = BothGood image x.0 x.1 b
+BothOutcome image (good x) (Err e) = ⊥
+BothOutcome image (refused f) (Ok b) = ⊥
+BothOutcome image (refused f) (Err e) = e ≡ f
 
-abbrev pub BothDone : List ℕ → List ℕ → Rows → Both → Type 0
-BothDone image message A r = BothOutcome image A (read_both image message) r
+abbrev pub BothDone : List ℕ → List ℕ → Result Both Refusal → Type 0
+BothDone image message r = BothOutcome image (read_both image message) r

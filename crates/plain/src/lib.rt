@@ -2,101 +2,53 @@
 #![tactic(auto)]
 
 ghost use Rattle.std.specs.Prelude.{◌≡◌};
-ghost use Rattle.plain.specs.Reading.{rows, plain_refused, PlainDone, BothDone};
+ghost use Rattle.plain.specs.Reading.{PlainDone, BothDone};
 
-use meaning::{Refusal, Side};
-use register::Reading;
-use requirement::Message;
+use meaning::{Refusal, Rule, Side};
+use register::Size;
+use rows::{Parts, Reduced, Tree};
 
-// A plain requirement in rows: how many nodes are written; or its refusal.
+// A plain requirement: how many nodes are written, and its tree with the marks of the drop rule.
 #[derive(Drop)]
-pub enum Plain {
-    Good { nodes: usize },
-    Refused { refusal: Refusal },
+pub struct Plain {
+    pub nodes: usize,
+    pub reduced: Reduced,
 }
 
-// A register and a plain requirement: how many items, links and written nodes there are; or the refusal.
+// A register and a plain requirement.
 #[derive(Drop)]
-pub enum Both {
-    Good {
-        items: usize,
-        links: usize,
-        nodes: usize,
-    },
-    Refused {
-        refusal: Refusal,
-    },
+pub struct Both {
+    pub size: Size,
+    pub plain: Plain,
 }
 
 // Reads the register, and then the requirement.
-pub fn read_both(
-    image: &[u8],
-    message: &[u8],
-    names: &mut [u64; 64],
-    roles: &mut [u8; 64],
-    ends: &mut [u8; 64],
-    marks: &mut [u8; 64],
-) -> Both
-    ensures { BothDone image.now message.now
-        (rows names.new roles.new ends.new marks.new) result }
+pub fn read_both(image: &[u8], message: &[u8]) -> Result<Both, Refusal>
+    ensures { BothDone image.now message.now result }
 {
-    let r = register::read(image, false);
-    match r {
-        Reading::Good { items, links } => {
-            let p = read_plain(message, names, roles, ends, marks);
-            match p {
-                Plain::Good { nodes } => Both::Good {
-                    items,
-                    links,
-                    nodes,
-                },
-                Plain::Refused { refusal } => Both::Refused { refusal },
-            }
-        }
-        Reading::Refused { refusal } => Both::Refused { refusal },
-    }
+    let size = register::read(image, false)?;
+    let plain = read_plain(message)?;
+    Ok(Both { size, plain })
 }
 
-// Reads a requirement that must be plain into rows, and marks them by the drop rule.
-pub fn read_plain(
-    message: &[u8],
-    names: &mut [u64; 64],
-    roles: &mut [u8; 64],
-    ends: &mut [u8; 64],
-    marks: &mut [u8; 64],
-) -> Plain
-    ensures { PlainDone message.now
-        (rows names.new roles.new ends.new marks.new) result }
+// Reads a requirement that must be plain, and marks it by the drop rule.
+pub fn read_plain(message: &[u8]) -> Result<Plain, Refusal>
+    ensures { PlainDone message.now result }
 {
-    let mut packed = [0u64; 144];
-    let m = requirement::read_message(message, &mut packed);
-    match m {
-        Message::Good { nodes, parts } => {
-            if 0 < parts {
-                let firsts = rows::firsts(&packed);
-                return plain_refused(11, fields::pair(firsts[0]));
-            }
-            *names = rows::names(&packed);
-            *roles = rows::roles(&packed);
-            *ends = rows::ends(&packed);
-            reduction::reduce(names, roles, ends, marks);
-            if meaning::MOST_SIZE < reduction::size(names, ends, marks, 0, meaning::MOST_LEVELS) {
-                return plain_refused(14, 3);
-            }
-            Plain::Good { nodes }
-        }
-        Message::Refused { refusal } => Plain::Refused { refusal },
+    let mut packed = [0u64; rows::LEN];
+    let read = requirement::read_message(message, &mut packed)?;
+    if 0 < read.parts {
+        let first = usize::from(Parts::of(&packed, read.parts).firsts[0]);
+        return Err(Rule::NotPlain.at(first).on(Side::Requirement));
     }
-}
-
-fn plain_refused(number: usize, place: usize) -> Plain
-    ensures { result ≡ plain_refused number place }
-{
-    Plain::Refused {
-        refusal: Refusal {
-            side: Side::Requirement,
-            number,
-            place,
-        },
+    let tree = Tree::of(&packed);
+    let mut marks = [0u8; 64];
+    reduction::reduce(&tree, &mut marks);
+    if meaning::MOST_SIZE < reduction::size(&tree, &marks, 0, meaning::MOST_LEVELS) {
+        return Err(Rule::TooLarge.at(3).on(Side::Requirement));
     }
+    Ok(Plain {
+        nodes: read.nodes,
+        reduced: Reduced { tree, marks },
+    })
 }

@@ -1,39 +1,41 @@
 -- `plain::read_plain` meets its contract: the requirement's own faults, 11 at the first threshold, 14 at place 3, or marked rows.
 -- Assumes nothing.
-use mathlib.Core.Path.{refl, ap, ◌∙◌}
+use mathlib.Core.Path.{◌≡◌, ap, ◌∙◌}
 use mathlib.Core.List.{List}
 use Prim.Native.Nat.{ℕ}
 use lib.ListN.{get_or}
-use native.Mathlib.Omega.{arith}
+use Rattle.std.proofs.Common.{rules}
+use Rattle.std.proofs.lemmas.Result.{err_from_is_err_and}
 use Rattle.plain.proofs.ReadPlain.{plain-refused, plain-first, plain-held, plain-big, plain-good}
-use borrow.Author.Rules.{rules}
 use Rattle.plain.proofs.read_plain.Goals as goal
 
-pub returns-then-parts-gt0 : goal.returns-then-parts-gt0
-returns-then-parts-gt0 c =
-    let first = c.pair.ensures.value ∙ ap (λ (l : List ℕ). get_or l 0 0) c.firsts-firsts.ensures in
-    plain-first c.args.message.now _ _ c.in-Good.ensures _ _ refl (omega (arith, c.if-parts-gt0.true)) _ _ _ first (search rules)
+pub returns-in_err-read : goal.returns-in_err-read
+returns-in_err-read c =
+    let p = err_from_is_err_and c.from_residual.result c.from_residual.ensures.1 in
+    rw (p.1, p.2) (plain-refused c.args.message.now _ _ c.in_err-read.ensures)
+
+pub returns-then-read-gt0 : goal.returns-then-read-gt0
+returns-then-read-gt0 c =
+    let e : c.from-first.result ≡ get_or c.of.result.firsts 0 0 = search rules in
+    let first = e ∙ ap (λ (l : List ℕ). get_or l 0 0) c.of.ensures.firsts in
+    rw (c.on.ensures, c.at.ensures) (plain-first c.args.message.now _ _ c.in_ok-read.ensures c.if-read-gt0.true _ first)
 
 pub reduce-requires : goal.reduce-requires
 reduce-requires c =
-    plain-held c.args.message.now _ _ c.in-Good.ensures _ _ refl _ _ _ c.names.ensures c.roles.ensures c.ends.ensures
+    let t = c.of-tree.ensures in plain-held c.args.message.now _ _ c.in_ok-read.ensures _ _ _ t.names t.roles t.ends
 
 pub size-requires : goal.size-requires
-size-requires c = record {
-  roles = _;
-  held = plain-held c.args.message.now _ _ c.in-Good.ensures _ _ refl _ _ _ c.names.ensures c.roles.ensures c.ends.ensures;
-}
+size-requires c =
+    let t = c.of-tree.ensures in record { roles = _; held = plain-held c.args.message.now _ _ c.in_ok-read.ensures _ _ _ t.names t.roles t.ends }
 
 pub returns-then-size-gt-MOST_SIZE : goal.returns-then-size-gt-MOST_SIZE
 returns-then-size-gt-MOST_SIZE c =
-    plain-big c.args.message.now _ _ c.in-Good.ensures _ _ refl _ _ _ c.names.ensures c.roles.ensures c.ends.ensures
-    (omega (arith, c.if-parts-gt0.false)) _ c.reduce.ensures _ c.size.ensures (omega (arith, c.if-size-gt-MOST_SIZE.true)) _ _ (search rules)
+    let t = c.of-tree.ensures in
+    rw (c.on-then-size-gt-MOST_SIZE.ensures, c.at-then-size-gt-MOST_SIZE.ensures) (plain-big c.args.message.now _ _ c.in_ok-read.ensures _ _ _ t.names t.roles t.ends
+    c.if-read-gt0.false _ c.reduce.ensures _ c.size.ensures c.if-size-gt-MOST_SIZE.true)
 
-pub returns-else-size-gt-MOST_SIZE : goal.returns-else-size-gt-MOST_SIZE
-returns-else-size-gt-MOST_SIZE c =
-    plain-good c.args.message.now _ _ c.in-Good.ensures _ _ refl _ _ _ c.names.ensures c.roles.ensures c.ends.ensures
-    (omega (arith, c.if-parts-gt0.false)) _ c.reduce.ensures _ c.size.ensures (omega (arith, c.if-size-gt-MOST_SIZE.false))
-
-pub returns-in-Refused : goal.returns-in-Refused
-returns-in-Refused c =
-    plain-refused c.args.message.now _ _ c.in-Refused.ensures _ _ refl
+pub returns : goal.returns
+returns c =
+    let t = c.of-tree.ensures in
+    plain-good c.args.message.now _ _ c.in_ok-read.ensures _ _ _ t.names t.roles t.ends
+    c.if-read-gt0.false _ c.reduce.ensures _ c.size.ensures c.if-size-gt-MOST_SIZE.false
