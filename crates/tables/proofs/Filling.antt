@@ -9,7 +9,7 @@ use Prim.Native.Nat.{ℕ, ◌+◌, ◌-◌, ◌*◌, ◌≤◌, ◌<◌, max}
 use native.Mathlib.Nat.{le_refl, le_trans, mul-le-mul_right}
 use native.Mathlib.Omega.{arith}
 use lib.ListN.{length, get_or}
-use lib.Seq.{sets}
+use lib.Seq.{sets, length-sets}
 use Rattle.meaning.specs.Names.{common}
 use Rattle.meaning.specs.Names.{names as many}
 use Rattle.meaning.specs.Tree.{nodes}
@@ -135,13 +135,13 @@ module _ {s : List ℕ} {items : ℕ} {begins order names roles ends marks : Lis
         (mul-le-mul_right items a, omega (arith, mul-le-mul_right items b, w.room, w.size))
 
     -- a dropped child
-    pub going-skip : get_or marks c 0 ≡ 0 → (j : ℕ) → j ≡ get_or ends c 0 → (new : List ℕ) → length new ≡ length table
+    pub going-skip : get_or marks c 0 ≡ 0 → (j : ℕ) → j ≡ get_or ends c 0 → (new : List ℕ)
         → new ≡ sets table (c * items) (up_to (j * items - c * items) (λ x. 0)) → Next new n p j
-    going-skip m j ej new long is = record {
+    going-skip m j ej new is = record {
       asked = w.asked;
       ended = w.ended;
       room = w.room;
-      size = long ∙ w.size;
+      size = ap length is ∙ length-sets table (c * items) (up_to (j * items - c * items) (λ x. 0)) ∙ w.size;
       each = λ k. rw ej (sofar-skip (graph k) (gone k) items names roles ends marks k.tree left node old (so k) below m new
           (is ∙ ap (λ (z : ℕ). sets table (c * items) (up_to (z * items - c * items) (λ x. 0))) ej));
     }
@@ -177,14 +177,13 @@ module _ {s : List ℕ} {items : ℕ} {begins order names roles ends marks : Lis
             sums (graph k) (gone k) items names roles ends marks k.tree left node old (so k) below m mid (done (kid-asked k)).filled w.room
             (leads k) (λ y r. refl) (inside k) role scale er (scaled k) x i
 
-        pub kid-folding : (role : ℕ) → role < 256 → role ≡ get_or roles c 0 → Folding s items begins order role (c * items) (node * items) scale p mid
-        kid-folding role small er =
+        pub kid-folding : (role : ℕ) → role ≡ get_or roles c 0 → Folding s items begins order role (c * items) (node * items) scale p mid
+        kid-folding role er =
             let k = w.asked in
             let u = child (graph k) (gone k) items names roles ends marks k.tree left node old (so k) below m in
             let kid : c + 1 ≤ get_or ends node 0 = omega (arith, below) in
             record {
               in_order = k.posed.graph;
-              role-fits = small;
               from-fits = omega (arith, mul-le-mul_right items kid, long, w.size, w.room);
               at-fits = room-one k (omega (arith, long, w.size, w.room));
               sums-fit = λ x i. let top = u.sum_fits x i in let most = k.small in rw (mixed role er k x i) (omega arith);
@@ -218,12 +217,15 @@ module _ {s : List ℕ} {items : ℕ} {begins order names roles ends marks : Lis
     over : get_or ends node 0 ≤ c
     over = omega (arith, w.ended)
 
-    pub going-fits : (m : ℕ) → m ≡ max 1 n → m * p < 4294967296
+    at-least : (m : ℕ) → m ≡ max n 1 → m ≡ max 1 n
+    at-least m em = omega arith
+
+    pub going-fits : (m : ℕ) → m ≡ max n 1 → m * p < 4294967296
     going-fits m em =
         let k = w.asked in
         let q = sofar-scale (graph k) (gone k) items names roles ends marks k.tree left node old (so k) over k.marked in
         let most = k.small in
-        let same : m * p ≡ max 1 n * p = ap (λ (z : ℕ). z * p) em in
+        let same : m * p ≡ max 1 n * p = ap (λ (z : ℕ). z * p) (at-least m em) in
         omega arith
 
     -- the root's row is to be closed
@@ -231,10 +233,10 @@ module _ {s : List ℕ} {items : ℕ} {begins order names roles ends marks : Lis
     going-asked = let g = w.asked.posed.graph in record { register = g.register; read = g.read; holds = g.items-are }
 
     pub going-last : (last : List ℕ) → Image s (λ g. last ≡ sets table (node * items) (up_to items (closed (withdrawn g) n table (node * items))))
-        → (m : ℕ) → m ≡ max 1 n → (k : TreeOf s items begins order names roles ends marks node left) → Worked k (m * p) old last
+        → (m : ℕ) → m ≡ max n 1 → (k : TreeOf s items begins order names roles ends marks node left) → Worked k (m * p) old last
     going-last last is m em k =
         let g = k.posed.graph in
         record {
-          scaled = ap (λ (z : ℕ). z * p) em ∙ sym (sofar-scale (graph k) (gone k) items names roles ends marks k.tree left node old (so k) over k.marked);
+          scaled = ap (λ (z : ℕ). z * p) (at-least m em) ∙ sym (sofar-scale (graph k) (gone k) items names roles ends marks k.tree left node old (so k) over k.marked);
           filled = sofar-last (graph k) (gone k) items names roles ends marks k.tree left node old (so k) over k.marked w.room last (is g.register g.read);
         }

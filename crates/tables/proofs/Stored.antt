@@ -4,12 +4,14 @@ use mathlib.Core.Path.{◌≡◌, refl, sym, ap, ap₂, ◌∙◌}
 use mathlib.Core.Logic.{inr}
 use mathlib.Core.Bool.{Bool, false, cond}
 use mathlib.Core.List.{List, [], ◌∷◌, ◌++◌, append-nil}
-use Prim.Native.Nat.{ℕ, zero, suc, ◌+◌, ◌*◌, ◌≤◌, ◌<◌}
+use Rattle.std.proofs.lemmas.List.{append_assoc}
+use Prim.Native.Nat.{ℕ, zero, suc, ◌+◌, ◌-◌, ◌*◌, ◌≤◌, ◌<◌}
 use native.Mathlib.Decide.{ℕ_discrete}
 use native.Mathlib.Omega.{arith}
 use lib.Count.{ones}
-use lib.ListN.{length, get_or, set, take, drop, take-append-drop}
-use lib.Seq.{sets, length-take-le, set-get_or, get_or-set_same, get_or-set_other}
+use lib.ListN.{length, get_or, set, replicate, take, drop, take-append-drop, length-drop}
+use lib.Seq.{sets, length-take-le, set-get_or, get_or-set_same, get_or-set_other, drop-drop, sets-eq}
+use Rattle.std.proofs.lemmas.List.{replicate_more}
 use Rattle.meaning.specs.Names.{common}
 use Rattle.graph.specs.Walked.{walked}
 use Rattle.meaning.specs.Degree.{or_one}
@@ -47,6 +49,25 @@ pub stored-none : (names : ℕ) (held : ℕ → ℕ) (at n k : ℕ) (old new : L
     → Stored (λ x. common names (held x)) at old new n
 unfolding ones
 stored-none names held at n k old new z e w = rw e at w ∙ ap (sets old at) (up_to-same n (λ x. 0) (λ x. common names (held x)) (λ x l. rw z refl))
+
+-- ---- a part of the row that is filled with one number
+
+all-one : (n v : ℕ) → replicate n v ≡ up_to n (λ x. v)
+unfolding up_to
+all-one zero v = refl
+all-one (suc n) v =
+    let one : n + 1 ≡ suc n = omega arith in
+    ap (λ (k : ℕ). replicate k v) (sym one) ∙ sym (replicate_more n v) ∙ ap (λ (z : List ℕ). z ++ (v ∷ [])) (all-one n v)
+
+pub part-filled : (a b v : ℕ) (old part : List ℕ) → a ≤ b → b ≤ length old → part ≡ replicate (length (take (b - a) (drop a old))) v
+    → take a old ++ (part ++ drop (b - a) (drop a old)) ≡ sets old a (up_to (b - a) (λ x. v))
+part-filled a b v old part l m e =
+    let long : length (take (b - a) (drop a old)) ≡ b - a = length-take-le (b - a) (drop a old) (omega (arith, length-drop a old)) in
+    let is : part ≡ up_to (b - a) (λ x. v) = e ∙ ap (λ (k : ℕ). replicate k v) long ∙ all-one (b - a) v in
+    let fits : a + length (up_to (b - a) (λ x. v)) ≤ length old = omega (arith, up_to-long (b - a) (λ x. v)) in
+    let behind : drop (b - a) (drop a old) ≡ drop (a + length (up_to (b - a) (λ x. v))) old =
+    drop-drop (b - a) a old ∙ ap (λ (k : ℕ). drop k old) (omega (arith, up_to-long (b - a) (λ x. v))) in
+    ap₂ (λ (p q : List ℕ). take a old ++ (p ++ q)) is behind ∙ sym (append_assoc (take a old) (up_to (b - a) (λ x. v)) _) ∙ sym (sets-eq (up_to (b - a) (λ x. v)) old a fits)
 
 -- ---- sums of equal parts
 

@@ -41,7 +41,6 @@ closed out n table at x = cond (out x) 0 (or_one n (row_at table at x))
 -- what is asked: both rows stand in the table, and the sums fit
 pub record Folding (s : List ℕ) (items : ℕ) (begins order : List ℕ) (role from at scale product : ℕ) (table : List ℕ) : Type 0 where
   pub in_order : Sorted s items begins order
-  pub role-fits : role < 256
   pub from-fits : from + items ≤ length table
   pub at-fits : at + items ≤ length table
   pub sums-fit : (x : ℕ) → x < items → folded table at scale product (row_tops in_order role from table) x < 4294967296

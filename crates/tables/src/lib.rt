@@ -14,28 +14,14 @@ ghost use Rattle.sorted.specs.Order.{Sorted};
 ghost use Rattle.degrees.specs.Gradable.{Gradable};
 ghost use Rattle.tables.specs.Rows.{Names, Served, row_at, Folding, row_tops, folded, closed, Worked, Whole};
 
-// One number from one place up to another.
-fn put(from: usize, to: usize, value: u32, table: &mut [u32])
-    requires { (from ≤ to) × (to ≤ length table.old) }
-    ensures { table.new ≡ sets table.old from (up_to (to - from) (λ x. value)) }
-{
-    let mut i = from;
-    while i < to {
-        table[i] = value;
-        i += 1;
-    }
-}
-
 // The names of each item, read once.
 fn hold(s: &[u8], items: usize, held: &mut [u64])
     requires asked { Asked s.now (λ g. items ≡ length g.names) }
     requires in_bounds { items ≤ length held.old }
     ensures { Names s.now items held.new }
 {
-    let mut x = 0;
-    while x < items {
+    for x in 0..items {
         held[x] = graph::names(s, x);
-        x += 1;
     }
 }
 
@@ -45,13 +31,11 @@ fn own(items: usize, held: &[u64], names: u64, at: usize, table: &mut [u32])
     ensures { table.new ≡ sets table.old at (up_to items (λ x. common names (get_or held.now x 0))) }
 {
     if names == 0 {
-        put(at, at + items, 0, table);
+        table[at..at + items].fill(0);
         return;
     }
-    let mut x = 0;
-    while x < items {
-        table[at + x] = u64::count_ones(names & held[x]);
-        x += 1;
+    for x in 0..items {
+        table[at + x] = (names & held[x]).count_ones();
     }
 }
 
@@ -69,10 +53,8 @@ fn fold(items: usize, at: usize, scale: u32, product: u32, tops: &[u32], table: 
     requires by_index { (x : ℕ) → x < items → folded table.old at scale product (λ y. get_or tops.now y 0) x < 4294967296 }
     ensures { table.new ≡ sets table.old at (up_to items (folded table.old at scale product (λ y. get_or tops.now y 0))) }
 {
-    let mut x = 0;
-    while x < items {
+    for x in 0..items {
         table[at + x] = sum(table[at + x], scale, tops[x], product);
-        x += 1;
     }
 }
 
@@ -81,7 +63,7 @@ fn take(
     items: usize,
     begins: &[u16],
     order: &[u32],
-    role: usize,
+    role: u8,
     from: usize,
     at: usize,
     scale: u32,
@@ -93,7 +75,7 @@ fn take(
         → table.new ≡ sets table.old at (up_to items (folded table.old at scale product (row_tops c role from table.old))) }
 {
     let mut tops = [0u32; 512];
-    sorted::gather(items, begins, order, role, table, from, &mut tops[..512]);
+    sorted::gather(items, begins, order, usize::from(role), table, from, &mut tops[..512]);
     fold(items, at, scale, product, &tops[..512], table);
 }
 
@@ -118,7 +100,7 @@ fn fill_empty(n: u32, from: usize, to: usize, table: &mut [u32])
     if n != 0 {
         return;
     }
-    put(from, to, 1, table);
+    table[from..to].fill(1);
 }
 
 // Closes the row from place `at` on so. `served`: all items are in service, so none is looked at.
@@ -131,20 +113,9 @@ fn close(s: &[u8], items: usize, served: bool, n: u32, at: usize, table: &mut [u
         fill_empty(n, at, at + items, table);
         return;
     }
-    let mut x = 0;
-    while x < items {
+    for x in 0..items {
         table[at + x] = last(graph::is_out(s, x), n, table[at + x]);
-        x += 1;
     }
-}
-
-fn at_least_one(n: u32) -> u32
-    ensures { result ≡ max 1 n }
-{
-    if 0 < n {
-        return n;
-    }
-    1
 }
 
 // Fills the rows of the tree at a node; its scale is answered. The rows may hold a tree of at most `left` levels: that falls.
@@ -171,16 +142,16 @@ pub fn fill(
 {
     let at = node * items;
     own(items, held, names[node], at, table);
-    let e = fields::octet(ends[node]);
+    let e = usize::from(ends[node]);
     let mut n = u64::count_ones(names[node]);
     let mut product: u32 = 1;
     let mut c = node + 1;
     while c < e {
         let row = c;
         let from = row * items;
-        c = fields::octet(ends[row]);
+        c = usize::from(ends[row]);
         if marks[row] == 0 {
-            put(from, c * items, 0, table);
+            table[from..c * items].fill(0);
             continue;
         }
         let scale = fill(
@@ -198,13 +169,12 @@ pub fn fill(
             left - 1,
             table,
         );
-        let role = fields::octet(roles[row]);
-        take(items, begins, order, role, from, at, scale, product, table);
+        take(items, begins, order, roles[row], from, at, scale, product, table);
         product = product * scale;
         n += 1;
     }
     close(s, items, served, n, at, table);
-    at_least_one(n) * product
+    n.max(1) * product
 }
 
 // Fills the whole table of the tree at row 0: the links are sorted once, and it is seen once whether all items are in service. The tree's scale is answered.

@@ -2,6 +2,7 @@ use mathlib.Core.Path.{refl, ◌∙◌}
 use native.Mathlib.Omega.{arith}
 use Rattle.tables.proofs.Filling.{here, room-one, going_start, worked-before, going-low, going_less, going-rows, going-skip}
 use Rattle.tables.proofs.Filling.{kid-asked, kid-room, kid-folding, kid-fits, going_next, going-fits, going-asked, going-last}
+use Rattle.tables.proofs.Stored.{part-filled}
 use Rattle.tables.proofs.+fill.Goals as goal
 
 pub overflow_mul-at : goal.overflow_mul-at
@@ -38,7 +39,7 @@ overflow_add-c t c =
 
 pub loop-c-init : goal.loop-c-init
 loop-c-init t c =
-    going_start _ _ _ _ _ _ _ _ _ _ _ c.requires.gradable _ c.requires.names.2 _ c.octet-e.ensures.value c.own.auto.table _ c.requires.names.0
+    going_start _ _ _ _ _ _ _ _ _ _ _ c.requires.gradable _ c.requires.names.2 _ c.from-e.ensures c.own.auto.table _ c.requires.names.0
     c.own.ensures
 
 pub overflow_mul-from : goal.overflow_mul-from
@@ -58,20 +59,30 @@ overflow_mul-c t c =
     omega (
       arith,
       going-rows c.loop-c.invariant c.loop-c-test.true _
-          c.octet-c.ensures.value,
+          c.from-c.ensures,
     )
 
-pub put-requires : goal.put-requires
-put-requires t c =
-    going-rows c.loop-c.invariant c.loop-c-test.true _ c.octet-c.ensures.value
+pub slice_bounds-fill-count : goal.slice_bounds-fill-count
+slice_bounds-fill-count t c =
+    omega (arith, going-rows c.loop-c.invariant c.loop-c-test.true _ c.from-c.ensures)
+
+pub slice_bounds-fill-start : goal.slice_bounds-fill-start
+slice_bounds-fill-start t c =
+    omega (arith, going-rows c.loop-c.invariant c.loop-c-test.true _ c.from-c.ensures)
+
+pub slice_bounds-fill-end : goal.slice_bounds-fill-end
+slice_bounds-fill-end t c =
+    omega (arith, going-rows c.loop-c.invariant c.loop-c-test.true _ c.from-c.ensures)
 
 pub loop-c-smaller-then-marks-row-eq0 : goal.loop-c-smaller-then-marks-row-eq0
 loop-c-smaller-then-marks-row-eq0 t c =
-    omega (arith, going_less c.loop-c.invariant c.loop-c-test.true _ c.octet-c.ensures.value)
+    omega (arith, going_less c.loop-c.invariant c.loop-c-test.true _ c.from-c.ensures)
 
 pub loop-c-preserved-then-marks-row-eq0 : goal.loop-c-preserved-then-marks-row-eq0
 loop-c-preserved-then-marks-row-eq0 t c =
-    going-skip c.loop-c.invariant c.loop-c-test.true c.if-marks-row-eq0.true _ c.octet-c.ensures.value _ c.put.auto.table c.put.ensures
+    let rows = going-rows c.loop-c.invariant c.loop-c-test.true _ c.from-c.ensures in
+    going-skip c.loop-c.invariant c.loop-c-test.true c.if-marks-row-eq0.true _ c.from-c.ensures _
+    (part-filled _ _ _ _ _ rows.0 rows.1 (c.fill.ensures.after (λ y e. e)))
 
 pub overflow_sub-left : goal.overflow_sub-left
 overflow_sub-left t c =
@@ -94,7 +105,7 @@ pub take-requires : goal.take-requires
 take-requires t c = (
   _,
   kid-folding c.loop-c.invariant c.loop-c-test.true c.if-marks-row-eq0.false _ _ c.fill-scale.auto.table
-      c.fill-scale.ensures _ (omega (arith, c.octet-role.ensures.upper_bound)) c.octet-role.ensures.value,
+      c.fill-scale.ensures _ refl,
 )
 
 pub overflow_mul-product : goal.overflow_mul-product
@@ -115,12 +126,12 @@ overflow_add-n t c =
 
 pub loop-c-smaller : goal.loop-c-smaller
 loop-c-smaller t c =
-    omega (arith, going_less c.loop-c.invariant c.loop-c-test.true _ c.octet-c.ensures.value)
+    omega (arith, going_less c.loop-c.invariant c.loop-c-test.true _ c.from-c.ensures)
 
 pub loop-c-preserved : goal.loop-c-preserved
 loop-c-preserved t c =
     going_next c.loop-c.invariant c.loop-c-test.true c.if-marks-row-eq0.false _ _ c.fill-scale.auto.table c.fill-scale.ensures _
-    c.octet-role.ensures.value _ c.octet-c.ensures.value _ c.take.auto.table (c.take.ensures _)
+    refl _ c.from-c.ensures _ c.take.auto.table (c.take.ensures _)
 
 pub close-requires : goal.close-requires
 close-requires t c =
@@ -131,7 +142,7 @@ close-requires t c =
 
 pub overflow_mul-result : goal.overflow_mul-result
 overflow_mul-result t c =
-    omega (arith, going-fits c.loop-c.invariant (omega (arith, c.loop-c-test.false)) _ c.at_least_one.ensures)
+    omega (arith, going-fits c.loop-c.invariant (omega (arith, c.loop-c-test.false)) _ c.max.ensures)
 
 pub shape_of-table : goal.shape_of-table
 shape_of-table t c =
@@ -140,4 +151,4 @@ shape_of-table t c =
 pub returns : goal.returns
 returns t c =
     worked-before _ _ _ c.requires.names.0 c.own.ensures _ _
-    (going-last c.loop-c.invariant (omega (arith, c.loop-c-test.false)) _ c.close.ensures _ c.at_least_one.ensures)
+    (going-last c.loop-c.invariant (omega (arith, c.loop-c-test.false)) _ c.close.ensures _ c.max.ensures)

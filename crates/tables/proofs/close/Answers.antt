@@ -1,9 +1,8 @@
 use mathlib.Core.Path.{refl}
 use native.Mathlib.Omega.{arith}
-use lib.ListN.{length-set}
 use Rattle.meaning.specs.Register.{withdrawn}
 use Rattle.graph.proofs.Asked.{item-inside}
-use Rattle.tables.proofs.Stored.{stored-start, stored_more, stored-ahead, stored-upto, closed-served, closed-here}
+use Rattle.tables.proofs.Stored.{stored-start, stored_more, stored-upto, stored-ahead, closed-served, closed-here}
 use Rattle.tables.proofs.close.Goals as goal
 
 pub fill_empty-requires : goal.fill_empty-requires
@@ -16,26 +15,18 @@ returns-then-served c =
     (omega arith) c.fill_empty.ensures
 
 pub loop-x-init : goal.loop-x-init
-loop-x-init c =
-    (omega arith, refl, λ g h. stored-start _ _ _ _ refl)
+loop-x-init c = λ g h. stored-start _ _ _ _ refl
 
 pub is_out-requires : goal.is_out-requires
 is_out-requires c =
     item-inside _ c.requires.asked c.loop-x-test.true
 
 pub loop-x-preserved : goal.loop-x-preserved
-loop-x-preserved c = (
-  omega arith,
-  simp length-set c.loop-x.invariant.1,
-  λ g h. stored_more _ _ _ _ _ _ _ (c.loop-x.invariant.2 g h) refl
-      (closed-here _ c.args.n _ _ _ _ c.last.ensures (c.is_out.ensures g h)
-      (stored-ahead _ _ _ _ _ (c.loop-x.invariant.2 g h))),
-)
-
-pub shape_of-table : goal.shape_of-table
-shape_of-table c =
-    c.loop-x.invariant.1
+loop-x-preserved c =
+    λ g h. stored_more _ _ _ _ _ _ _ (c.loop-x.invariant g h) refl
+    (closed-here _ c.args.n _ _ _ _ c.last.ensures (c.is_out.ensures g h)
+    (stored-ahead _ _ _ _ _ (c.loop-x.invariant g h)))
 
 pub returns : goal.returns
 returns c =
-    λ g h. stored-upto _ _ _ _ _ _ (c.loop-x.invariant.2 g h) (omega (arith, c.loop-x-test.false))
+    λ g h. stored-upto _ _ _ _ _ _ (c.loop-x.invariant g h) (omega (arith, c.loop-x-test.false, c.loop-x.auto.x-end))

@@ -1,6 +1,3 @@
-use mathlib.Core.Path.{◌≡◌}
-use Prim.Native.Nat.{◌≤◌, ◌-◌}
-use lib.ListN.{length}
 use Rattle.meaning.specs.Register.{withdrawn}
 use Rattle.register.specs.Image.{Image}
 use Rattle.tables.specs.Rows.{closed}
@@ -9,8 +6,4 @@ use Rattle.tables.proofs.close.Given as goal
 
 abbrev pub invariant-loop-x : goal.invariant-loop-x
 invariant-loop-x l =
-    (l.x ≤ l.items) × (length l.table ≡ length l.initial.table) × Image l.s (λ g. Stored (closed (withdrawn g) l.n l.initial.table l.at) l.at l.initial.table l.table l.x)
-
-abbrev pub decreases-loop-x : goal.decreases-loop-x
-decreases-loop-x l =
-    l.items - l.x
+    Image l.s (λ g. Stored (closed (withdrawn g) l.n l.initial.table l.at) l.at l.initial.table l.table l.x)

@@ -1,14 +1,10 @@
 use mathlib.Core.Path.{◌≡◌}
-use Prim.Native.Nat.{ℕ, ◌≤◌, ◌<◌, ◌-◌}
-use lib.ListN.{length, get_or}
+use Prim.Native.Nat.{ℕ, ◌<◌}
+use lib.ListN.{get_or}
 use Rattle.graph.specs.Walked.{walked}
 use Rattle.register.specs.Image.{Image}
 use Rattle.tables.proofs.hold.Given as goal
 
 abbrev pub invariant-loop-x : goal.invariant-loop-x
 invariant-loop-x l =
-    (l.x ≤ l.items) × (length l.held ≡ length l.initial.held) × Image l.s (λ g. (y : ℕ) → y < l.x → get_or l.held y 0 ≡ (walked g).names y)
-
-abbrev pub decreases-loop-x : goal.decreases-loop-x
-decreases-loop-x l =
-    l.items - l.x
+    Image l.s (λ g. (y : ℕ) → y < l.x → get_or l.held y 0 ≡ (walked g).names y)
