@@ -3,8 +3,7 @@
 use mathlib.Core.Path.{◌≡◌, refl, sym, ap, subst, ◌∙◌}
 use mathlib.Core.Bool.{true, false}
 use mathlib.Core.List.{List}
-use mathlib.Core.Option.{Option, some}
-use mathlib.Core.Option.{none as nowhere}
+use mathlib.Core.Option.{Option as Place, some, none as nowhere}
 use Prim.Native.Nat.{ℕ, ◌+◌, ◌≤◌, ◌<◌}
 use native.Mathlib.Decide.{dec_lt}
 use native.Mathlib.Omega.{arith}
@@ -14,7 +13,6 @@ use Rattle.meaning.specs.Register.{Register}
 use Rattle.meaning.proofs.Tests.{true-false}
 use Rattle.register.specs.Image.{Image}
 use Rattle.graph.specs.Judged.{Judged, start_no, end_no}
-use Rattle.graph.specs.Posed.{place_of}
 use Rattle.graph.proofs.Use.{one-register}
 use Rattle.degrees.specs.Notes.{flag, Note}
 
@@ -49,7 +47,7 @@ module _ {s : List ℕ} {items : ℕ} {index notes : List ℕ} {node item end k 
           absurd (let p = (w.graph.indexed (item + 1) (let q = w.inside in omega arith)).behind i (omega (arith, m, w.ended)) l in let z : start_no g i ≡ item = e in omega arith)
 
   -- what is noted in the graph is so in this one
-  noted : (j : Judged s items index) (o : Option ℕ) → Note j.register notes node item o → Note g notes node item o
+  noted : (j : Judged s items index) (o : Place ℕ) → Note j.register notes node item o → Note g notes node item o
   noted j o n = subst (λ (z : Register). Note z notes node item o) (one-register j g w.graph.read) n
 
   module _ (l : k < end) where
@@ -64,8 +62,8 @@ module _ {s : List ℕ} {items : ℕ} {index notes : List ℕ} {node item end k 
         omega arith
 
     -- along the k-th it goes
-    pub looking-met : flag notes node k ≡ true → (to : ℕ) → Image s (λ z. to ≡ end_no z k) → (j : Judged s items index) (o : Option ℕ) → Note j.register notes node item o → to ≡ place_of o
-    looking-met f to e j o n = e g w.graph.read ∙ sym (ap place_of ((noted j o n).only k looking-low own f))
+    pub looking-met : flag notes node k ≡ true → (to : ℕ) → Image s (λ z. to ≡ end_no z k) → (j : Judged s items index) (o : Place ℕ) → Note j.register notes node item o → some to ≡ o
+    looking-met f to e j o n = ap some (e g w.graph.read) ∙ sym ((noted j o n).only k looking-low own f)
 
     pub looking-next : flag notes node k ≡ false → Looking s items index notes node item end (k + 1)
     looking-next f = record {
@@ -78,7 +76,7 @@ module _ {s : List ℕ} {items : ℕ} {index notes : List ℕ} {node item end k 
     }
 
   -- along none
-  pub looking-end : end ≤ k → (j : Judged s items index) (o : Option ℕ) → Note j.register notes node item o → 65535 ≡ place_of o
+  pub looking-end : end ≤ k → (j : Judged s items index) (o : Place ℕ) → Note j.register notes node item o → nowhere ≡ o
   looking-end l j nowhere n = refl
   looking-end l j (some y) n =
       let p = (noted j (some y) n).one y refl in

@@ -1,17 +1,18 @@
 -- Walking over a node's children with the map: what is drawn and what is left make up what is shown. A kept child goes where the notes say.
 -- Assumes nothing.
-use mathlib.Core.Path.{◌≡◌, refl, sym, ap, subst, ◌∙◌, fun_ext}
+use mathlib.Core.Path.{◌≡◌, refl, sym, ap, ap₂, subst, ◌∙◌, fun_ext}
 use mathlib.Core.Bool.{true, false}
 use mathlib.Core.List.{List, ◌∷◌, ◌++◌, map, map-append, Memᴰ}
-use mathlib.Core.Option.{Option, some}
-use mathlib.Core.Option.{none as nowhere}
+use mathlib.Core.Option.{Option as Place, some, none as nowhere}
+use Rattle.std.specs.Prelude.{Option, Some, None, MatchOption, unwrap_or}
 use Prim.Native.Nat.{ℕ, zero, suc, ◌+◌, ◌-◌, ◌≤◌, ◌<◌}
 use native.Mathlib.Nat.{le_trans}
 use native.Mathlib.Numerals.{add-one}
 use native.Mathlib.Omega.{arith}
-use lib.ListN.{length, get_or, set, replicate, length-map, length-replicate}
+use lib.ListN.{length, get_or, set, replicate, take, drop, length-map, length-replicate, length-drop}
 use lib.Dec.{lit≤}
-use lib.Seq.{sets}
+use lib.Seq.{sets, length-take-le, drop-drop, sets-eq}
+use Rattle.std.proofs.lemmas.List.{append_assoc}
 use Rattle.meaning.specs.Bytes.{Bytes}
 use Rattle.meaning.specs.Tree.{node, Forest, none, more, Concept, children, under, nodes}
 use Rattle.meaning.specs.Graph.{Graph}
@@ -31,8 +32,7 @@ use Rattle.graph.proofs.Use.{next-inside}
 use Rattle.degrees.specs.Notes.{Note, Noted, NotedF}
 use Rattle.degrees.proofs.Folding.{mark-zero, mark-other}
 use Rattle.graph.specs.Judged.{Judged}
-use Rattle.graph.specs.Posed.{place_of}
-use Rattle.shown.specs.Given.{Inside, drawn, Drawing}
+use Rattle.shown.specs.Given.{place, Inside, drawn, Drawing}
 
 -- ---- stores one after the other
 
@@ -54,7 +54,7 @@ outs : (n : ℕ) → map mark_number (replicate n out) ≡ replicate n 65534
 outs zero = refl
 outs (suc n) = ap {B = List ℕ} (λ z. 65534 ∷ z) (outs n)
 
-module _ (names roles ends marks : List ℕ) (g : Register) (notes : List ℕ) (left e : ℕ) (o : Option ℕ) (final : List ℕ) where
+module _ (names roles ends marks : List ℕ) (g : Register) (notes : List ℕ) (left e : ℕ) (o : Place ℕ) (final : List ℕ) where
   -- the children from row c on are left
   pub record Drawn (c : ℕ) (m : List ℕ) : Type 0 where
     pub rest : Forest ℕ
@@ -80,7 +80,7 @@ noted-next : (r : ℕ) (t : Concept) (f : Forest ℕ) (ends marks : List ℕ) (g
 unfolding Noted
 noted-next r t f ends marks g notes c x n = n
 
-module _ {names roles ends marks : List ℕ} {g : Register} {notes : List ℕ} {left e : ℕ} {o : Option ℕ} {final : List ℕ} {c : ℕ} {m : List ℕ}
+module _ {names roles ends marks : List ℕ} {g : Register} {notes : List ℕ} {left e : ℕ} {o : Place ℕ} {final : List ℕ} {c : ℕ} {m : List ℕ}
     (w : Drawn names roles ends marks g notes left e o final c m) where
   pub drawn-next : c < e → (c < get_or ends c 0) × (get_or ends c 0 ≤ e)
   drawn-next l = let q = first names roles ends w.rest left c e w.held l in (q.inside, q.within)
@@ -150,61 +150,59 @@ module _ {names roles ends marks : List ℕ} {g : Register} {notes : List ℕ} {
 
 -- ---- where it goes
 
-pub place-fits : (items : ℕ) (o : Option ℕ) → items ≤ 512 → Inside items o → place_of o < 65536
-place-fits items nowhere l h = lit≤ tt
-place-fits items (some x) l h = omega arith
+pub place-fits : (items : ℕ) (o : Option ℕ) → items ≤ 512 → Inside items o → unwrap_or o 65535 < 65536
+place-fits items None l h = lit≤ tt
+place-fits items (Some x) l h = omega arith
+
+-- an item that is one in meaning's words
+is-some : (o : Option ℕ) (x : ℕ) → place o ≡ some x → o ≡ Some x
+is-some None x e = absurd (let y : ◌≡◌ {A = ℕ} 0 1 = cc in omega arith)
+is-some (Some y) x e = let z : y ≡ x = cc in ap Some z
 
 -- what is shown for the children of a root that is drawn
-abbrev pub children-drawn : Graph ℕ → Concept → ℕ → Option ℕ → List ℕ → List ℕ
+abbrev pub children-drawn : Graph ℕ → Concept → ℕ → Place ℕ → List ℕ → List ℕ
 children-drawn G t i o m = sets m (i + 1) (map mark_number (shown_f G (children t) none o))
 
-start : (names roles ends marks : List ℕ) (g : Register) (notes : List ℕ) (t : Concept) (left i e : ℕ) (o : Option ℕ) (m : List ℕ)
+start : (names roles ends marks : List ℕ) (g : Register) (notes : List ℕ) (t : Concept) (left i e : ℕ) (o : Place ℕ) (m : List ℕ)
     → Holds names roles ends t left i e → Marked ends marks t i → ((x : ℕ) → o ≡ some x → Noted ends marks g notes t i x)
     → Drawn names roles ends marks g notes (left - 1) e o (children-drawn (walked g) t i o m) (i + 1) m
 unfolding Holds Marked Noted
 start names roles ends marks g notes (node a f) left i e o m h k s =
     record { rest = f; before = none; held = h.4; marked = k; noted = s; same = refl }
 
-root-drawn : (G : Graph ℕ) (t : Concept) (i : ℕ) (o : Option ℕ) (m : List ℕ) (v : ℕ) → v ≡ place_of o
-    → children-drawn G t i o (set m i v) ≡ sets m i (map mark_number (shown G t o))
+root-drawn : (G : Graph ℕ) (t : Concept) (i : ℕ) (o : Option ℕ) (m : List ℕ) (v : ℕ) → v ≡ unwrap_or o 65535
+    → children-drawn G t i (place o) (set m i v) ≡ sets m i (map mark_number (shown G t (place o)))
 unfolding shown
-root-drawn G (node a f) i nowhere m v e = rw (e, add-one i)
-root-drawn G (node a f) i (some x) m v e = rw (e, add-one i)
+root-drawn G (node a f) i None m v e = rw (e, add-one i)
+root-drawn G (node a f) i (Some x) m v e = rw (e, add-one i)
 
-module _ {s : List ℕ} {items : ℕ} {index ends marks notes : List ℕ} {node left item : ℕ} (k : Drawing s items index ends marks notes node left item) where
+module _ {s : List ℕ} {items : ℕ} {index ends marks notes : List ℕ} {node left : ℕ} {item : Option ℕ} (k : Drawing s items index ends marks notes node left item) where
   pub drawing-here : (0 < left) × (node < 64) × (node < get_or ends node 0)
   drawing-here =
       let q = opened k.names k.roles ends k.tree left node (get_or ends node 0) k.posed.held in
       (q.deep, let l = q.inside in let m = k.posed.few in omega arith, q.inside)
 
-  pub drawing-fits : item < 65536
-  drawing-fits = rw k.same (place-fits items k.to k.posed.graph.most k.inside)
-
-  -- an item, where it is not nowhere
-  pub drawing-inside : (item ≡ 65535 → ⊥) → item < items
-  drawing-inside z = go k.to k.inside k.same
-    where
-      go : (o : Option ℕ) → Inside items o → item ≡ place_of o → item < items
-      go nowhere i e = absurd (z e)
-      go (some x) i e = omega arith
+  pub drawing-fits : unwrap_or item 65535 < 65536
+  drawing-fits = place-fits items item k.posed.graph.most k.inside
 
   -- the children from row c on are left, and the node goes to o
   abbrev pub Traced : List ℕ → ℕ → List ℕ → Type 0
   Traced old c new =
-      Drawn k.names k.roles ends marks k.posed.graph.register notes (left - 1) (get_or ends node 0) k.to
-      (children-drawn (walked k.posed.graph.register) k.tree node k.to old) c new
+      Drawn k.names k.roles ends marks k.posed.graph.register notes (left - 1) (get_or ends node 0) (place item)
+      (children-drawn (walked k.posed.graph.register) k.tree node (place item) old) c new
 
   pub trace-start : (m : List ℕ) → Traced m (node + 1) m
   trace-start m =
-      start k.names k.roles ends marks k.posed.graph.register notes k.tree left node (get_or ends node 0) k.to m k.posed.held k.marked k.noted
+      start k.names k.roles ends marks k.posed.graph.register notes k.tree left node (get_or ends node 0) (place item) m k.posed.held k.marked
+      (λ x e. k.noted x (is-some item x e))
 
-  pub trace-end : (m : List ℕ) (v c : ℕ) (new : List ℕ) → v ≡ item → Traced (set m node v) c new → get_or ends node 0 ≤ c
-      → new ≡ drawn k.posed.graph.register k.tree node k.to m
-  trace-end m v c new e w l = drawn-end w l ∙ root-drawn (walked k.posed.graph.register) k.tree node k.to m v (e ∙ k.same)
+  pub trace-end : (m : List ℕ) (v c : ℕ) (new : List ℕ) → v ≡ unwrap_or item 65535 → Traced (set m node v) c new → get_or ends node 0 ≤ c
+      → new ≡ drawn k.posed.graph.register k.tree node item m
+  trace-end m v c new e w l = drawn-end w l ∙ root-drawn (walked k.posed.graph.register) k.tree node item m v e
 
 -- ---- all children, one after the other
 
-module _ (s : List ℕ) (items : ℕ) (index ends marks notes : List ℕ) (node left item : ℕ) where
+module _ (s : List ℕ) (items : ℕ) (index ends marks notes : List ℕ) (node left : ℕ) (item : Option ℕ) where
   -- the children from row c on are left, and the last of all ends at row e
   pub record Walk (old : List ℕ) (e : ℕ) (new : List ℕ) (c : ℕ) : Type 0 where
     pub bytes : Bytes s
@@ -214,7 +212,7 @@ module _ (s : List ℕ) (items : ℕ) (index ends marks notes : List ℕ) (node 
     pub long : length new ≡ length old
     pub each : (k : Drawing s items index ends marks notes node left item) → Traced k old c new
 
-module _ {s : List ℕ} {items : ℕ} {index ends marks notes : List ℕ} {node left item : ℕ} {old : List ℕ} {e : ℕ} {new : List ℕ} {c : ℕ}
+module _ {s : List ℕ} {items : ℕ} {index ends marks notes : List ℕ} {node left : ℕ} {item : Option ℕ} {old : List ℕ} {e : ℕ} {new : List ℕ} {c : ℕ}
     (w : Walk s items index ends marks notes node left item old e new c) where
   abbrev Next : ℕ → List ℕ → Type 0
   Next j after = Walk s items index ends marks notes node left item old e after j
@@ -249,39 +247,33 @@ module _ {s : List ℕ} {items : ℕ} {index ends marks notes : List ℕ} {node 
     pub walk-skip : get_or marks c 0 ≡ 0 → (j : ℕ) → j ≡ get_or ends c 0 → (after : List ℕ) → length after ≡ length new → after ≡ sets new c (replicate (j - c) 65534) → Next j after
     walk-skip m j ej after size is = next j after size (λ k. drawn-is (drawn-skip (w.each k) below m j ej) is)
 
-    pub walk-onward : ((j : Judged s items index) × (length j.register.links ≤ length notes)) × (((item ≡ 65535 → ⊥) → item < items) × (c < 64))
-    walk-onward = ((w.asked.posed.graph, w.asked.places), (drawing-inside w.asked, walk-low))
+    -- where a kept child is looked for
+    pub walk-onward : (x : ℕ) → item ≡ Some x → ((j : Judged s items index) × (length j.register.links ≤ length notes)) × ((x < items) × (c < 64))
+    walk-onward x e = ((w.asked.posed.graph, w.asked.places), (let i = w.asked.inside in let h = rw e at i in h, walk-low))
 
-    -- it is kept, and goes where the notes say
-    module _ (m : get_or marks c 0 ≡ 0 → ⊥) (place : ℕ)
-        (onward : (j : Judged s items index) (o : Option ℕ) → (item ≡ 65535 → o ≡ nowhere) → ((item ≡ 65535 → ⊥) → Note j.register notes c item o) → place ≡ place_of o) where
+    -- it is kept, and goes where the notes say, or nowhere where the node does
+    module _ (m : get_or marks c 0 ≡ 0 → ⊥) (next-item : Option ℕ)
+        (onward : MatchOption item (next-item ≡ None) (λ x. (j : Judged s items index) (o : Place ℕ) → Note j.register notes c x o → place next-item ≡ o)) where
       module _ (k : Drawing s items index ends marks notes node left item) where
-        abbrev pub child : Child k.names k.roles ends marks k.posed.graph.register notes (left - 1) (get_or ends node 0) k.to
-            (children-drawn (walked k.posed.graph.register) k.tree node k.to old) c new
+        abbrev pub child : Child k.names k.roles ends marks k.posed.graph.register notes (left - 1) (get_or ends node 0) (place item)
+            (children-drawn (walked k.posed.graph.register) k.tree node (place item) old) c new
         child = drawn-child (w.each k) below m
 
         -- where it goes, and what is known there
-        pub record Going (o : Option ℕ) : Type 0 where
-          pub inside : Inside items o
-          pub lost : item ≡ 65535 → o ≡ nowhere
-          pub note : (item ≡ 65535 → ⊥) → Note k.posed.graph.register notes c item o
-          pub noted : (y : ℕ) → o ≡ some y → Noted ends marks k.posed.graph.register notes child.tree c y
+        pub record Going (p n : Option ℕ) : Type 0 where
+          pub same : place n ≡ goes_to (walked k.posed.graph.register) (place p) (get_or k.roles c 0) child.tree
+          pub inside : Inside items n
+          pub noted : (y : ℕ) → n ≡ Some y → Noted ends marks k.posed.graph.register notes child.tree c y
 
-        from : (p : Option ℕ) → Inside items p → item ≡ place_of p → k.to ≡ p → Going (goes_to (walked k.posed.graph.register) p (get_or k.roles c 0) child.tree)
+        from : (p n : Option ℕ) → item ≡ p → MatchOption p (n ≡ None) (λ x. (j : Judged s items index) (o : Place ℕ) → Note j.register notes c x o → place n ≡ o)
+            → Going p n
         unfolding goes_to
-        from nowhere i e q = record {
-          inside = tt;
-          lost = λ z. refl;
-          note = λ z. absurd (z e);
-          noted = λ y z. absurd (let x : ◌≡◌ {A = ℕ} 0 1 = cc in omega arith);
+        from None n q e = rw e (record { same = refl; inside = tt; noted = λ y z. absurd (let x : ◌≡◌ {A = ℕ} 0 1 = cc in omega arith) })
+        from (Some x) n q h = record {
+          same = goes ∙ sym (goes_some (walked k.posed.graph.register) x (get_or k.roles c 0) child.tree);
+          inside = stays n goes;
+          noted = λ y z. there.1 y (pick_some v ys y (sym goes ∙ ap place z)).0;
         }
-        from (some x) i e q =
-            rw (goes_some (walked k.posed.graph.register) x (get_or k.roles c 0) child.tree) (record {
-              inside = stays (pick v ys) refl;
-              lost = λ z. absurd (let y : item ≡ 65535 = z in let r = k.posed.graph.most in omega arith);
-              note = λ z. subst (λ (y : ℕ). Note k.posed.graph.register notes c y (pick v ys)) (sym e) (child.noted x q).0;
-              noted = λ y z. (child.noted x q).1 y (pick_some v ys y z).0;
-            })
           where
             v : ℕ → ℕ
             v y = degree_in (walked k.posed.graph.register) child.tree y
@@ -289,14 +281,19 @@ module _ {s : List ℕ} {items : ℕ} {index ends marks notes : List ℕ} {node 
             ys : List ℕ
             ys = (walked k.posed.graph.register).next x (get_or k.roles c 0)
 
-            stays : (p : Option ℕ) → pick v ys ≡ p → Inside items p
-            stays nowhere z = tt
-            stays (some y) z = next-inside k.posed.graph w.bytes x (get_or k.roles c 0) y (pick_some v ys y z).0
+            there = child.noted x (ap place q)
 
-        pub going : Going (goes_to (walked k.posed.graph.register) k.to (get_or k.roles c 0) child.tree)
-        going = from k.to k.inside k.same refl
+            goes : place n ≡ pick v ys
+            goes = h k.posed.graph (pick v ys) there.0
 
-        abbrev pub child-of : Drawing s items index ends marks notes c (left - 1) place
+            stays : (r : Option ℕ) → place r ≡ pick v ys → Inside items r
+            stays None z = tt
+            stays (Some y) z = next-inside k.posed.graph w.bytes x (get_or k.roles c 0) y (pick_some v ys y (sym z)).0
+
+        pub going : Going item next-item
+        going = from item next-item refl onward
+
+        abbrev pub child-of : Drawing s items index ends marks notes c (left - 1) next-item
         child-of = record {
           names = k.names;
           roles = k.roles;
@@ -304,24 +301,28 @@ module _ {s : List ℕ} {items : ℕ} {index ends marks notes : List ℕ} {node 
           posed = record { graph = k.posed.graph; held = child.held; few = le_trans inside.1 k.posed.few };
           marked = child.marked;
           places = k.places;
-          to = goes_to (walked k.posed.graph.register) k.to (get_or k.roles c 0) child.tree;
           inside = going.inside;
-          same = onward k.posed.graph _ going.lost going.note;
           noted = going.noted;
         }
 
-      pub walk-child : Drawing s items index ends marks notes c (left - 1) place × (get_or ends c 0 ≤ length new)
+      pub walk-child : Drawing s items index ends marks notes c (left - 1) next-item × (get_or ends c 0 ≤ length new)
       walk-child = (child-of w.asked, (walk_rows _ refl).1)
 
       pub walk-next : (j : ℕ) → j ≡ get_or ends c 0 → (after : List ℕ) → length after ≡ length new
-          → ((k : Drawing s items index ends marks notes c (left - 1) place) → after ≡ drawn k.posed.graph.register k.tree c k.to new) → Next j after
+          → ((k : Drawing s items index ends marks notes c (left - 1) next-item) → after ≡ drawn k.posed.graph.register k.tree c next-item new) → Next j after
       walk-next j ej after size shows =
-          next j after size (λ k. drawn-is ((child k).then j ej) (shows (child-of k)))
+          next j after size (λ k. drawn-is ((child k).then j ej)
+          (shows (child-of k) ∙ ap (λ (o : Place ℕ). sets new c (map mark_number (shown (walked k.posed.graph.register) (child k).tree o))) (going k).same))
 
 -- ---- a dropped child
 
-pub fill_step : (m : List ℕ) (i to v : ℕ) → i < to → v ≡ 65534 → sets (set m i v) (i + 1) (replicate (to - (i + 1)) 65534) ≡ sets m i (replicate (to - i) 65534)
-fill_step m i to v l ev = let e : to - i ≡ suc (to - (i + 1)) = omega arith in rw (ev, e, add-one i)
-
-pub fill_end : (m : List ℕ) (i to : ℕ) → to ≤ i → sets m i (replicate (to - i) 65534) ≡ m
-fill_end m i to l = let e : to - i ≡ 0 = omega arith in rw e
+pub part-filled : (a b v : ℕ) (m part : List ℕ) → a ≤ b → b ≤ length m → part ≡ replicate (length (take (b - a) (drop a m))) v
+    → take a m ++ (part ++ drop (b - a) (drop a m)) ≡ sets m a (replicate (b - a) v)
+part-filled a b v m part l r e =
+    let long : length (take (b - a) (drop a m)) ≡ b - a = length-take-le (b - a) (drop a m) (omega (arith, length-drop a m)) in
+    let is : part ≡ replicate (b - a) v = e ∙ ap (λ (k : ℕ). replicate k v) long in
+    let size : length (replicate (b - a) v) ≡ b - a = length-replicate (b - a) v in
+    let behind : drop (b - a) (drop a m) ≡ drop (a + length (replicate (b - a) v)) m =
+    drop-drop (b - a) a m ∙ ap (λ (k : ℕ). drop k m) (omega arith) in
+    ap₂ (λ (p q : List ℕ). take a m ++ (p ++ q)) is behind ∙ sym (append_assoc (take a m) (replicate (b - a) v) _)
+    ∙ sym (sets-eq (replicate (b - a) v) m a (omega arith))

@@ -1,7 +1,7 @@
 -- What is answered and drawn, in meaning's words.
 -- Assumes nothing.
-use Rattle.std.specs.Prelude.{◌≡◌, List, map, ℕ, ◌≤◌, ◌<◌, length}
-use Rattle.std.proofs.Math.Option.{Option, some, none as nowhere}
+use Rattle.std.specs.Prelude.{◌≡◌, List, map, Option, Some, None, ℕ, ◌≤◌, ◌<◌, length}
+use Rattle.std.proofs.Math.Option.{Option as Place, some, none as nowhere}
 use Rattle.std.proofs.lemmas.List.Edits.{sets}
 use Rattle.meaning.specs.Tree.{Concept}
 use Rattle.meaning.specs.Register.{Register}
@@ -10,18 +10,23 @@ use Rattle.meaning.specs.InPlace.{scale_in, degree_in}
 use Rattle.meaning.specs.Rows.{Marked}
 use Rattle.meaning.specs.Shown.{shown, mark_number}
 use Rattle.graph.specs.Judged.{Judged}
-use Rattle.graph.specs.Posed.{Posed, place_of}
+use Rattle.graph.specs.Posed.{Posed}
 use Rattle.degrees.specs.Notes.{Noted}
 use Rattle.shown.specs.declared.Degree.{Degree}
 
+-- an item or none, in meaning's words
+abbrev pub place : Option ℕ → Place ℕ
+place None = nowhere
+place (Some x) = some x
+
 -- one of so many items, where it is one
 abbrev pub Inside : ℕ → Option ℕ → Type 0
-Inside items nowhere = Unit {0}
-Inside items (some x) = x < items
+Inside items None = Unit {0}
+Inside items (Some x) = x < items
 
 -- the map with what is shown for a tree from a row on, whose root goes to o
 abbrev pub drawn : Register → Concept → ℕ → Option ℕ → List ℕ → List ℕ
-drawn g t row o m = sets m row (map mark_number (shown (walked g) t o))
+drawn g t row o m = sets m row (map mark_number (shown (walked g) t (place o)))
 
 -- the degree of item x
 pub record Graded (g : Register) (t : Concept) (x : ℕ) (d : Degree) : Type 0 where
@@ -29,14 +34,12 @@ pub record Graded (g : Register) (t : Concept) (x : ℕ) (d : Degree) : Type 0 w
   pub scale : d.scale ≡ scale_in t
 
 -- What is to be drawn: rows that hold a tree, whose root goes to an item or nowhere, and notes for all links that say where its kept nodes go.
-pub record Drawing (s : List ℕ) (items : ℕ) (index ends marks notes : List ℕ) (node left item : ℕ) : Type 0 where
+pub record Drawing (s : List ℕ) (items : ℕ) (index ends marks notes : List ℕ) (node left : ℕ) (item : Option ℕ) : Type 0 where
   pub names : List ℕ
   pub roles : List ℕ
   pub tree : Concept
   pub posed : Posed (Judged s items index) names roles ends tree node left
   pub marked : Marked ends marks tree node
   pub places : length posed.graph.register.links ≤ length notes
-  pub to : Option ℕ
-  pub inside : Inside items to
-  pub same : item ≡ place_of to
-  pub noted : (x : ℕ) → to ≡ some x → Noted ends marks posed.graph.register notes tree node x
+  pub inside : Inside items item
+  pub noted : (x : ℕ) → item ≡ Some x → Noted ends marks posed.graph.register notes tree node x

@@ -1,69 +1,39 @@
 // The degree of one item in a concept tree that is held as rows, over a register image that was read; and the map shown for it.
 #![tactic(auto)]
 
-ghost use Rattle.std.specs.Prelude.{◌≡◌, ℕ, ◌+◌, ◌-◌, ◌≤◌, ◌<◌, length, get_or, replicate};
-ghost use Rattle.std.proofs.Math.Option.{Option, some, none as nowhere};
-ghost use Rattle.std.proofs.lemmas.List.Edits.{sets as stored};
+ghost use Rattle.std.specs.Prelude.{◌≡◌, Some, ℕ, ◌+◌, ◌≤◌, ◌<◌, length, get_or};
+ghost use Rattle.std.proofs.Math.Option.{Option as Place};
 ghost use Rattle.register.specs.Image.{OfSize};
 ghost use Rattle.graph.specs.Judged.{Judged};
 ghost use Rattle.degrees.specs.Gradable.{Gradable};
 ghost use Rattle.degrees.specs.Notes.{Note, Noted, Clear};
-ghost use Rattle.graph.specs.Posed.{place_of};
-ghost use Rattle.shown.specs.Given.{drawn, Graded, Drawing};
+ghost use Rattle.shown.specs.Given.{place, drawn, Graded, Drawing};
 
 use fields::bits;
 use graph::sets;
 
 // A degree: a whole number over a scale.
-#[derive(Drop)]
+#[derive(Clone, Copy, Debug, PartialEq, Eq)]
 pub struct Degree {
     pub number: u64,
     pub scale: u64,
 }
 
-// Where the child at a node goes whose parent goes to `item`: along the link of the item that is noted for it; 65535 where none is.
-fn found(s: &[u8], items: usize, index: &[u16], item: usize, node: usize, notes: &[u64]) -> usize
+// Where the child at a node goes whose parent goes to `item`: along the link of the item that is noted for it; nowhere where none is.
+fn found(s: &[u8], items: usize, index: &[u16], item: usize, node: usize, notes: &[u64]) -> Option<usize>
     requires links_in_bounds { (j : Judged s.now items index.now) × (length j.register.links ≤ length notes.now) }
     requires item_lt { (item < items) × (node < 64) }
-    ensures { (j : Judged s.now items index.now) (o : Option ℕ) → Note j.register notes.now node item o → result ≡ place_of o }
+    ensures { (j : Judged s.now items index.now) (o : Place ℕ) → Note j.register notes.now node item o → place result ≡ o }
 {
-    let end = fields::pair(index[item + 1]);
-    let mut k = fields::pair(index[item]);
-    while k < end {
+    for k in usize::from(index[item])..usize::from(index[item + 1]) {
         if bits::on(notes[k], node) {
-            return graph::end_of(s, items, k);
+            return Some(graph::end_of(s, items, k));
         }
-        k += 1;
     }
-    meaning::NOWHERE
+    None
 }
 
-// The same where the parent may go nowhere.
-fn onward(s: &[u8], items: usize, index: &[u16], item: usize, node: usize, notes: &[u64]) -> usize
-    requires links_in_bounds { (j : Judged s.now items index.now) × (length j.register.links ≤ length notes.now) }
-    requires item_lt { ((item ≡ 65535 → ⊥) → item < items) × (node < 64) }
-    ensures { (j : Judged s.now items index.now) (o : Option ℕ) → (item ≡ 65535 → o ≡ nowhere)
-        → ((item ≡ 65535 → ⊥) → Note j.register notes.now node item o) → result ≡ place_of o }
-{
-    if item == meaning::NOWHERE {
-        return meaning::NOWHERE;
-    }
-    found(s, items, index, item, node, notes)
-}
-
-// The map says "dropped" from one row up to another.
-fn fill_dropped(map: &mut [u16], from: usize, to: usize)
-    requires { (from ≤ to) × (to ≤ length map.old) }
-    ensures { map.new ≡ stored map.old from (replicate (to - from) 65534) }
-{
-    let mut i = from;
-    while i < to {
-        map[i] = 65534;
-        i += 1;
-    }
-}
-
-// Writes the map of the tree at a node that goes to `item`, or nowhere where that is 65535: its own place, then each child's.
+// Writes the map of the tree at a node that goes to `item`, or nowhere where that is none: its own place, then each child's.
 pub fn show(
     s: &[u8],
     items: usize,
@@ -73,25 +43,25 @@ pub fn show(
     notes: &[u64],
     node: usize,
     left: usize,
-    item: usize,
+    item: Option<usize>,
     map: &mut [u16],
 )
     requires drawing { Drawing s.now items index.now ends.now marks.now notes.now node left item }
     requires node_in_bounds { get_or ends.now node 0 ≤ length map.old }
     ensures { (k : Drawing s.now items index.now ends.now marks.now notes.now node left item)
-        → map.new ≡ drawn k.posed.graph.register k.tree node k.to map.old }
+        → map.new ≡ drawn k.posed.graph.register k.tree node item map.old }
 {
-    map[node] = item as u16;
-    let e = fields::octet(ends[node]);
+    map[node] = item.unwrap_or(meaning::NOWHERE) as u16;
+    let e = usize::from(ends[node]);
     let mut c = node + 1;
     while c < e {
         let at = c;
-        c = fields::octet(ends[at]);
+        c = usize::from(ends[at]);
         if marks[at] == 0 {
-            fill_dropped(map, at, c);
+            map[at..c].fill(meaning::DROPPED as u16);
             continue;
         }
-        let next = onward(s, items, index, item, at, notes);
+        let next = item.and_then(|x| found(s, items, index, x, at, notes));
         show(s, items, index, ends, marks, notes, at, left - 1, next, map);
     }
 }
@@ -135,7 +105,7 @@ fn graded(
         &mut numbers[..3584],
     );
     Degree {
-        number: fields::quad(numbers[folds::ROW + item]),
+        number: u64::from(numbers[folds::ROW + item]),
         scale,
     }
 }
@@ -176,57 +146,6 @@ pub fn degree_at(
     )
 }
 
-// The degree of one item in the tree at a node, and its map, with notes that are lent, empty and enough for all links.
-fn drawn_with(
-    s: &[u8],
-    items: usize,
-    links: usize,
-    names: &[u64; 64],
-    roles: &[u8; 64],
-    ends: &[u8; 64],
-    marks: &[u8; 64],
-    node: usize,
-    left: usize,
-    item: usize,
-    notes: &mut [u64],
-    map: &mut [u16],
-) -> Degree
-    requires gradable { Gradable (OfSize s.now items links) names.now roles.now ends.now marks.now node left }
-    requires node_in_bounds { (get_or ends.now node 0 ≤ length map.old) × (item < items) }
-    requires links_in_bounds { (links ≤ length notes.old) × ((k : ℕ) → get_or notes.old k 0 ≡ 0) }
-    ensures { (k : Gradable (OfSize s.now items links) names.now roles.now ends.now marks.now node left)
-        → Graded k.posed.graph.register k.tree item result × (map.new ≡ drawn k.posed.graph.register k.tree node (some item) map.old) }
-{
-    let mut index = [0u16; graph::INDEX];
-    graph::fill_index(s, items, links, &mut index[..graph::INDEX]);
-    let d = graded(
-        s,
-        items,
-        &index[..graph::INDEX],
-        names,
-        roles,
-        ends,
-        marks,
-        node,
-        left,
-        item,
-        notes,
-    );
-    show(
-        s,
-        items,
-        &index[..graph::INDEX],
-        ends,
-        marks,
-        notes,
-        node,
-        left,
-        item,
-        map,
-    );
-    d
-}
-
 // The degree of one item in the tree at a node, and its map. Only as many notes are made as a register of its size wants.
 pub fn shown_at(
     s: &[u8],
@@ -244,25 +163,23 @@ pub fn shown_at(
     requires gradable { Gradable (OfSize s.now items links) names.now roles.now ends.now marks.now node left }
     requires node_in_bounds { (get_or ends.now node 0 ≤ length map.old) × (item < items) }
     ensures { (k : Gradable (OfSize s.now items links) names.now roles.now ends.now marks.now node left)
-        → Graded k.posed.graph.register k.tree item result × (map.new ≡ drawn k.posed.graph.register k.tree node (some item) map.old) }
+        → Graded k.posed.graph.register k.tree item result × (map.new ≡ drawn k.posed.graph.register k.tree node (Some item) map.old) }
 {
-    if links <= 512 {
-        return shown_small(
+    match links {
+        0..=512 => shown_in::<512>(
             s, items, links, names, roles, ends, marks, node, left, item, map,
-        );
-    }
-    if links <= 2048 {
-        return shown_middle(
+        ),
+        513..=2048 => shown_in::<2048>(
             s, items, links, names, roles, ends, marks, node, left, item, map,
-        );
+        ),
+        _ => shown_in::<4096>(
+            s, items, links, names, roles, ends, marks, node, left, item, map,
+        ),
     }
-    shown_large(
-        s, items, links, names, roles, ends, marks, node, left, item, map,
-    )
 }
 
-// The same in a register of at most 512 links.
-fn shown_small(
+// The same in a register of at most N links.
+fn shown_in<const N: usize>(
     s: &[u8],
     items: usize,
     links: usize,
@@ -276,15 +193,18 @@ fn shown_small(
     map: &mut [u16],
 ) -> Degree
     requires gradable { Gradable (OfSize s.now items links) names.now roles.now ends.now marks.now node left }
-    requires node_in_bounds { (get_or ends.now node 0 ≤ length map.old) × (item < items) × (links ≤ 512) }
+    requires node_in_bounds { (get_or ends.now node 0 ≤ length map.old) × (item < items) }
+    requires links_in_bounds { links ≤ N }
     ensures { (k : Gradable (OfSize s.now items links) names.now roles.now ends.now marks.now node left)
-        → Graded k.posed.graph.register k.tree item result × (map.new ≡ drawn k.posed.graph.register k.tree node (some item) map.old) }
+        → Graded k.posed.graph.register k.tree item result × (map.new ≡ drawn k.posed.graph.register k.tree node (Some item) map.old) }
 {
-    let mut notes = [0u64; 512];
-    drawn_with(
+    let mut index = [0u16; graph::INDEX];
+    graph::fill_index(s, items, links, &mut index[..graph::INDEX]);
+    let mut notes = [0u64; N];
+    let d = graded(
         s,
         items,
-        links,
+        &index[..graph::INDEX],
         names,
         roles,
         ends,
@@ -292,79 +212,19 @@ fn shown_small(
         node,
         left,
         item,
-        &mut notes[..512],
-        map,
-    )
-}
-
-// The same in a register of at most 2048 links.
-fn shown_middle(
-    s: &[u8],
-    items: usize,
-    links: usize,
-    names: &[u64; 64],
-    roles: &[u8; 64],
-    ends: &[u8; 64],
-    marks: &[u8; 64],
-    node: usize,
-    left: usize,
-    item: usize,
-    map: &mut [u16],
-) -> Degree
-    requires gradable { Gradable (OfSize s.now items links) names.now roles.now ends.now marks.now node left }
-    requires node_in_bounds { (get_or ends.now node 0 ≤ length map.old) × (item < items) × (links ≤ 2048) }
-    ensures { (k : Gradable (OfSize s.now items links) names.now roles.now ends.now marks.now node left)
-        → Graded k.posed.graph.register k.tree item result × (map.new ≡ drawn k.posed.graph.register k.tree node (some item) map.old) }
-{
-    let mut notes = [0u64; 2048];
-    drawn_with(
+        &mut notes[..N],
+    );
+    show(
         s,
         items,
-        links,
-        names,
-        roles,
+        &index[..graph::INDEX],
         ends,
         marks,
+        &notes[..N],
         node,
         left,
-        item,
-        &mut notes[..2048],
+        Some(item),
         map,
-    )
-}
-
-// The same in a register of at most 4096 links.
-fn shown_large(
-    s: &[u8],
-    items: usize,
-    links: usize,
-    names: &[u64; 64],
-    roles: &[u8; 64],
-    ends: &[u8; 64],
-    marks: &[u8; 64],
-    node: usize,
-    left: usize,
-    item: usize,
-    map: &mut [u16],
-) -> Degree
-    requires gradable { Gradable (OfSize s.now items links) names.now roles.now ends.now marks.now node left }
-    requires node_in_bounds { (get_or ends.now node 0 ≤ length map.old) × (item < items) × (links ≤ 4096) }
-    ensures { (k : Gradable (OfSize s.now items links) names.now roles.now ends.now marks.now node left)
-        → Graded k.posed.graph.register k.tree item result × (map.new ≡ drawn k.posed.graph.register k.tree node (some item) map.old) }
-{
-    let mut notes = [0u64; 4096];
-    drawn_with(
-        s,
-        items,
-        links,
-        names,
-        roles,
-        ends,
-        marks,
-        node,
-        left,
-        item,
-        &mut notes[..4096],
-        map,
-    )
+    );
+    d
 }
