@@ -3,7 +3,7 @@
 use mathlib.Core.Path.{◌≡◌, refl, sym, ap, ◌∙◌}
 use mathlib.Core.Bool.{Bool, true, false}
 use mathlib.Core.List.{List}
-use mathlib.Core.Option.{some}
+use Rattle.std.specs.Prelude.{Some}
 use Prim.Native.Nat.{ℕ, ◌≤◌, ◌<◌}
 use native.Mathlib.Omega.{arith}
 use lib.Dec.{eqb}
@@ -65,10 +65,10 @@ module _ {s : List ℕ} {items links : ℕ} {names roles ends marks : List ℕ} 
     graded-of = let w : Graded j.register k.tree item d = (done with-index).0 in rw same at w
 
     module _ (l : item < items) (places : links ≤ length notes) where
-      pub noted : (x : ℕ) → some item ≡ some x → Noted ends marks j.register notes k.tree node x
+      pub noted : (x : ℕ) → Some item ≡ Some x → Noted ends marks j.register notes k.tree node x
       noted x e = let z : item ≡ x = cc in rw (← z) (done with-index).1
 
-      abbrev pub drawing-of : Drawing s items index ends marks notes node left item
+      abbrev pub drawing-of : Drawing s items index ends marks notes node left (Some item)
       drawing-of = record {
         names = names;
         roles = roles;
@@ -76,12 +76,10 @@ module _ {s : List ℕ} {items links : ℕ} {names roles ends marks : List ℕ} 
         posed = posed-of;
         marked = k.marked;
         places = rw same (omega (arith, k.posed.graph.holds.1));
-        to = some item;
         inside = l;
-        same = refl;
         noted = noted;
       }
 
-      pub drawn-of : (old new : List ℕ) → ((i : Drawing s items index ends marks notes node left item) → new ≡ drawn i.posed.graph.register i.tree node i.to old)
-          → new ≡ drawn k.posed.graph.register k.tree node (some item) old
-      drawn-of old new shows = shows drawing-of ∙ ap (λ (g : Register). drawn g k.tree node (some item) old) same
+      pub drawn-of : (old new : List ℕ) → ((i : Drawing s items index ends marks notes node left (Some item)) → new ≡ drawn i.posed.graph.register i.tree node (Some item) old)
+          → new ≡ drawn k.posed.graph.register k.tree node (Some item) old
+      drawn-of old new shows = shows drawing-of ∙ ap (λ (g : Register). drawn g k.tree node (Some item) old) same

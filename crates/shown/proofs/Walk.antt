@@ -11,7 +11,7 @@ use native.Mathlib.Numerals.{add-one}
 use native.Mathlib.Omega.{arith}
 use lib.ListN.{length, get_or, set, replicate, take, drop, length-map, length-replicate, length-drop}
 use lib.Dec.{lit≤}
-use lib.Seq.{sets, length-take-le, drop-drop, sets-eq}
+use lib.Seq.{sets, length-sets, length-take-le, drop-drop, sets-eq}
 use Rattle.std.proofs.lemmas.List.{append_assoc}
 use Rattle.meaning.specs.Bytes.{Bytes}
 use Rattle.meaning.specs.Tree.{node, Forest, none, more, Concept, children, under, nodes}
@@ -244,8 +244,8 @@ module _ {s : List ℕ} {items : ℕ} {index ends marks notes : List ℕ} {node 
     }
 
     -- the child is dropped
-    pub walk-skip : get_or marks c 0 ≡ 0 → (j : ℕ) → j ≡ get_or ends c 0 → (after : List ℕ) → length after ≡ length new → after ≡ sets new c (replicate (j - c) 65534) → Next j after
-    walk-skip m j ej after size is = next j after size (λ k. drawn-is (drawn-skip (w.each k) below m j ej) is)
+    pub walk-skip : get_or marks c 0 ≡ 0 → (j : ℕ) → j ≡ get_or ends c 0 → (after : List ℕ) → after ≡ sets new c (replicate (j - c) 65534) → Next j after
+    walk-skip m j ej after is = next j after (ap length is ∙ length-sets new c (replicate (j - c) 65534)) (λ k. drawn-is (drawn-skip (w.each k) below m j ej) is)
 
     -- where a kept child is looked for
     pub walk-onward : (x : ℕ) → item ≡ Some x → ((j : Judged s items index) × (length j.register.links ≤ length notes)) × ((x < items) × (c < 64))
@@ -281,6 +281,7 @@ module _ {s : List ℕ} {items : ℕ} {index ends marks notes : List ℕ} {node 
             ys : List ℕ
             ys = (walked k.posed.graph.register).next x (get_or k.roles c 0)
 
+            there : Note k.posed.graph.register notes c x (pick v ys) × ((y : ℕ) → Memᴰ y ys → Noted ends marks k.posed.graph.register notes child.tree c y)
             there = child.noted x (ap place q)
 
             goes : place n ≡ pick v ys

@@ -3,6 +3,7 @@
 
 ghost use Rattle.std.specs.Prelude.{◌≡◌, Some, ℕ, ◌+◌, ◌≤◌, ◌<◌, length, get_or};
 ghost use Rattle.std.proofs.Math.Option.{Option as Place};
+ghost use Rattle.meaning.specs.Bounds.{most_links};
 ghost use Rattle.register.specs.Image.{OfSize};
 ghost use Rattle.graph.specs.Judged.{Judged};
 ghost use Rattle.degrees.specs.Gradable.{Gradable};
@@ -194,7 +195,7 @@ fn shown_in<const N: usize>(
 ) -> Degree
     requires gradable { Gradable (OfSize s.now items links) names.now roles.now ends.now marks.now node left }
     requires node_in_bounds { (get_or ends.now node 0 ≤ length map.old) × (item < items) }
-    requires links_in_bounds { links ≤ N }
+    requires links_in_bounds { (links ≤ N) × (N ≤ most_links) }
     ensures { (k : Gradable (OfSize s.now items links) names.now roles.now ends.now marks.now node left)
         → Graded k.posed.graph.register k.tree item result × (map.new ≡ drawn k.posed.graph.register k.tree node (Some item) map.old) }
 {

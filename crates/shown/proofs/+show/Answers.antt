@@ -1,13 +1,10 @@
 use native.Mathlib.Omega.{arith}
 use mathlib.Core.Path.{refl, ◌∙◌}
 use lib.ListN.{length-set}
+use Rattle.std.proofs.Common.{rules}
 use Rattle.fields.proofs.Known.{bytes-known}
-use Rattle.shown.proofs.Walk.{drawing-here, drawing-fits, trace-start, trace-end, walk-low, walk-less, walk_rows, walk-skip, walk-onward, walk-child, walk-next}
+use Rattle.shown.proofs.Walk.{drawing-here, part-filled, trace-start, trace-end, walk-low, walk-less, walk_rows, walk-skip, walk-onward, walk-child, walk-next}
 use Rattle.shown.proofs.+show.Goals as goal
-
-pub overflow_cast-map : goal.overflow_cast-map
-overflow_cast-map t c =
-    omega (arith, drawing-fits c.requires.drawing)
 
 pub offset_bounds-map-node : goal.offset_bounds-map-node
 offset_bounds-map-node t c =
@@ -30,65 +27,57 @@ loop-c-init t c =
     record {
       bytes = bytes-known c.args.s.now c.shared_slice_known-1.given;
       asked = c.requires.drawing;
-      ended = c.octet-e.ensures.value;
-      room = omega (arith, c.octet-e.ensures.value, c.requires.node_in_bounds, length-set c.args.map.now c.args.node c.args.item);
+      ended = c.from-e.ensures;
+      room = omega (arith, c.from-e.ensures, c.requires.node_in_bounds, length-set c.args.map.now c.args.node c.unwrap_or.result);
       long = refl;
       each = λ k. trace-start k _;
     }
 
-pub bounds-ends-at : goal.bounds-ends-at
-bounds-ends-at t c =
-    omega (arith, walk-low c.loop-c.invariant c.loop-c-test.true)
+pub slice_bounds-fill-count : goal.slice_bounds-fill-count
+slice_bounds-fill-count t c =
+    omega (arith, walk_rows c.loop-c.invariant c.loop-c-test.true _ c.from-c.ensures)
 
-pub bounds-marks-at : goal.bounds-marks-at
-bounds-marks-at t c =
-    omega (arith, walk-low c.loop-c.invariant c.loop-c-test.true)
+pub slice_bounds-fill-start : goal.slice_bounds-fill-start
+slice_bounds-fill-start t c =
+    omega (arith, walk_rows c.loop-c.invariant c.loop-c-test.true _ c.from-c.ensures)
 
-pub fill_dropped-requires : goal.fill_dropped-requires
-fill_dropped-requires t c =
-    walk_rows c.loop-c.invariant c.loop-c-test.true _ c.octet-c.ensures.value
+pub slice_bounds-fill-end : goal.slice_bounds-fill-end
+slice_bounds-fill-end t c =
+    omega (arith, walk_rows c.loop-c.invariant c.loop-c-test.true _ c.from-c.ensures)
 
 pub loop-c-smaller-then-marks-at-eq0 : goal.loop-c-smaller-then-marks-at-eq0
 loop-c-smaller-then-marks-at-eq0 t c =
-    omega (arith, walk-less c.loop-c.invariant c.loop-c-test.true _ c.octet-c.ensures.value)
+    omega (arith, walk-less c.loop-c.invariant c.loop-c-test.true _ c.from-c.ensures)
 
 pub loop-c-preserved-then-marks-at-eq0 : goal.loop-c-preserved-then-marks-at-eq0
 loop-c-preserved-then-marks-at-eq0 t c =
-    walk-skip c.loop-c.invariant c.loop-c-test.true c.if-marks-at-eq0.true _ c.octet-c.ensures.value _
-    c.fill_dropped.auto.map c.fill_dropped.ensures
+    let rows = walk_rows c.loop-c.invariant c.loop-c-test.true _ c.from-c.ensures in
+    walk-skip c.loop-c.invariant c.loop-c-test.true c.if-marks-at-eq0.true _ c.from-c.ensures _
+    (part-filled _ _ _ _ _ rows.0 rows.1 (c.fill.ensures.after (λ y e. e)))
 
-pub onward-next-requires : goal.onward-next-requires
-onward-next-requires t c =
-    let p =
-    walk-onward c.loop-c.invariant c.loop-c-test.true
-    in record {
-      links_in_bounds = p.0;
-      item_lt = p.1;
-    }
+pub and_then-next-requires : goal.and_then-next-requires
+and_then-next-requires t c = search (rules, walk-onward c.loop-c.invariant c.loop-c-test.true)
 
 pub overflow_sub-left : goal.overflow_sub-left
 overflow_sub-left t c =
-    omega (arith, (drawing-here c.loop-c.invariant.asked).0)
+    omega (arith, (drawing-here c.requires.drawing).0)
 
 pub show-requires : goal.show-requires
 show-requires t c = (
   omega (arith, (drawing-here c.requires.drawing).0),
-  walk-child c.loop-c.invariant c.loop-c-test.true c.if-marks-at-eq0.false _ c.onward-next.ensures,
+  walk-child c.loop-c.invariant c.loop-c-test.true c.if-marks-at-eq0.false _ (search rules),
 )
 
 pub loop-c-smaller : goal.loop-c-smaller
 loop-c-smaller t c =
-    omega (arith, walk-less c.loop-c.invariant c.loop-c-test.true _ c.octet-c.ensures.value)
+    omega (arith, walk-less c.loop-c.invariant c.loop-c-test.true _ c.from-c.ensures)
 
 pub loop-c-preserved : goal.loop-c-preserved
 loop-c-preserved t c =
-    walk-next c.loop-c.invariant c.loop-c-test.true c.if-marks-at-eq0.false _ c.onward-next.ensures _ c.octet-c.ensures.value
+    walk-next c.loop-c.invariant c.loop-c-test.true c.if-marks-at-eq0.false _ (search rules) _ c.from-c.ensures
     _ c.show.auto.map c.show.ensures
-
-pub shape_of-map : goal.shape_of-map
-shape_of-map t c =
-    c.loop-c.invariant.long ∙ length-set c.args.map.now c.args.node c.args.item
 
 pub returns : goal.returns
 returns t c =
-    let w = c.loop-c.invariant in λ k. trace-end k _ _ _ _ refl (w.each k) (omega (arith, c.loop-c-test.false, w.ended))
+    let w = c.loop-c.invariant in
+    λ k. trace-end k _ _ _ _ c.unwrap_or.ensures (w.each k) (omega (arith, c.loop-c-test.false, w.ended))

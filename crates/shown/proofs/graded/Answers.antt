@@ -22,7 +22,7 @@ pub returns : goal.returns
 returns c =
     λ k. let d = c.work-scale.ensures k in let m = alone-in _ c.include.new.set c.include.ensures in (
       record {
-        number = c.quad.ensures.value ∙ d.worked.each _ m;
+        number = c.from.ensures ∙ d.worked.each _ m;
         scale = d.worked.scaled;
       },
       d.noted _ m,
