@@ -7,6 +7,7 @@ use mathlib.Core.Option.{some}
 use Prim.Native.Nat.{ℕ, ◌≤◌, ◌<◌}
 use native.Mathlib.Omega.{arith}
 use lib.Dec.{ltb}
+use Rattle.std.specs.Prelude.{Option, Some, Result, Ok, Err}
 use lib.IntN.{ℤ}
 use mir.Syntax.{w64}
 use mir.Val.{SFits, to_z, of_z}
@@ -37,9 +38,7 @@ use Rattle.fractions.specs.declared.Signed.{Signed}
 use Rattle.plain.specs.declared.Both.{Both}
 use Rattle.plain.specs.declared.Both.TheVariants.{Good as GoodBoth, Refused as RefusedBoth}
 use Rattle.asking.specs.declared.Answered.{Answered}
-use Rattle.asking.specs.declared.Answered.TheVariants.{Good as GoodDegree, Refused as RefusedDegree}
 use Rattle.asking.specs.declared.Margin.{Margin}
-use Rattle.asking.specs.declared.Margin.TheVariants.{Good as GoodMargin, Refused as RefusedMargin}
 use Rattle.register.specs.Image.{Asked, OfSize, Image}
 use Rattle.graph.specs.Walked.{numbered}
 use Rattle.graph.proofs.Asked.{number-asks, number-halts}
@@ -49,7 +48,7 @@ use Rattle.meaning.specs.Bounds.{most_scale, most_q}
 use Rattle.shown.specs.Given.{drawn, Graded}
 use Rattle.plain.specs.Reading.{Rows, read_both, BothDone}
 use Rattle.plain.proofs.Known.{both_first, both-no, Known, ended}
-use Rattle.asking.specs.Answers.{Told, paper_degree, told, degree_refused, paper_margin, margin_refused}
+use Rattle.asking.specs.Answers.{Told, paper_degree, told, paper_margin}
 use Rattle.asking.specs.Refusing.{DegreePromise, MarginPromise}
 use Rattle.shown.proofs.Entry.{gradable-of, scale_small, graded-answer}
 
@@ -84,13 +83,13 @@ module _ {image message : List ℕ} {A : Rows} {b : Both} {done : BothDone image
 
 module _ (image message : List ℕ) (item : ℕ) where
   -- the answer and the lent map afterwards
-  abbrev DegreeDone : Answered → List ℕ → List ℕ → Type 0
+  abbrev DegreeDone : Result Answered Refusal → List ℕ → List ℕ → Type 0
   DegreeDone r old new = DegreePromise image message item old new r
 
-  abbrev MarginDone : ℕ → ℕ → Margin → Type 0
+  abbrev MarginDone : ℕ → ℕ → Result Margin Refusal → Type 0
   MarginDone p q r = MarginPromise image message item p q r
 
-  degree-no : (old : List ℕ) (f : Refusal) (r : Answered) → degree_call image message item (length old) ≡ refused f → r ≡ RefusedDegree f → DegreeDone r old old
+  degree-no : (old : List ℕ) (f : Refusal) (r : Result Answered Refusal) → degree_call image message item (length old) ≡ refused f → r ≡ Err f → DegreeDone r old old
   unfolding told ◌>>=◌
   degree-no old f r e is = (ap paper_degree is ∙ sym (ap told e), sym (ap (after_degree old) e))
 
@@ -105,10 +104,10 @@ module _ (image message : List ℕ) (item : ℕ) where
   module _ (A : Rows) (b : Both) (done : BothDone image message A b) where
     -- ---- refused by a reader
 
-    pub degree-stopped : (old : List ℕ) (f : Refusal) → b ≡ RefusedBoth f → DegreeDone (RefusedDegree f) old old
+    pub degree-stopped : (old : List ℕ) (f : Refusal) → b ≡ RefusedBoth f → DegreeDone (Err f) old old
     degree-stopped old f e = degree-no old f _ (degree-both (length old) ∙ stopped (read_both image message) _ f (both-no image message A b done f e)) refl
 
-    pub margin-stopped : (p q : ℕ) (f : Refusal) → b ≡ RefusedBoth f → MarginDone p q (RefusedMargin f)
+    pub margin-stopped : (p q : ℕ) (f : Refusal) → b ≡ RefusedBoth f → MarginDone p q (Err f)
     margin-stopped p q f e = sym (margin-both p q ∙ stopped (read_both image message) _ f (both-no image message A b done f e))
 
   module _ {A : Rows} {b : Both} {done : BothDone image message A b} {n m k : ℕ} {e : b ≡ GoodBoth n m k} (w : Known image message A b done n m k e) where
@@ -128,12 +127,12 @@ module _ (image message : List ℕ) (item : ℕ) where
     asks number e z = number-asks w.register item number (told_of number e) z
 
     -- 15, or 26
-    pub degree-no-item : (number : ℕ) → Tells number → (number ≡ 0 → ⊥) → (old : List ℕ) (r : Answered) → r ≡ degree_refused number → DegreeDone r old old
+    pub degree-no-item : (number : ℕ) → Tells number → (number ≡ 0 → ⊥) → (old : List ℕ) (r : Result Answered Refusal) → r ≡ Err (on_call number) → DegreeDone r old old
     degree-no-item number e d old r is =
         degree-no old _ r (degree-then (length old) ∙ asks-halts w.register item _ (number-halts w.register item number (told_of number e) d)) is
 
     -- 16
-    pub degree-no-room : Asks w.register item → (old : List ℕ) → length old < k → (r : Answered) → r ≡ degree_refused 16 → DegreeDone r old old
+    pub degree-no-room : Asks w.register item → (old : List ℕ) → length old < k → (r : Result Answered Refusal) → r ≡ Err (on_call 16) → DegreeDone r old old
     degree-no-room i old l r is =
         degree-no old _ r
         (degree-then (length old) ∙ asks-goes w.register item _ i ∙ stop (ltb (length old) (nodes w.tree)) _ _ (below (length old) _ (omega (arith, w.written)))) is
@@ -147,7 +146,7 @@ module _ (image message : List ℕ) (item : ℕ) where
 
     pub degree-answer : Asks w.register item → (old new : List ℕ) → k ≤ length old → (d : Degree) (f : Fraction) → Graded w.register w.tree item d
         → (f.num ≡ (lowest (d.number ÷ d.scale)).num) × (f.den ≡ (lowest (d.number ÷ d.scale)).den)
-        → new ≡ drawn w.register w.tree 0 (some item) old → DegreeDone (GoodDegree f.num f.den k) old new
+        → new ≡ drawn w.register w.tree 0 (Some item) old → DegreeDone (Ok (record { num = f.num; den = f.den; nodes = k })) old new
     unfolding told ◌>>=◌
     degree-answer i old new l d f h low is =
         let t = w.tree in
@@ -167,12 +166,12 @@ module _ (image message : List ℕ) (item : ℕ) where
     margin-then p q = margin-both p q ∙ took (read_both image message) _ _ w.both
 
     -- 15, or 26
-    pub margin-no-item : (number : ℕ) → Tells number → (number ≡ 0 → ⊥) → (p q : ℕ) (r : Margin) → r ≡ margin_refused number → MarginDone p q r
+    pub margin-no-item : (number : ℕ) → Tells number → (number ≡ 0 → ⊥) → (p q : ℕ) (r : Result Margin Refusal) → r ≡ Err (on_call number) → MarginDone p q r
     margin-no-item number e d p q r is =
         ap paper_margin is ∙ sym (margin-then p q ∙ asks-halts w.register item _ (number-halts w.register item number (told_of number e) d))
 
     -- what is wrong with the fraction
-    pub margin-no-threshold : Asks w.register item → (p q number : ℕ) → number ≡ wrong_with p q → (number ≡ 0 → ⊥) → (r : Margin) → r ≡ margin_refused number → MarginDone p q r
+    pub margin-no-threshold : Asks w.register item → (p q number : ℕ) → number ≡ wrong_with p q → (number ≡ 0 → ⊥) → (r : Result Margin Refusal) → r ≡ Err (on_call number) → MarginDone p q r
     margin-no-threshold i p q number says l r is =
         ap paper_margin is ∙ ap (λ (z : ℕ). refused (on_call z)) says
         ∙ sym (margin-then p q ∙ asks-goes w.register item _ i ∙ stop (not (lawful p q)) _ _ (found_some number p q says l))
@@ -196,8 +195,8 @@ module _ (image message : List ℕ) (item : ℕ) where
           (omega (arith, answered-at-most-one G t item), omega (arith, (lowest-le (degree_of G t item)).1, scale_in_lem t), fit.most, fit.small)
 
       pub margin-answer : (m : Signed) → (m.num ≡ margin (f.num ÷ f.den) (p ÷ q)) × (m.den ≡ margin_over (f.num ÷ f.den) (p ÷ q))
-          → SFits w64 m.num → MarginDone p q (GoodMargin (to_z w64 (of_z w64 m.num)) m.den)
+          → SFits w64 m.num → MarginDone p q (Ok (record { margin = to_z w64 (of_z w64 m.num); over = m.den }))
       margin-answer m is fits =
-          ap₂ (λ (x : ℤ) (y : ℕ). paper_margin (GoodMargin x y)) (to_z-of_z fits ∙ is.0) is.1
-          ∙ ap (λ (z : Frac). paper_margin (GoodMargin (margin z (p ÷ q)) (margin_over z (p ÷ q)))) (lowest-answer i d f h low)
+          ap₂ (λ (x : ℤ) (y : ℕ). paper_margin (Ok (record { margin = x; over = y }))) (to_z-of_z fits ∙ is.0) is.1
+          ∙ ap (λ (z : Frac). paper_margin (Ok (record { margin = margin z (p ÷ q); over = margin_over z (p ÷ q) }))) (lowest-answer i d f h low)
           ∙ sym (margin-then p q ∙ asks-goes w.register item _ i ∙ pass (not (lawful p q)) _ _ ok)

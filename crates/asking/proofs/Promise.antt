@@ -11,6 +11,7 @@ use Prim.Native.Nat.{ℕ, ◌≤◌, ◌∣◌}
 use native.Mathlib.Nat.{dvd_refl}
 use native.Mathlib.Omega.{arith}
 use lib.Dec.{ltb, ltb→lt}
+use Rattle.std.specs.Prelude.{Result, Ok, Err}
 use lib.IntN.{ℤ, pos, nat_abs}
 use lib.ListN.{length, length-map}
 use lib.Seq.{sets}
@@ -44,9 +45,7 @@ use Rattle.meaning.proofs.Rising.{LowestOf}
 use Rattle.meaning.proofs.Margin.{sign, margin-sign, margin-zero, margin-fits}
 use Rattle.fields.proofs.Once.{Apart, told_back, once, once-left}
 use Rattle.asking.specs.declared.Answered.{Answered}
-use Rattle.asking.specs.declared.Answered.TheVariants.{Good as GoodDegree, Refused as RefusedDegree}
 use Rattle.asking.specs.declared.Margin.{Margin}
-use Rattle.asking.specs.declared.Margin.TheVariants.{Good as GoodMargin, Refused as RefusedMargin}
 use Rattle.asking.specs.Answers.{Told, paper_degree, told, paper_margin}
 use Rattle.meaning.specs.Bounds.{most_margin}
 use Rattle.asking.specs.Refusing.{Askable, Early, concept_of, DegreeTakes, DegreeRow, earlier, no_room, DegreePromise, MarginTakes, MarginRow, before, no_threshold, MarginPromise}
@@ -55,27 +54,38 @@ use Rattle.asking.proofs.Calls.{degree_then, margin_then}
 
 -- ---- the document's words tell all results apart
 
-abbrev back_degree : Answer Told → Answered
-back_degree (good x) = GoodDegree x.degree.num x.degree.den x.places
-back_degree (refused f) = RefusedDegree f
+-- what two equal answers hold is equal
+one-answer : {A : Type 0} {x y : A} → ◌≡◌ {A = Result A Refusal} (Ok x) (Ok y) → x ≡ y
+one-answer e = cc
+
+-- a good answer to each call
+abbrev pub answer : ℕ → ℕ → ℕ → Result Answered Refusal
+answer n d k = Ok (record { num = n; den = d; nodes = k })
+
+abbrev pub offset : ℤ → ℕ → Result Margin Refusal
+offset m o = Ok (record { margin = m; over = o })
+
+abbrev back_degree : Answer Told → Result Answered Refusal
+back_degree (good x) = answer x.degree.num x.degree.den x.places
+back_degree (refused f) = Err f
 
 pub degree-told : Apart paper_degree
 degree-told = told_back paper_degree back_degree go
   where
-    go : (r : Answered) → back_degree (paper_degree r) ≡ r
-    go (GoodDegree n d k) = refl
-    go (RefusedDegree f) = refl
+    go : (r : Result Answered Refusal) → back_degree (paper_degree r) ≡ r
+    go (Ok a) = refl
+    go (Err f) = refl
 
-abbrev back_margin : Answer Against → Margin
-back_margin (good x) = GoodMargin x.margin x.over
-back_margin (refused f) = RefusedMargin f
+abbrev back_margin : Answer Against → Result Margin Refusal
+back_margin (good x) = offset x.margin x.over
+back_margin (refused f) = Err f
 
 pub margin-told : Apart paper_margin
 margin-told = told_back paper_margin back_margin go
   where
-    go : (r : Margin) → back_margin (paper_margin r) ≡ r
-    go (GoodMargin m o) = refl
-    go (RefusedMargin f) = refl
+    go : (r : Result Margin Refusal) → back_margin (paper_margin r) ≡ r
+    go (Ok m) = refl
+    go (Err f) = refl
 
 -- a fraction in lowest terms that is 1 is 1/1
 one-over-one : (d low : Frac) → Lowest d low → low.num ≡ low.den → (low.num ≡ 1) × (low.den ≡ 1)
@@ -131,13 +141,13 @@ module _ (image message : List ℕ) (item : ℕ) where
     pub whole : ((n ≡ 1) × (d ≡ 1)) ↔ WholeMap (held G) G t item
     pub places : k ≡ nodes t
 
-  module _ (old new : List ℕ) (r : Answered) (h : DegreePromise image message item old new r) where
-    row-result : (f : Refusal) → DegreeRow image message item (length old) f → r ≡ RefusedDegree f
+  module _ (old new : List ℕ) (r : Result Answered Refusal) (h : DegreePromise image message item old new r) where
+    row-result : (f : Refusal) → DegreeRow image message item (length old) f → r ≡ Err f
     unfolding told ◌>>=◌
-    row-result f x = degree-told r (RefusedDegree f) (h.0 ∙ ap told (degree-row (length old) f x))
+    row-result f x = degree-told r (Err f) (h.0 ∙ ap told (degree-row (length old) f x))
 
     taken-result : (x : DegreeTakes image message item (length old))
-        → r ≡ GoodDegree (found (length old) x.asked).degree.num (found (length old) x.asked).degree.den (nodes (concept_of x.asked))
+        → r ≡ answer (found (length old) x.asked).degree.num (found (length old) x.asked).degree.den (nodes (concept_of x.asked))
     unfolding told ◌>>=◌
     taken-result x =
         let G = judged x.asked.readable.register in
@@ -146,25 +156,25 @@ module _ (image message : List ℕ) (item : ℕ) where
         degree-told r _ (h.0 ∙ ap told (degree-taken (length old) x) ∙ ap (λ (k : ℕ). good (record { degree = answered G t item; places = k })) places)
 
     -- it is refused exactly when a row of the table holds, and then with that row's number and place; and the map is untouched
-    pub refused-exactly : (f : Refusal) → (r ≡ RefusedDegree f) ↔ DegreeRow image message item (length old) f
+    pub refused-exactly : (f : Refusal) → (r ≡ Err f) ↔ DegreeRow image message item (length old) f
     refused-exactly f = (λ e. go e (degree-either (length old)), row-result f)
       where
-        go : r ≡ RefusedDegree f → ((f' : Refusal) × DegreeRow image message item (length old) f') ⊎ DegreeTakes image message item (length old)
+        go : r ≡ Err f → ((f' : Refusal) × DegreeRow image message item (length old) f') ⊎ DegreeTakes image message item (length old)
             → DegreeRow image message item (length old) f
         go e (inl x) =
-            let z : RefusedDegree x.0 ≡ RefusedDegree f = sym (row-result x.0 x.1) ∙ e in
+            let z : Err x.0 ≡ Err f = sym (row-result x.0 x.1) ∙ e in
             let y : x.0 ≡ f = cc in
             subst (DegreeRow image message item (length old)) y x.1
         go e (inr x) = let z = sym (taken-result x) ∙ e in let y : ◌≡◌ {A = ℕ} 0 1 = cc in absurd (omega arith)
 
-    pub refused-keeps : (f : Refusal) → r ≡ RefusedDegree f → new ≡ old
+    pub refused-keeps : (f : Refusal) → r ≡ Err f → new ≡ old
     refused-keeps f e = h.1 ∙ ap (after_degree old) (degree-row (length old) f ((refused-exactly f).0 e))
 
     -- and taken exactly when none does
-    pub good-exactly : ((n : ℕ) × (d : ℕ) × (k : ℕ) × (r ≡ GoodDegree n d k)) ↔ DegreeTakes image message item (length old)
+    pub good-exactly : ((n : ℕ) × (d : ℕ) × (k : ℕ) × (r ≡ answer n d k)) ↔ DegreeTakes image message item (length old)
     good-exactly = (λ x. go x.3 (degree-either (length old)), λ x. (_, _, _, taken-result x))
       where
-        go : {n d k : ℕ} → r ≡ GoodDegree n d k → ((f : Refusal) × DegreeRow image message item (length old) f) ⊎ DegreeTakes image message item (length old)
+        go : {n d k : ℕ} → r ≡ answer n d k → ((f : Refusal) × DegreeRow image message item (length old) f) ⊎ DegreeTakes image message item (length old)
             → DegreeTakes image message item (length old)
         go e (inl x) = let z = sym (row-result x.0 x.1) ∙ e in let y : ◌≡◌ {A = ℕ} 0 1 = cc in absurd (omega arith)
         go e (inr x) = x
@@ -181,11 +191,11 @@ module _ (image message : List ℕ) (item : ℕ) where
       graph-says = judged-is x.asked.readable.register
 
       -- "The degree is the greatest root value over all partial maps", "answered in lowest terms", and 1/1 exactly when a whole map exists
-      pub degree-says : (n d k : ℕ) → r ≡ GoodDegree n d k → DegreeSays G t n d k
+      pub degree-says : (n d k : ℕ) → r ≡ answer n d k → DegreeSays G t n d k
       degree-says n d k e =
-          let z : GoodDegree (answered G t item).num (answered G t item).den (nodes t) ≡ GoodDegree n d k = sym (taken-result x) ∙ e in
-          let a : (answered G t item).num ≡ n = cc in
-          let b : (answered G t item).den ≡ d = cc in
+          let z : answer (answered G t item).num (answered G t item).den (nodes t) ≡ answer n d k = sym (taken-result x) ∙ e in
+          let a : (answered G t item).num ≡ n = ap (λ (v : Answered). v.num) (one-answer z) in
+          let b : (answered G t item).den ≡ d = ap (λ (v : Answered). v.den) (one-answer z) in
           let same : answered G t item ≡ n ÷ d = ap₂ ◌÷◌ a b in
           let low : Lowest (degree_of G t item) (n ÷ d) = subst (Lowest (degree_of G t item)) same (answered-lowest G t item) in
           record {
@@ -195,7 +205,7 @@ module _ (image message : List ℕ) (item : ℕ) where
               (λ o. (answered-one G t item).0 (a ∙ o.0 ∙ sym o.1 ∙ sym b)),
               (λ m. one-over-one (degree_of G t item) (n ÷ d) low (sym a ∙ (answered-one G t item).1 m ∙ b)),
             );
-            places = cc;
+            places = sym (ap (λ (v : Answered). v.nodes) (one-answer z));
           }
 
       -- the map shown is a partial map that reaches it, each child at the first successor of greatest degree; places behind it stay
@@ -209,7 +219,7 @@ module _ (image message : List ℕ) (item : ℕ) where
       map-lowest b = degree-lowest x.asked.readable.register (read-image image x.asked.readable.register b x.asked.readable.read).0 t item map-says.1
 
   -- any two results that the promise allows are equal
-  pub one-degree-result : (old new new' : List ℕ) (r s : Answered) → DegreePromise image message item old new r → DegreePromise image message item old new' s
+  pub one-degree-result : (old new new' : List ℕ) (r s : Result Answered Refusal) → DegreePromise image message item old new r → DegreePromise image message item old new' s
       → (r ≡ s) × (new ≡ new')
   one-degree-result old new new' r s = once-left paper_degree degree-told _ _ r s new new'
 
@@ -255,41 +265,41 @@ module _ (image message : List ℕ) (item : ℕ) where
       pub zero_is : (m ≡ pos 0) ↔ Same d (p ÷ q)
       pub within : (nat_abs m ≤ most_margin) × (o ≤ most_margin)
 
-    module _ (r : Margin) (h : MarginPromise image message item p q r) where
-      margin-row-result : (f : Refusal) → MarginRow image message item p q f → r ≡ RefusedMargin f
-      margin-row-result f x = margin-told r (RefusedMargin f) (h ∙ margin-row f x)
+    module _ (r : Result Margin Refusal) (h : MarginPromise image message item p q r) where
+      margin-row-result : (f : Refusal) → MarginRow image message item p q f → r ≡ Err f
+      margin-row-result f x = margin-told r (Err f) (h ∙ margin-row f x)
 
-      margin-result : (x : MarginTakes image message item p q) → r ≡ GoodMargin (against x.asked).margin (against x.asked).over
+      margin-result : (x : MarginTakes image message item p q) → r ≡ offset (against x.asked).margin (against x.asked).over
       margin-result x = margin-told r _ (h ∙ margin-taken x)
 
-      pub margin-refused-exactly : (f : Refusal) → (r ≡ RefusedMargin f) ↔ MarginRow image message item p q f
+      pub margin-refused-exactly : (f : Refusal) → (r ≡ Err f) ↔ MarginRow image message item p q f
       margin-refused-exactly f = (λ e. go e margin-either, margin-row-result f)
         where
-          go : r ≡ RefusedMargin f → ((f' : Refusal) × MarginRow image message item p q f') ⊎ MarginTakes image message item p q → MarginRow image message item p q f
+          go : r ≡ Err f → ((f' : Refusal) × MarginRow image message item p q f') ⊎ MarginTakes image message item p q → MarginRow image message item p q f
           go e (inl x) =
-              let z : RefusedMargin x.0 ≡ RefusedMargin f = sym (margin-row-result x.0 x.1) ∙ e in
+              let z : Err x.0 ≡ Err f = sym (margin-row-result x.0 x.1) ∙ e in
               let y : x.0 ≡ f = cc in
               subst (MarginRow image message item p q) y x.1
           go e (inr x) = let z = sym (margin-result x) ∙ e in let y : ◌≡◌ {A = ℕ} 0 1 = cc in absurd (omega arith)
 
-      pub margin-good-exactly : ((m : ℤ) × (o : ℕ) × (r ≡ GoodMargin m o)) ↔ MarginTakes image message item p q
+      pub margin-good-exactly : ((m : ℤ) × (o : ℕ) × (r ≡ offset m o)) ↔ MarginTakes image message item p q
       margin-good-exactly = (λ x. go x.2 margin-either, λ x. (_, _, margin-result x))
         where
-          go : {m : ℤ} {o : ℕ} → r ≡ GoodMargin m o → ((f : Refusal) × MarginRow image message item p q f) ⊎ MarginTakes image message item p q
+          go : {m : ℤ} {o : ℕ} → r ≡ offset m o → ((f : Refusal) × MarginRow image message item p q f) ⊎ MarginTakes image message item p q
               → MarginTakes image message item p q
           go e (inl x) = let z = sym (margin-row-result x.0 x.1) ∙ e in let y : ◌≡◌ {A = ℕ} 0 1 = cc in absurd (omega arith)
           go e (inr x) = x
 
       -- "negative below the threshold, zero at it, positive above, never beyond 3,486,784,401,000 either way"
-      pub margin-says : (x : MarginTakes image message item p q) (m : ℤ) (o : ℕ) → r ≡ GoodMargin m o
+      pub margin-says : (x : MarginTakes image message item p q) (m : ℤ) (o : ℕ) → r ≡ offset m o
           → MarginSays (answered (judged x.asked.readable.register) (concept_of x.asked) item) m o
       margin-says x m o e =
           let G = judged x.asked.readable.register in
           let t = concept_of x.asked in
           let d = answered G t item in
-          let z : GoodMargin (margin d (p ÷ q)) (margin_over d (p ÷ q)) ≡ GoodMargin m o = sym (margin-result x) ∙ e in
-          let a : margin d (p ÷ q) ≡ m = cc in
-          let b : margin_over d (p ÷ q) ≡ o = cc in
+          let z : offset (margin d (p ÷ q)) (margin_over d (p ÷ q)) ≡ offset m o = sym (margin-result x) ∙ e in
+          let a : margin d (p ÷ q) ≡ m = ap (λ (v : Margin). v.margin) (one-answer z) in
+          let b : margin_over d (p ÷ q) ≡ o = ap (λ (v : Margin). v.over) (one-answer z) in
           let small = margin-fits G t item p q x.asked.readable.small x.rule.most x.rule.small in
           record {
             margin-is = sym a;
@@ -300,12 +310,12 @@ module _ (image message : List ℕ) (item : ℕ) where
           }
 
       -- document 02, §2: 13 is for a comparison, and a margin has none
-      pub never-thirteen : r ≡ RefusedMargin (on_call 13) → ⊥
+      pub never-thirteen : r ≡ Err (on_call 13) → ⊥
       unfolding of_question among one_of same_side
       never-thirteen e = (margin-gives image message item p q).only (on_call 13) (sym h ∙ ap paper_margin e)
 
-      pub margin-within : (m : ℤ) (o : ℕ) → r ≡ GoodMargin m o → nat_abs m ≤ most_margin
+      pub margin-within : (m : ℤ) (o : ℕ) → r ≡ offset m o → nat_abs m ≤ most_margin
       margin-within m o e = (margin-says (margin-good-exactly.0 (m, o, e)) m o e).within.0
 
-    pub one-margin-result : (r s : Margin) → MarginPromise image message item p q r → MarginPromise image message item p q s → r ≡ s
+    pub one-margin-result : (r s : Result Margin Refusal) → MarginPromise image message item p q r → MarginPromise image message item p q s → r ≡ s
     one-margin-result = once paper_margin margin-told _

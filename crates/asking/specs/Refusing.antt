@@ -1,7 +1,7 @@
 -- The document's table for the degree and the margin, row by row: what each call takes, and what it refuses with which number and place.
 -- "A number is given exactly when its row holds and nothing earlier in the order below applies."
 -- Assumes nothing.
-use Rattle.std.specs.Prelude.{◌≡◌, true, false, List, ℕ, ◌≤◌, ◌<◌, length}
+use Rattle.std.specs.Prelude.{◌≡◌, Result, true, false, List, ℕ, ◌≤◌, ◌<◌, length}
 use Rattle.meaning.specs.declared.Refusal.{Refusal}
 use Rattle.meaning.specs.Refusal.{on_call}
 use Rattle.meaning.specs.Tree.{Concept, nodes}
@@ -44,7 +44,7 @@ pub data DegreeRow (image message : List ℕ) (item room : ℕ) (f : Refusal) : 
   no_room : (x : Askable image message item) → room < nodes (concept_of x) → f ≡ on_call 16 → DegreeRow image message item room f
 
 -- what the call promises of its result and of the lent map afterwards
-abbrev pub DegreePromise : List ℕ → List ℕ → ℕ → List ℕ → List ℕ → Answered → Type 0
+abbrev pub DegreePromise : List ℕ → List ℕ → ℕ → List ℕ → List ℕ → Result Answered Refusal → Type 0
 DegreePromise image message item old new r =
     (paper_degree r ≡ told (degree_call image message item (length old))) × (new ≡ after_degree old (degree_call image message item (length old)))
 
@@ -59,5 +59,5 @@ pub data MarginRow (image message : List ℕ) (item p q : ℕ) (f : Refusal) : T
   no_threshold : Askable image message item → FractionRow on_call p q f → MarginRow image message item p q f
 
 -- what the call promises of its result
-abbrev pub MarginPromise : List ℕ → List ℕ → ℕ → ℕ → ℕ → Margin → Type 0
+abbrev pub MarginPromise : List ℕ → List ℕ → ℕ → ℕ → ℕ → Result Margin Refusal → Type 0
 MarginPromise image message item p q r = paper_margin r ≡ margin_call image message item p q

@@ -3,28 +3,29 @@
 #![tactic(auto)]
 
 ghost use Rattle.std.specs.Prelude.{◌≡◌};
-ghost use Rattle.asking.specs.Answers.{degree_refused, margin_refused};
+ghost use Rattle.meaning.specs.Refusal.{on_call};
 ghost use Rattle.asking.specs.Refusing.{DegreePromise, MarginPromise};
 
 use meaning::{Refusal, Side};
 use plain::Both;
 
 // The degree in lowest terms, and how many places of the map are written; or the refusal.
-#[derive(Drop)]
-pub enum Answered {
-    Good { num: u64, den: u64, nodes: usize },
-    Refused { refusal: Refusal },
+#[derive(Clone, Copy, Debug, PartialEq, Eq)]
+pub struct Answered {
+    pub num: u64,
+    pub den: u64,
+    pub nodes: usize,
 }
 
 // The margin, and what it is over; or the refusal.
-#[derive(Drop)]
-pub enum Margin {
-    Good { margin: i64, over: u64 },
-    Refused { refusal: Refusal },
+#[derive(Clone, Copy, Debug, PartialEq, Eq)]
+pub struct Margin {
+    pub margin: i64,
+    pub over: u64,
 }
 
 // The degree of an item in a plain requirement, and its map, one number for each written node.
-pub fn degree_of(image: &[u8], message: &[u8], item: usize, map: &mut [u16]) -> Answered
+pub fn degree_of(image: &[u8], message: &[u8], item: usize, map: &mut [u16]) -> Result<Answered, Refusal>
     ensures { DegreePromise image.now message.now item map.old map.new result }
 {
     let mut names = [0u64; 64];
@@ -42,10 +43,10 @@ pub fn degree_of(image: &[u8], message: &[u8], item: usize, map: &mut [u16]) -> 
         } => {
             let number = graph::refusal_of(image, items, item);
             if number != 0 {
-                return degree_refused(number);
+                return Err(no(number));
             }
             if map.len() < nodes {
-                return degree_refused(16);
+                return Err(no(16));
             }
             let d = shown::shown_at(
                 image,
@@ -61,18 +62,18 @@ pub fn degree_of(image: &[u8], message: &[u8], item: usize, map: &mut [u16]) -> 
                 map,
             );
             let f = fractions::lowest(d.number, d.scale);
-            Answered::Good {
+            Ok(Answered {
                 num: f.num,
                 den: f.den,
                 nodes,
-            }
+            })
         }
-        Both::Refused { refusal } => Answered::Refused { refusal },
+        Both::Refused { refusal } => Err(refusal),
     }
 }
 
 // The margin of an item's degree in a plain requirement against p/q.
-pub fn margin_of(image: &[u8], message: &[u8], item: usize, p: usize, q: usize) -> Margin
+pub fn margin_of(image: &[u8], message: &[u8], item: usize, p: usize, q: usize) -> Result<Margin, Refusal>
     ensures { MarginPromise image.now message.now item p q result }
 {
     let mut names = [0u64; 64];
@@ -90,11 +91,11 @@ pub fn margin_of(image: &[u8], message: &[u8], item: usize, p: usize, q: usize) 
         } => {
             let number = graph::refusal_of(image, items, item);
             if number != 0 {
-                return margin_refused(number);
+                return Err(no(number));
             }
             let wrong = fractions::wrong(p, q);
             if wrong != 0 {
-                return margin_refused(wrong);
+                return Err(no(wrong));
             }
             let d = shown::degree_at(
                 image,
@@ -110,35 +111,21 @@ pub fn margin_of(image: &[u8], message: &[u8], item: usize, p: usize, q: usize) 
             );
             let f = fractions::lowest(d.number, d.scale);
             let m = fractions::against(f.num, f.den, p as u64, q as u64);
-            Margin::Good {
+            Ok(Margin {
                 margin: m.num,
                 over: m.den,
-            }
+            })
         }
-        Both::Refused { refusal } => Margin::Refused { refusal },
+        Both::Refused { refusal } => Err(refusal),
     }
 }
 
-fn degree_refused(number: usize) -> Answered
-    ensures { result ≡ degree_refused number }
+fn no(number: usize) -> Refusal
+    ensures { result ≡ on_call number }
 {
-    Answered::Refused {
-        refusal: Refusal {
-            side: Side::Call,
-            number,
-            place: 0,
-        },
-    }
-}
-
-fn margin_refused(number: usize) -> Margin
-    ensures { result ≡ margin_refused number }
-{
-    Margin::Refused {
-        refusal: Refusal {
-            side: Side::Call,
-            number,
-            place: 0,
-        },
+    Refusal {
+        side: Side::Call,
+        number,
+        place: 0,
     }
 }

@@ -8,8 +8,9 @@ use native.Mathlib.Omega.{arith}
 use lib.Dec.{ltb}
 use lib.ListN.{length, get_or}
 use lib.Seq.{sets}
+use Rattle.std.specs.Prelude.{Result, Ok, Err}
 use Rattle.meaning.specs.declared.Refusal.{Refusal}
-use Rattle.meaning.specs.Refusal.{good, refused, ◌>>=◌}
+use Rattle.meaning.specs.Refusal.{good, refused, on_call, ◌>>=◌}
 use Rattle.meaning.specs.Tree.{nodes}
 use Rattle.meaning.specs.Register.{withdrawn, judged}
 use Rattle.meaning.specs.Reduce.{reduce, scale}
@@ -28,21 +29,20 @@ use Rattle.plain.specs.Reading.{Rows, read_both, BothDone}
 use Rattle.plain.proofs.Known.{both_first, both-no, Known, ended}
 use Rattle.tables.specs.Rows.{Whole}
 use Rattle.tabling.specs.declared.Listed.{Listed}
-use Rattle.tabling.specs.declared.Listed.TheVariants.{Good as GoodList, Refused as RefusedList}
-use Rattle.tabling.specs.Answers.{Told, paper_list, told, list_refused, ListPromise}
+use Rattle.tabling.specs.Answers.{Told, paper_list, told, ListPromise}
 
 module _ (image message : List ℕ) where
   list-both : (room : ℕ) → list_call image message room ≡ (read_both image message >>= λ x. list_then room x.0 x.1)
   unfolding list_call
   list-both room = both_first (list_then room) image message
 
-  list-no : (old : List ℕ) (f : Refusal) (r : Listed) → list_call image message (length old) ≡ refused f → r ≡ RefusedList f → ListPromise image message old old r
+  list-no : (old : List ℕ) (f : Refusal) (r : Result Listed Refusal) → list_call image message (length old) ≡ refused f → r ≡ Err f → ListPromise image message old old r
   unfolding told ◌>>=◌
   list-no old f r e is = (ap paper_list is ∙ sym (ap told e), sym (ap (after_list old) e))
 
   -- refused by a reader
   pub list-stopped : (A : Rows) (b : Both) (done : BothDone image message A b) (old : List ℕ) (f : Refusal) → b ≡ RefusedBoth f
-      → ListPromise image message old old (RefusedList f)
+      → ListPromise image message old old (Err f)
   list-stopped A b done old f e = list-no old f _ (list-both (length old) ∙ stopped (read_both image message) _ f (both-no image message A b done f e)) refl
 
 module _ {image message : List ℕ} {A : Rows} {b : Both} {done : BothDone image message A b} {n m k : ℕ} {e : b ≡ GoodBoth n m k}
@@ -70,12 +70,12 @@ module _ {image message : List ℕ} {A : Rows} {b : Both} {done : BothDone image
   list-then room = list-both image message room ∙ took (read_both image message) _ _ w.both
 
   -- 16
-  pub list-no-room : (old : List ℕ) → length old < k * n → (r : Listed) → r ≡ list_refused 16 → ListPromise image message old old r
+  pub list-no-room : (old : List ℕ) → length old < k * n → (r : Result Listed Refusal) → r ≡ Err (on_call 16) → ListPromise image message old old r
   list-no-room old l r is =
       list-no image message old _ r
       (list-then (length old) ∙ stop (ltb (length old) (nodes w.tree * length w.register.names)) _ _ (below (length old) _ (omega (arith, places)))) is
 
-  pub list-answer : (old new : List ℕ) → k * n ≤ length old → (d : ℕ) → Whole n w.register w.tree d old new → ListPromise image message old new (GoodList n k d)
+  pub list-answer : (old new : List ℕ) → k * n ≤ length old → (d : ℕ) → Whole n w.register w.tree d old new → ListPromise image message old new (Ok (record { items = n; nodes = k; scale = d }))
   unfolding told ◌>>=◌
   list-answer old new l d h =
       let g = w.register in

@@ -11,6 +11,7 @@ use native.Mathlib.Nat.{mul-le-mul_right}
 use native.Mathlib.Omega.{arith}
 use lib.ListN.{length, get_or}
 use lib.Seq.{sets}
+use Rattle.std.specs.Prelude.{Result, Ok, Err}
 use Rattle.meaning.specs.declared.Refusal.{Refusal}
 use Rattle.meaning.specs.Refusal.{Answer, good, refused, ◌>>=◌}
 use Rattle.meaning.specs.Tree.{node, Concept, nodes}
@@ -28,55 +29,62 @@ use Rattle.meaning.proofs.Table.{table-long, table_at, table-out, list-degree}
 use Rattle.meaning.proofs.ListRows.{list-taken, list-row, list-decided}
 use Rattle.fields.proofs.Once.{Apart, told_back, once-left}
 use Rattle.tabling.specs.declared.Listed.{Listed}
-use Rattle.tabling.specs.declared.Listed.TheVariants.{Good as GoodList, Refused as RefusedList}
 use Rattle.tabling.specs.Answers.{Told, paper_list, told, ListPromise}
 
+-- a good answer
+abbrev pub listed : ℕ → ℕ → ℕ → Result Listed Refusal
+listed n k d = Ok (record { items = n; nodes = k; scale = d })
+
+-- what two equal answers hold is equal
+one-answer : {x y : Listed} → ◌≡◌ {A = Result Listed Refusal} (Ok x) (Ok y) → x ≡ y
+one-answer e = cc
+
 -- the document's words tell all results apart
-abbrev back : Answer Told → Listed
-back (good x) = GoodList x.items x.nodes x.scale
-back (refused f) = RefusedList f
+abbrev back : Answer Told → Result Listed Refusal
+back (good x) = listed x.items x.nodes x.scale
+back (refused f) = Err f
 
 pub list-told : Apart paper_list
 list-told = told_back paper_list back go
   where
-    go : (r : Listed) → back (paper_list r) ≡ r
-    go (GoodList n k d) = refl
-    go (RefusedList f) = refl
+    go : (r : Result Listed Refusal) → back (paper_list r) ≡ r
+    go (Ok l) = refl
+    go (Err f) = refl
 
 some-nodes : (t : Concept) → 1 ≤ nodes t
 unfolding nodes
 some-nodes (node a f) = omega arith
 
 module _ (image message : List ℕ) where
-  module _ (old new : List ℕ) (r : Listed) (h : ListPromise image message old new r) where
-    row-result : (f : Refusal) → ListRow image message (length old) f → r ≡ RefusedList f
+  module _ (old new : List ℕ) (r : Result Listed Refusal) (h : ListPromise image message old new r) where
+    row-result : (f : Refusal) → ListRow image message (length old) f → r ≡ Err f
     unfolding told ◌>>=◌
-    row-result f x = list-told r (RefusedList f) (h.0 ∙ ap told (list-row image message (length old) f x))
+    row-result f x = list-told r (Err f) (h.0 ∙ ap told (list-row image message (length old) f x))
 
     taken-result : (x : ListTakes image message (length old))
-        → r ≡ GoodList (length x.readable.register.names) (nodes (bare x.readable.tree)) (scale (reduce (bare x.readable.tree)))
+        → r ≡ listed (length x.readable.register.names) (nodes (bare x.readable.tree)) (scale (reduce (bare x.readable.tree)))
     unfolding told ◌>>=◌
     taken-result x = list-told r _ (h.0 ∙ ap told (list-taken image message (length old) x))
 
     -- it is refused exactly when a row of the table of refusals holds, and then with that row's number and place; and the table is untouched
-    pub refused-exactly : (f : Refusal) → (r ≡ RefusedList f) ↔ ListRow image message (length old) f
+    pub refused-exactly : (f : Refusal) → (r ≡ Err f) ↔ ListRow image message (length old) f
     refused-exactly f = (λ e. go e (list-decided image message (length old)).either, row-result f)
       where
-        go : r ≡ RefusedList f → ListTakes image message (length old) ⊎ ((f' : Refusal) × ListRow image message (length old) f') → ListRow image message (length old) f
+        go : r ≡ Err f → ListTakes image message (length old) ⊎ ((f' : Refusal) × ListRow image message (length old) f') → ListRow image message (length old) f
         go e (inl x) = let z = sym (taken-result x) ∙ e in let y : ◌≡◌ {A = ℕ} 0 1 = cc in absurd (omega arith)
         go e (inr x) =
-            let z : RefusedList x.0 ≡ RefusedList f = sym (row-result x.0 x.1) ∙ e in
+            let z : Err x.0 ≡ Err f = sym (row-result x.0 x.1) ∙ e in
             let y : x.0 ≡ f = cc in
             subst (ListRow image message (length old)) y x.1
 
-    pub refused-keeps : (f : Refusal) → r ≡ RefusedList f → new ≡ old
+    pub refused-keeps : (f : Refusal) → r ≡ Err f → new ≡ old
     refused-keeps f e = h.1 ∙ ap (after_list old) (list-row image message (length old) f ((refused-exactly f).0 e))
 
     -- and taken exactly when none does
-    pub good-exactly : ((n : ℕ) × (k : ℕ) × (d : ℕ) × (r ≡ GoodList n k d)) ↔ ListTakes image message (length old)
+    pub good-exactly : ((n : ℕ) × (k : ℕ) × (d : ℕ) × (r ≡ listed n k d)) ↔ ListTakes image message (length old)
     good-exactly = (λ x. go x.3 (list-decided image message (length old)).either, λ x. (_, _, _, taken-result x))
       where
-        go : {n k d : ℕ} → r ≡ GoodList n k d → ListTakes image message (length old) ⊎ ((f : Refusal) × ListRow image message (length old) f)
+        go : {n k d : ℕ} → r ≡ listed n k d → ListTakes image message (length old) ⊎ ((f : Refusal) × ListRow image message (length old) f)
             → ListTakes image message (length old)
         go e (inl x) = x
         go e (inr x) = let z = sym (row-result x.0 x.1) ∙ e in let y : ◌≡◌ {A = ℕ} 0 1 = cc in absurd (omega arith)
@@ -125,13 +133,13 @@ module _ (image message : List ℕ) where
       behind-stays p l = ap (λ (z : List ℕ). get_or z p 0) filled ∙ sets-beyond old 0 (table G out items t) p (inr (omega (arith, long)))
 
       -- "Its degrees equal the single calls' for each item" in service
-      pub degree-says : (n k d : ℕ) → r ≡ GoodList n k d → (item places : ℕ) → item < n → out item ≡ false → k ≤ places
+      pub degree-says : (n k d : ℕ) → r ≡ listed n k d → (item places : ℕ) → item < n → out item ≡ false → k ≤ places
           → (m : List ℕ) × (degree_call image message item places ≡ good (record { degree = lowest (get_or new item 0 ÷ d); map = m }))
       degree-says n k d e item places l o m =
-          let z : GoodList items (nodes t) (scale (reduce t)) ≡ GoodList n k d = sym (taken-result x) ∙ e in
-          let en : items ≡ n = cc in
-          let ek : nodes t ≡ k = cc in
-          let ed : scale (reduce t) ≡ d = cc in
+          let z : listed items (nodes t) (scale (reduce t)) ≡ listed n k d = sym (taken-result x) ∙ e in
+          let en : items ≡ n = ap (λ (v : Listed). v.items) (one-answer z) in
+          let ek : nodes t ≡ k = ap (λ (v : Listed). v.nodes) (one-answer z) in
+          let ed : scale (reduce t) ≡ d = ap (λ (v : Listed). v.scale) (one-answer z) in
           let inside : item < items = omega arith in
           let within : item < nodes t * items = omega (arith, mul-le-mul_right items (some-nodes t)) in
           let call = list-degree image message (length old) _ (list-taken image message (length old) x) item inside _ x.readable.read o places (omega arith) in
@@ -139,5 +147,5 @@ module _ (image message : List ℕ) where
           (call.0, call.1 ∙ ap₂ (λ (y v : ℕ). good (record { degree = lowest (y ÷ v); map = call.0 })) same ed)
 
   -- any two results that the promise allows are equal
-  pub one-list-result : (old new new' : List ℕ) (r s : Listed) → ListPromise image message old new r → ListPromise image message old new' s → (r ≡ s) × (new ≡ new')
+  pub one-list-result : (old new new' : List ℕ) (r s : Result Listed Refusal) → ListPromise image message old new r → ListPromise image message old new' s → (r ≡ s) × (new ≡ new')
   one-list-result old new new' r s = once-left paper_list list-told _ _ r s new new'

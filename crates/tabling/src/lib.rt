@@ -1,27 +1,21 @@
 // The list call: register and requirement are read, what is refused is tested in the document's order, and the table is filled.
 #![tactic(auto)]
 
-ghost use Rattle.std.specs.Prelude.{◌≡◌};
-ghost use Rattle.tabling.specs.Answers.{list_refused, ListPromise};
+ghost use Rattle.tabling.specs.Answers.{ListPromise};
 
-use meaning::{Refusal, Side};
+use meaning::{Refusal, Rule};
 use plain::Both;
 
 // How many items and written nodes there are, and the scale of the first row; or the refusal.
-#[derive(Drop)]
-pub enum Listed {
-    Good {
-        items: usize,
-        nodes: usize,
-        scale: u32,
-    },
-    Refused {
-        refusal: Refusal,
-    },
+#[derive(Clone, Copy, Debug, PartialEq, Eq)]
+pub struct Listed {
+    pub items: usize,
+    pub nodes: usize,
+    pub scale: u32,
 }
 
 // The number of each written node of a plain requirement at each item, node by node, over the node's own scale.
-pub fn list_of(image: &[u8], message: &[u8], table: &mut [u32]) -> Listed
+pub fn list_of(image: &[u8], message: &[u8], table: &mut [u32]) -> Result<Listed, Refusal>
     ensures { ListPromise image.now message.now table.old table.new result }
 {
     let mut names = [0u64; 64];
@@ -38,28 +32,15 @@ pub fn list_of(image: &[u8], message: &[u8], table: &mut [u32]) -> Listed
             nodes,
         } => {
             if table.len() < nodes * items {
-                return refused(16);
+                return Err(Rule::MapTooShort.of_call());
             }
             let scale = tables::whole(image, items, links, &names, &roles, &ends, &marks, table);
-            Listed::Good {
+            Ok(Listed {
                 items,
                 nodes,
                 scale,
-            }
+            })
         }
-        Both::Refused { refusal } => Listed::Refused { refusal },
-    }
-}
-
-// A refusal on the call's side.
-fn refused(number: usize) -> Listed
-    ensures { result ≡ list_refused number }
-{
-    Listed::Refused {
-        refusal: Refusal {
-            side: Side::Call,
-            number,
-            place: 0,
-        },
+        Both::Refused { refusal } => Err(refusal),
     }
 }

@@ -1,6 +1,8 @@
 -- `asking::degree_of` meets its contract: answer and map are those of the document's call, for every refusal too.
 -- Assumes nothing.
 use native.Mathlib.Omega.{arith}
+use mathlib.Core.Path.{ap}
+use Rattle.std.specs.Prelude.{Err}
 use Rattle.fields.proofs.Known.{bytes-known}
 use Rattle.shown.proofs.Entry.{graded-fits}
 use Rattle.asking.proofs.Calls.{degree-stopped, gradable, counted, room, asks, degree-no-item, degree-no-room, degree-answer}
@@ -19,7 +21,7 @@ returns-then-number-ne0 c =
     -- a register and a requirement that were read
     let read : Known c.args.image.now c.args.message.now _ _ c.read_both-b.ensures _ _ _ c.in-Good.is =
     known _ _ _ _ _ _ _ _ _ (bytes-known c.args.image.now c.type_inv.image) in
-    degree-no-item _ _ _ read _ c.refusal_of-number.ensures c.if-number-ne0.true _ c.degree_refused.result c.degree_refused.ensures
+    degree-no-item _ _ _ read _ c.refusal_of-number.ensures c.if-number-ne0.true _ _ (ap Err c.no.ensures)
 
 pub returns-then-map-nodes : goal.returns-then-map-nodes
 returns-then-map-nodes c =
@@ -28,7 +30,7 @@ returns-then-map-nodes c =
     known _ _ _ _ _ _ _ _ _ (bytes-known c.args.image.now c.type_inv.image) in
     let w = read in
     degree-no-room _ _ _ w (asks _ _ _ w _ c.refusal_of-number.ensures c.if-number-ne0.false) _ (omega (arith, c.if-map-nodes.true))
-    c.degree_refused-then-map-nodes.result c.degree_refused-then-map-nodes.ensures
+    _ (ap Err c.no-then-map-nodes.ensures)
 
 pub shown_at-d-requires : goal.shown_at-d-requires
 shown_at-d-requires c =

@@ -1,6 +1,8 @@
 -- `asking::margin_of` meets its contract: the answer is that of the document's call, for every refusal too.
 -- Assumes nothing.
 use native.Mathlib.Omega.{arith}
+use mathlib.Core.Path.{ap}
+use Rattle.std.specs.Prelude.{Err}
 use Rattle.fields.proofs.Known.{bytes-known}
 use Rattle.shown.proofs.Entry.{graded-fits}
 use Rattle.asking.proofs.Calls.{margin-stopped, gradable, counted, asks, margin-no-item, margin-no-threshold, margin-small, margin-answer}
@@ -19,7 +21,7 @@ returns-then-number-ne0 c =
     -- a register and a requirement that were read
     let read : Known c.args.image.now c.args.message.now _ _ c.read_both-b.ensures _ _ _ c.in-Good.is =
     known _ _ _ _ _ _ _ _ _ (bytes-known c.args.image.now c.type_inv.image) in
-    margin-no-item _ _ _ read _ c.refusal_of-number.ensures c.if-number-ne0.true _ _ c.margin_refused.result c.margin_refused.ensures
+    margin-no-item _ _ _ read _ c.refusal_of-number.ensures c.if-number-ne0.true _ _ _ (ap Err c.no.ensures)
 
 pub returns-then-wrong-ne0 : goal.returns-then-wrong-ne0
 returns-then-wrong-ne0 c =
@@ -28,7 +30,7 @@ returns-then-wrong-ne0 c =
     known _ _ _ _ _ _ _ _ _ (bytes-known c.args.image.now c.type_inv.image) in
     let w = read in
     margin-no-threshold _ _ _ w (asks _ _ _ w _ c.refusal_of-number.ensures c.if-number-ne0.false) _ _ _ c.wrong-wrong.ensures c.if-wrong-ne0.true
-    c.margin_refused-then-wrong-ne0.result c.margin_refused-then-wrong-ne0.ensures
+    _ (ap Err c.no-then-wrong-ne0.ensures)
 
 pub degree_at-d-requires : goal.degree_at-d-requires
 degree_at-d-requires c =

@@ -1,6 +1,8 @@
 -- `tabling::list_of` meets its contract: answer and table are those of the document's call, for every refusal too.
 -- Assumes nothing.
 use native.Mathlib.Omega.{arith}
+use mathlib.Core.Path.{ap}
+use Rattle.std.specs.Prelude.{Err}
 use Rattle.fields.proofs.Known.{bytes-known}
 use Rattle.plain.proofs.Known.{Known, known}
 use Rattle.tabling.proofs.Calls.{list-stopped, gradable, few, room, list-no-room, list-answer}
@@ -18,7 +20,7 @@ returns-then-table-nodes c =
     -- a register and a requirement that were read
     let read : Known c.args.image.now c.args.message.now _ _ c.read_both-b.ensures _ _ _ c.in-Good.is =
     known _ _ _ _ _ _ _ _ _ (bytes-known c.args.image.now c.type_inv.image) in
-    list-no-room read _ (omega (arith, c.if-table-nodes.true)) c.refused.result c.refused.ensures
+    list-no-room read _ (omega (arith, c.if-table-nodes.true)) _ (ap Err c.of_call.ensures)
 
 pub whole-scale-requires : goal.whole-scale-requires
 whole-scale-requires c =
