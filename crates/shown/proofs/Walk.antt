@@ -2,7 +2,7 @@
 -- Assumes nothing.
 use mathlib.Core.Path.{◌≡◌, refl, sym, ap, ap₂, subst, ◌∙◌, fun_ext}
 use mathlib.Core.Bool.{true, false}
-use mathlib.Core.List.{List, ◌∷◌, ◌++◌, map, map-append, Memᴰ}
+use mathlib.Core.List.{List, [], ◌∷◌, ◌++◌, map, map-append, Memᴰ}
 use mathlib.Core.Option.{Option as Place, some, none as nowhere}
 use Rattle.std.specs.Prelude.{Option, Some, None, MatchOption, unwrap_or}
 use Prim.Native.Nat.{ℕ, zero, suc, ◌+◌, ◌-◌, ◌≤◌, ◌<◌}
@@ -13,7 +13,6 @@ use lib.ListN.{length, get_or, set, replicate, take, drop, length-map, length-re
 use lib.Dec.{lit≤}
 use lib.Seq.{sets, length-sets, length-take-le, drop-drop, sets-eq}
 use Rattle.std.proofs.lemmas.List.{append_assoc}
-use Rattle.meaning.specs.Bytes.{Bytes}
 use Rattle.meaning.specs.Tree.{node, Forest, none, more, Concept, children, under, nodes}
 use Rattle.meaning.specs.Graph.{Graph}
 use Rattle.meaning.specs.Register.{Register}
@@ -31,7 +30,12 @@ use Rattle.meaning.proofs.Rows.{opened, first, ran_out, holds-nodes}
 use Rattle.graph.proofs.Use.{next-inside}
 use Rattle.degrees.specs.Notes.{Note, Noted, NotedF}
 use Rattle.degrees.proofs.Folding.{mark-zero, mark-other}
-use Rattle.graph.specs.Judged.{Judged}
+use Rattle.graph.specs.declared.Indexed.{Indexed}
+use Rattle.graph.specs.On.{JudgedOn}
+use Rattle.register.proofs.Holding.{held-is}
+use Rattle.rows.specs.declared.Reduced.{Reduced}
+use Rattle.rows.specs.Rising.{Rising}
+use Rattle.rows.proofs.Rising.{rising}
 use Rattle.shown.specs.Given.{place, Inside, drawn, Drawing}
 
 -- ---- stores one after the other
@@ -176,96 +180,88 @@ unfolding shown
 root-drawn G (node a f) i None m v e = rw (e, add-one i)
 root-drawn G (node a f) i (Some x) m v e = rw (e, add-one i)
 
-module _ {s : List ℕ} {items : ℕ} {index ends marks notes : List ℕ} {node left : ℕ} {item : Option ℕ} (k : Drawing s items index ends marks notes node left item) where
-  pub drawing-here : (0 < left) × (node < 64) × (node < get_or ends node 0)
+module _ {on : Indexed} {of : Reduced} {notes : List ℕ} {node left : ℕ} {item : Option ℕ} (k : Drawing on of notes node left item) where
+  pub drawing-here : (0 < left) × (node < 64) × (node < get_or of.tree.ends node 0)
   drawing-here =
-      let q = opened k.names k.roles ends k.tree left node (get_or ends node 0) k.posed.held in
+      let q = opened k.names k.roles of.tree.ends k.tree left node (get_or of.tree.ends node 0) k.posed.held in
       (q.deep, let l = q.inside in let m = k.posed.few in omega arith, q.inside)
 
   pub drawing-fits : unwrap_or item 65535 < 65536
-  drawing-fits = place-fits items item k.posed.graph.most k.inside
+  drawing-fits = place-fits on.items item k.posed.graph.most k.inside
+
+  pub drawing-notes : on.links ≤ length notes
+  drawing-notes = let e = on.judged.read.2 in let p = k.places in omega (arith, ap (λ (g : Register). length g.links) (held-is on.image.now k.posed.graph.register k.posed.graph.read))
 
   -- the children from row c on are left, and the node goes to o
   abbrev pub Traced : List ℕ → ℕ → List ℕ → Type 0
   Traced old c new =
-      Drawn k.names k.roles ends marks k.posed.graph.register notes (left - 1) (get_or ends node 0) (place item)
+      Drawn k.names k.roles of.tree.ends of.marks k.posed.graph.register notes (left - 1) (get_or of.tree.ends node 0) (place item)
       (children-drawn (walked k.posed.graph.register) k.tree node (place item) old) c new
 
   pub trace-start : (m : List ℕ) → Traced m (node + 1) m
   trace-start m =
-      start k.names k.roles ends marks k.posed.graph.register notes k.tree left node (get_or ends node 0) (place item) m k.posed.held k.marked
+      start k.names k.roles of.tree.ends of.marks k.posed.graph.register notes k.tree left node (get_or of.tree.ends node 0) (place item) m k.posed.held k.marked
       (λ x e. k.noted x (is-some item x e))
 
-  pub trace-end : (m : List ℕ) (v c : ℕ) (new : List ℕ) → v ≡ unwrap_or item 65535 → Traced (set m node v) c new → get_or ends node 0 ≤ c
+  pub drawing-rises : Rising of.tree.ends (node + 1) (get_or of.tree.ends node 0)
+  drawing-rises =
+      let d = trace-start [] in rising k.names k.roles of.tree.ends d.rest (left - 1) (node + 1) (get_or of.tree.ends node 0) d.held k.posed.few
+
+  pub trace-end : (m : List ℕ) (v c : ℕ) (new : List ℕ) → v ≡ unwrap_or item 65535 → Traced (set m node v) c new → get_or of.tree.ends node 0 ≤ c
       → new ≡ drawn k.posed.graph.register k.tree node item m
   trace-end m v c new e w l = drawn-end w l ∙ root-drawn (walked k.posed.graph.register) k.tree node item m v e
 
 -- ---- all children, one after the other
 
-module _ (s : List ℕ) (items : ℕ) (index ends marks notes : List ℕ) (node left : ℕ) (item : Option ℕ) where
-  -- the children from row c on are left, and the last of all ends at row e
-  pub record Walk (old : List ℕ) (e : ℕ) (new : List ℕ) (c : ℕ) : Type 0 where
-    pub bytes : Bytes s
-    pub asked : Drawing s items index ends marks notes node left item
-    pub ended : e ≡ get_or ends node 0
-    pub room : e ≤ length new
+module _ (on : Indexed) (of : Reduced) (notes : List ℕ) (node left : ℕ) (item : Option ℕ) where
+  -- the children from row c on are left
+  pub record Walk (old new : List ℕ) (c : ℕ) : Type 0 where
+    pub asked : Drawing on of notes node left item
+    pub room : get_or of.tree.ends node 0 ≤ length new
     pub long : length new ≡ length old
-    pub each : (k : Drawing s items index ends marks notes node left item) → Traced k old c new
+    pub each : (k : Drawing on of notes node left item) → Traced k old c new
 
-module _ {s : List ℕ} {items : ℕ} {index ends marks notes : List ℕ} {node left : ℕ} {item : Option ℕ} {old : List ℕ} {e : ℕ} {new : List ℕ} {c : ℕ}
-    (w : Walk s items index ends marks notes node left item old e new c) where
+module _ {on : Indexed} {of : Reduced} {notes : List ℕ} {node left : ℕ} {item : Option ℕ} {old new : List ℕ} {c : ℕ}
+    (w : Walk on of notes node left item old new c) where
   abbrev Next : ℕ → List ℕ → Type 0
-  Next j after = Walk s items index ends marks notes node left item old e after j
+  Next j after = Walk on of notes node left item old after j
 
-  module _ (l : c < e) where
-    pub below : c < get_or ends node 0
-    below = omega (arith, w.ended)
-
-    pub inside : (c < get_or ends c 0) × (get_or ends c 0 ≤ get_or ends node 0)
+  module _ (below : c < get_or of.tree.ends node 0) where
+    inside : (c < get_or of.tree.ends c 0) × (get_or of.tree.ends c 0 ≤ get_or of.tree.ends node 0)
     inside = drawn-next (w.each w.asked) below
 
     pub walk-low : c < 64
     walk-low = omega (arith, below, w.asked.posed.few)
 
-    pub walk-less : (j : ℕ) → j ≡ get_or ends c 0 → e - j < e - c
-    walk-less j ej = omega (arith, inside.0)
+    pub walk_rows : (j : ℕ) → j ≡ get_or of.tree.ends c 0 → (c ≤ j) × (j ≤ length new)
+    walk_rows j ej = (omega (arith, inside.0), omega (arith, inside.1, w.room))
 
-    pub walk_rows : (j : ℕ) → j ≡ get_or ends c 0 → (c ≤ j) × (j ≤ length new)
-    walk_rows j ej = (omega (arith, inside.0), omega (arith, inside.1, w.ended, w.room))
-
-    next : (j : ℕ) (after : List ℕ) → length after ≡ length new → ((k : Drawing s items index ends marks notes node left item) → Traced k old j after) → Next j after
-    next j after size each = record {
-      bytes = w.bytes;
-      asked = w.asked;
-      ended = w.ended;
-      room = omega (arith, w.room);
-      long = size ∙ w.long;
-      each = each;
-    }
+    next : (j : ℕ) (after : List ℕ) → length after ≡ length new → ((k : Drawing on of notes node left item) → Traced k old j after) → Next j after
+    next j after size each = record { asked = w.asked; room = omega (arith, w.room); long = size ∙ w.long; each = each }
 
     -- the child is dropped
-    pub walk-skip : get_or marks c 0 ≡ 0 → (j : ℕ) → j ≡ get_or ends c 0 → (after : List ℕ) → after ≡ sets new c (replicate (j - c) 65534) → Next j after
+    pub walk-skip : get_or of.marks c 0 ≡ 0 → (j : ℕ) → j ≡ get_or of.tree.ends c 0 → (after : List ℕ) → after ≡ sets new c (replicate (j - c) 65534) → Next j after
     walk-skip m j ej after is = next j after (ap length is ∙ length-sets new c (replicate (j - c) 65534)) (λ k. drawn-is (drawn-skip (w.each k) below m j ej) is)
 
     -- where a kept child is looked for
-    pub walk-onward : (x : ℕ) → item ≡ Some x → ((j : Judged s items index) × (length j.register.links ≤ length notes)) × ((x < items) × (c < 64))
-    walk-onward x e = ((w.asked.posed.graph, w.asked.places), (let i = w.asked.inside in let h = rw e at i in h, walk-low))
+    pub walk-onward : (x : ℕ) → item ≡ Some x → (x < on.items) × (c < 64)
+    walk-onward x e = (let i = w.asked.inside in let h = rw e at i in h, walk-low)
 
     -- it is kept, and goes where the notes say, or nowhere where the node does
-    module _ (m : get_or marks c 0 ≡ 0 → ⊥) (next-item : Option ℕ)
-        (onward : MatchOption item (next-item ≡ None) (λ x. (j : Judged s items index) (o : Place ℕ) → Note j.register notes c x o → place next-item ≡ o)) where
-      module _ (k : Drawing s items index ends marks notes node left item) where
-        abbrev pub child : Child k.names k.roles ends marks k.posed.graph.register notes (left - 1) (get_or ends node 0) (place item)
+    module _ (m : get_or of.marks c 0 ≡ 0 → ⊥) (next-item : Option ℕ)
+        (onward : MatchOption item (next-item ≡ None) (λ x. (j : JudgedOn on) (o : Place ℕ) → Note j.register notes c x o → place next-item ≡ o)) where
+      module _ (k : Drawing on of notes node left item) where
+        abbrev pub child : Child k.names k.roles of.tree.ends of.marks k.posed.graph.register notes (left - 1) (get_or of.tree.ends node 0) (place item)
             (children-drawn (walked k.posed.graph.register) k.tree node (place item) old) c new
         child = drawn-child (w.each k) below m
 
         -- where it goes, and what is known there
         pub record Going (p n : Option ℕ) : Type 0 where
           pub same : place n ≡ goes_to (walked k.posed.graph.register) (place p) (get_or k.roles c 0) child.tree
-          pub inside : Inside items n
-          pub noted : (y : ℕ) → n ≡ Some y → Noted ends marks k.posed.graph.register notes child.tree c y
+          pub inside : Inside on.items n
+          pub noted : (y : ℕ) → n ≡ Some y → Noted of.tree.ends of.marks k.posed.graph.register notes child.tree c y
 
-        from : (p n : Option ℕ) → item ≡ p → MatchOption p (n ≡ None) (λ x. (j : Judged s items index) (o : Place ℕ) → Note j.register notes c x o → place n ≡ o)
+        from : (p n : Option ℕ) → item ≡ p → MatchOption p (n ≡ None) (λ x. (j : JudgedOn on) (o : Place ℕ) → Note j.register notes c x o → place n ≡ o)
             → Going p n
         unfolding goes_to
         from None n q e = rw e (record { same = refl; inside = tt; noted = λ y z. absurd (let x : ◌≡◌ {A = ℕ} 0 1 = cc in omega arith) })
@@ -281,20 +277,20 @@ module _ {s : List ℕ} {items : ℕ} {index ends marks notes : List ℕ} {node 
             ys : List ℕ
             ys = (walked k.posed.graph.register).next x (get_or k.roles c 0)
 
-            there : Note k.posed.graph.register notes c x (pick v ys) × ((y : ℕ) → Memᴰ y ys → Noted ends marks k.posed.graph.register notes child.tree c y)
+            there : Note k.posed.graph.register notes c x (pick v ys) × ((y : ℕ) → Memᴰ y ys → Noted of.tree.ends of.marks k.posed.graph.register notes child.tree c y)
             there = child.noted x (ap place q)
 
             goes : place n ≡ pick v ys
             goes = h k.posed.graph (pick v ys) there.0
 
-            stays : (r : Option ℕ) → place r ≡ pick v ys → Inside items r
+            stays : (r : Option ℕ) → place r ≡ pick v ys → Inside on.items r
             stays None z = tt
-            stays (Some y) z = next-inside k.posed.graph w.bytes x (get_or k.roles c 0) y (pick_some v ys y (sym z)).0
+            stays (Some y) z = next-inside k.posed.graph on.judged.read.3 x (get_or k.roles c 0) y (pick_some v ys y (sym z)).0
 
         pub going : Going item next-item
         going = from item next-item refl onward
 
-        abbrev pub child-of : Drawing s items index ends marks notes c (left - 1) next-item
+        abbrev pub child-of : Drawing on of notes c (left - 1) next-item
         child-of = record {
           names = k.names;
           roles = k.roles;
@@ -306,11 +302,11 @@ module _ {s : List ℕ} {items : ℕ} {index ends marks notes : List ℕ} {node 
           noted = going.noted;
         }
 
-      pub walk-child : Drawing s items index ends marks notes c (left - 1) next-item × (get_or ends c 0 ≤ length new)
+      pub walk-child : Drawing on of notes c (left - 1) next-item × (get_or of.tree.ends c 0 ≤ length new)
       walk-child = (child-of w.asked, (walk_rows _ refl).1)
 
-      pub walk-next : (j : ℕ) → j ≡ get_or ends c 0 → (after : List ℕ) → length after ≡ length new
-          → ((k : Drawing s items index ends marks notes c (left - 1) next-item) → after ≡ drawn k.posed.graph.register k.tree c next-item new) → Next j after
+      pub walk-next : (j : ℕ) → j ≡ get_or of.tree.ends c 0 → (after : List ℕ) → length after ≡ length new
+          → ((k : Drawing on of notes c (left - 1) next-item) → after ≡ drawn k.posed.graph.register k.tree c next-item new) → Next j after
       walk-next j ej after size shows =
           next j after size (λ k. drawn-is ((child k).then j ej)
           (shows (child-of k) ∙ ap (λ (o : Place ℕ). sets new c (map mark_number (shown (walked k.posed.graph.register) (child k).tree o))) (going k).same))

@@ -9,7 +9,12 @@ use Rattle.graph.specs.Walked.{walked}
 use Rattle.meaning.specs.InPlace.{scale_in, degree_in}
 use Rattle.meaning.specs.Rows.{Marked}
 use Rattle.meaning.specs.Shown.{shown, mark_number}
-use Rattle.graph.specs.Judged.{Judged}
+use Rattle.register.specs.declared.Reading.{Reading}
+use Rattle.register.specs.Image.{OfSize}
+use Rattle.rows.specs.declared.Reduced.{Reduced}
+use Rattle.graph.specs.declared.Indexed.{Indexed}
+use Rattle.graph.specs.On.{JudgedOn}
+use Rattle.degrees.specs.Gradable.{Gradable}
 use Rattle.graph.specs.Posed.{Posed}
 use Rattle.degrees.specs.Notes.{Noted}
 use Rattle.shown.specs.declared.Degree.{Degree}
@@ -33,13 +38,17 @@ pub record Graded (g : Register) (t : Concept) (x : ℕ) (d : Degree) : Type 0 w
   pub number : d.number ≡ degree_in (walked g) t x
   pub scale : d.scale ≡ scale_in t
 
+-- a reduced tree at a row, put to an image that was read
+abbrev pub GradableIn : Reading → Reduced → ℕ → ℕ → Type 0
+GradableIn read of node left = Gradable (OfSize read.bytes.now read.items read.links) of.tree.names of.tree.roles of.tree.ends of.marks node left
+
 -- What is to be drawn: rows that hold a tree, whose root goes to an item or nowhere, and notes for all links that say where its kept nodes go.
-pub record Drawing (s : List ℕ) (items : ℕ) (index ends marks notes : List ℕ) (node left : ℕ) (item : Option ℕ) : Type 0 where
+pub record Drawing (on : Indexed) (of : Reduced) (notes : List ℕ) (node left : ℕ) (item : Option ℕ) : Type 0 where
   pub names : List ℕ
   pub roles : List ℕ
   pub tree : Concept
-  pub posed : Posed (Judged s items index) names roles ends tree node left
-  pub marked : Marked ends marks tree node
+  pub posed : Posed (JudgedOn on) names roles of.tree.ends tree node left
+  pub marked : Marked of.tree.ends of.marks tree node
   pub places : length posed.graph.register.links ≤ length notes
-  pub inside : Inside items item
-  pub noted : (x : ℕ) → item ≡ Some x → Noted ends marks posed.graph.register notes tree node x
+  pub inside : Inside on.items item
+  pub noted : (x : ℕ) → item ≡ Some x → Noted of.tree.ends of.marks posed.graph.register notes tree node x

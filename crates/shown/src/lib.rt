@@ -4,14 +4,16 @@
 ghost use Rattle.std.specs.Prelude.{◌≡◌, Some, ℕ, ◌+◌, ◌≤◌, ◌<◌, length, get_or};
 ghost use Rattle.std.proofs.Math.Option.{Option as Place};
 ghost use Rattle.meaning.specs.Bounds.{most_links};
-ghost use Rattle.register.specs.Image.{OfSize};
-ghost use Rattle.graph.specs.Judged.{Judged};
-ghost use Rattle.degrees.specs.Gradable.{Gradable};
+ghost use Rattle.graph.specs.On.{JudgedOn};
+ghost use Rattle.degrees.specs.Gradable.{GradableOn};
 ghost use Rattle.degrees.specs.Notes.{Note, Noted, Clear};
-ghost use Rattle.shown.specs.Given.{place, drawn, Graded, Drawing};
+ghost use Rattle.shown.specs.Given.{place, drawn, Graded, GradableIn, Drawing};
 
 use fields::bits;
-use graph::sets;
+use graph::Indexed;
+use graph::sets::Items;
+use register::Reading;
+use rows::Reduced;
 
 // A degree: a whole number over a scale.
 #[derive(Clone, Copy, Debug, PartialEq, Eq)]
@@ -21,14 +23,14 @@ pub struct Degree {
 }
 
 // Where the child at a node goes whose parent goes to `item`: along the link of the item that is noted for it; nowhere where none is.
-fn found(s: &[u8], items: usize, index: &[u16], item: usize, node: usize, notes: &[u64]) -> Option<usize>
-    requires links_in_bounds { (j : Judged s.now items index.now) × (length j.register.links ≤ length notes.now) }
-    requires item_lt { (item < items) × (node < 64) }
-    ensures { (j : Judged s.now items index.now) (o : Place ℕ) → Note j.register notes.now node item o → place result ≡ o }
+fn found(on: &Indexed, notes: &[u64], node: usize, item: usize) -> Option<usize>
+    requires links_in_bounds { on.now.links ≤ length notes.now }
+    requires item_lt { (item < on.now.items) × (node < 64) }
+    ensures { (j : JudgedOn on.now) (o : Place ℕ) → Note j.register notes.now node item o → place result ≡ o }
 {
-    for k in usize::from(index[item])..usize::from(index[item + 1]) {
+    for k in usize::from(on.index[item])..usize::from(on.index[item + 1]) {
         if bits::on(notes[k], node) {
-            return Some(graph::end_of(s, items, k));
+            return Some(on.end_of(k));
         }
     }
     None
@@ -36,75 +38,43 @@ fn found(s: &[u8], items: usize, index: &[u16], item: usize, node: usize, notes:
 
 // Writes the map of the tree at a node that goes to `item`, or nowhere where that is none: its own place, then each child's.
 pub fn show(
-    s: &[u8],
-    items: usize,
-    index: &[u16],
-    ends: &[u8; 64],
-    marks: &[u8; 64],
+    on: &Indexed,
+    of: &Reduced,
     notes: &[u64],
     node: usize,
     left: usize,
     item: Option<usize>,
     map: &mut [u16],
 )
-    requires drawing { Drawing s.now items index.now ends.now marks.now notes.now node left item }
-    requires node_in_bounds { get_or ends.now node 0 ≤ length map.old }
-    ensures { (k : Drawing s.now items index.now ends.now marks.now notes.now node left item)
+    requires drawing { Drawing on.now of.now notes.now node left item }
+    requires node_in_bounds { get_or of.now.tree.ends node 0 ≤ length map.old }
+    ensures { (k : Drawing on.now of.now notes.now node left item)
         → map.new ≡ drawn k.posed.graph.register k.tree node item map.old }
 {
     map[node] = item.unwrap_or(meaning::NOWHERE) as u16;
-    let e = usize::from(ends[node]);
-    let mut c = node + 1;
-    while c < e {
-        let at = c;
-        c = usize::from(ends[at]);
-        if marks[at] == 0 {
-            map[at..c].fill(meaning::DROPPED as u16);
+    for child in of.tree.children(node) {
+        if of.marks[child] == 0 {
+            let end = usize::from(of.tree.ends[child]);
+            map[child..end].fill(meaning::DROPPED as u16);
             continue;
         }
-        let next = item.and_then(|x| found(s, items, index, x, at, notes));
-        show(s, items, index, ends, marks, notes, at, left - 1, next, map);
+        let next = item.and_then(|x| found(on, notes, child, x));
+        show(on, of, notes, child, left - 1, next, map);
     }
 }
 
 // The degree of one item in the tree at a node; and it is noted where the nodes below go.
-fn graded(
-    s: &[u8],
-    items: usize,
-    index: &[u16],
-    names: &[u64; 64],
-    roles: &[u8; 64],
-    ends: &[u8; 64],
-    marks: &[u8; 64],
-    node: usize,
-    left: usize,
-    item: usize,
-    notes: &mut [u64],
-) -> Degree
-    requires gradable { Gradable (Judged s.now items index.now) names.now roles.now ends.now marks.now node left }
-    requires item_lt { (item < items) × Clear notes.old (node + 1) (get_or ends.now node 0) }
-    ensures { (k : Gradable (Judged s.now items index.now) names.now roles.now ends.now marks.now node left)
-        → Graded k.posed.graph.register k.tree item result × Noted ends.now marks.now k.posed.graph.register notes.new k.tree node item }
+fn graded(on: &Indexed, of: &Reduced, node: usize, left: usize, item: usize, notes: &mut [u64]) -> Degree
+    requires gradable { GradableOn on.now of.now node left }
+    requires item_lt { (item < on.now.items) × Clear notes.old (node + 1) (get_or of.now.tree.ends node 0) }
+    ensures { (k : GradableOn on.now of.now node left) → Graded k.posed.graph.register k.tree item result
+        × Noted of.now.tree.ends of.now.marks k.posed.graph.register notes.new k.tree node item }
 {
-    let mut set = [0u64; 8];
-    sets::include(&mut set[..8], item);
-    let mut numbers = [0u32; 3584];
-    folds::ones(0, &mut numbers[..3584]);
-    let scale = degrees::work(
-        s,
-        items,
-        index,
-        names,
-        roles,
-        ends,
-        marks,
-        node,
-        left,
-        &set[..8],
-        folds::ROW,
-        notes,
-        &mut numbers[..3584],
-    );
+    let mut set = Items::none();
+    set.insert(item);
+    let mut numbers = [0; 3584];
+    folds::ones(0, &mut numbers);
+    let scale = degrees::work(on, of, node, left, &set, folds::ROW, notes, &mut numbers);
     Degree {
         number: u64::from(numbers[folds::ROW + item]),
         scale,
@@ -112,120 +82,46 @@ fn graded(
 }
 
 // The degree of one item in the tree at a node.
-pub fn degree_at(
-    s: &[u8],
-    items: usize,
-    links: usize,
-    names: &[u64; 64],
-    roles: &[u8; 64],
-    ends: &[u8; 64],
-    marks: &[u8; 64],
-    node: usize,
-    left: usize,
-    item: usize,
-) -> Degree
-    requires gradable { Gradable (OfSize s.now items links) names.now roles.now ends.now marks.now node left }
-    requires item_lt { item < items }
-    ensures { (k : Gradable (OfSize s.now items links) names.now roles.now ends.now marks.now node left)
-        → Graded k.posed.graph.register k.tree item result }
+pub fn degree_at(read: &Reading, of: &Reduced, node: usize, left: usize, item: usize) -> Degree
+    requires gradable { GradableIn read.now of.now node left }
+    requires item_lt { item < read.now.items }
+    ensures { (k : GradableIn read.now of.now node left) → Graded k.posed.graph.register k.tree item result }
 {
-    let mut index = [0u16; graph::INDEX];
-    graph::fill_index(s, items, links, &mut index[..graph::INDEX]);
-    let mut notes = [0u64; 1];
-    graded(
-        s,
-        items,
-        &index[..graph::INDEX],
-        names,
-        roles,
-        ends,
-        marks,
-        node,
-        left,
-        item,
-        &mut notes[..0],
-    )
+    graded(&Indexed::new(read), of, node, left, item, &mut [])
 }
 
 // The degree of one item in the tree at a node, and its map. Only as many notes are made as a register of its size wants.
-pub fn shown_at(
-    s: &[u8],
-    items: usize,
-    links: usize,
-    names: &[u64; 64],
-    roles: &[u8; 64],
-    ends: &[u8; 64],
-    marks: &[u8; 64],
-    node: usize,
-    left: usize,
-    item: usize,
-    map: &mut [u16],
-) -> Degree
-    requires gradable { Gradable (OfSize s.now items links) names.now roles.now ends.now marks.now node left }
-    requires node_in_bounds { (get_or ends.now node 0 ≤ length map.old) × (item < items) }
-    ensures { (k : Gradable (OfSize s.now items links) names.now roles.now ends.now marks.now node left)
+pub fn shown_at(read: &Reading, of: &Reduced, node: usize, left: usize, item: usize, map: &mut [u16]) -> Degree
+    requires gradable { GradableIn read.now of.now node left }
+    requires node_in_bounds { (get_or of.now.tree.ends node 0 ≤ length map.old) × (item < read.now.items) }
+    ensures { (k : GradableIn read.now of.now node left)
         → Graded k.posed.graph.register k.tree item result × (map.new ≡ drawn k.posed.graph.register k.tree node (Some item) map.old) }
 {
-    match links {
-        0..=512 => shown_in::<512>(
-            s, items, links, names, roles, ends, marks, node, left, item, map,
-        ),
-        513..=2048 => shown_in::<2048>(
-            s, items, links, names, roles, ends, marks, node, left, item, map,
-        ),
-        _ => shown_in::<4096>(
-            s, items, links, names, roles, ends, marks, node, left, item, map,
-        ),
+    match read.links {
+        0..=512 => shown_in::<512>(read, of, node, left, item, map),
+        513..=2048 => shown_in::<2048>(read, of, node, left, item, map),
+        _ => shown_in::<4096>(read, of, node, left, item, map),
     }
 }
 
 // The same in a register of at most N links.
 fn shown_in<const N: usize>(
-    s: &[u8],
-    items: usize,
-    links: usize,
-    names: &[u64; 64],
-    roles: &[u8; 64],
-    ends: &[u8; 64],
-    marks: &[u8; 64],
+    read: &Reading,
+    of: &Reduced,
     node: usize,
     left: usize,
     item: usize,
     map: &mut [u16],
 ) -> Degree
-    requires gradable { Gradable (OfSize s.now items links) names.now roles.now ends.now marks.now node left }
-    requires node_in_bounds { (get_or ends.now node 0 ≤ length map.old) × (item < items) }
-    requires links_in_bounds { (links ≤ N) × (N ≤ most_links) }
-    ensures { (k : Gradable (OfSize s.now items links) names.now roles.now ends.now marks.now node left)
+    requires gradable { GradableIn read.now of.now node left }
+    requires node_in_bounds { (get_or of.now.tree.ends node 0 ≤ length map.old) × (item < read.now.items) }
+    requires links_in_bounds { (read.now.links ≤ N) × (N ≤ most_links) }
+    ensures { (k : GradableIn read.now of.now node left)
         → Graded k.posed.graph.register k.tree item result × (map.new ≡ drawn k.posed.graph.register k.tree node (Some item) map.old) }
 {
-    let mut index = [0u16; graph::INDEX];
-    graph::fill_index(s, items, links, &mut index[..graph::INDEX]);
-    let mut notes = [0u64; N];
-    let d = graded(
-        s,
-        items,
-        &index[..graph::INDEX],
-        names,
-        roles,
-        ends,
-        marks,
-        node,
-        left,
-        item,
-        &mut notes[..N],
-    );
-    show(
-        s,
-        items,
-        &index[..graph::INDEX],
-        ends,
-        marks,
-        &notes[..N],
-        node,
-        left,
-        Some(item),
-        map,
-    );
-    d
+    let on = Indexed::new(read);
+    let mut notes = [0; N];
+    let degree = graded(&on, of, node, left, item, &mut notes);
+    show(&on, of, &notes, node, left, Some(item), map);
+    degree
 }

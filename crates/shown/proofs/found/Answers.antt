@@ -1,15 +1,15 @@
 use native.Mathlib.Omega.{arith}
-use mathlib.Core.Path.{refl, sym, ◌∙◌}
+use mathlib.Core.Path.{sym, ◌∙◌}
+use Rattle.graph.proofs.Judging.{judged}
 use Rattle.shown.proofs.Along.{looking-next}
 use Rattle.shown.proofs.found.Goals as goal
 
 pub loop-k-init : goal.loop-k-init
 loop-k-init c =
     record {
-      graph = c.requires.links_in_bounds.0;
+      graph = judged c.args.on.now.judged;
       inside = c.requires.item_lt.0;
-      places = c.requires.links_in_bounds.1;
-      ended = refl;
+      places = omega (arith, c.requires.links_in_bounds, c.args.on.now.judged.read.2);
       behind = omega (arith, c.from-k.ensures);
       unmet = λ i l m. absurd (omega (arith, c.from-k.ensures));
     }

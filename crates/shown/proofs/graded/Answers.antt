@@ -11,7 +11,7 @@ work-scale-requires c =
     record {
       gradable = c.requires.gradable;
       lent = record {
-        members = (c.include.auto.set, alone_among _ c.include.new.set c.include.ensures _ c.requires.item_lt.0);
+        members = alone_among _ _ _ c.none-set.ensures c.insert.ensures _ c.requires.item_lt.0;
         clear = c.requires.item_lt.1;
         room = room-start _ _ (c.ones.auto.numbers ∙ length-replicate {A = ℕ} 3584 0) (omega (arith, c.requires.gradable.posed.few));
         ones = ones_low c.ones.new.numbers c.ones.ensures.by_index;
@@ -20,7 +20,7 @@ work-scale-requires c =
 
 pub returns : goal.returns
 returns c =
-    λ k. let d = c.work-scale.ensures k in let m = alone-in _ c.include.new.set c.include.ensures in (
+    λ k. let d = c.work-scale.ensures k in let m = alone-in _ _ _ c.none-set.ensures c.insert.ensures in (
       record {
         number = c.from.ensures ∙ d.worked.each _ m;
         scale = d.worked.scaled;
