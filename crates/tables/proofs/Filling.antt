@@ -12,7 +12,10 @@ use lib.ListN.{length, get_or}
 use lib.Seq.{sets, length-sets}
 use Rattle.meaning.specs.Names.{common}
 use Rattle.meaning.specs.Names.{names as many}
-use Rattle.meaning.specs.Tree.{nodes}
+use Rattle.meaning.specs.Tree.{Concept, node as root, nodes}
+use Rattle.meaning.specs.Rows.{Holds}
+use Rattle.rows.specs.Rising.{Rising}
+use Rattle.rows.proofs.Rising.{rising}
 use Rattle.meaning.specs.Graph.{Graph}
 use Rattle.meaning.specs.Register.{withdrawn, targets}
 use Rattle.meaning.specs.InPlace.{scale_in, table_in}
@@ -47,6 +50,13 @@ module _ {s : List ℕ} {items : ℕ} {begins order names roles ends marks : Lis
       let root = opened names roles ends k.tree left node (get_or ends node 0) k.posed.held in
       (root.deep, let l = root.inside in let m = k.posed.few in omega arith, root.inside)
 
+  pub children-rise : TreeOf s items begins order names roles ends marks node left → Rising ends (node + 1) (get_or ends node 0)
+  children-rise k = go k.tree k.posed.held
+    where
+      go : (t : Concept) → Holds names roles ends t left node (get_or ends node 0) → Rising ends (node + 1) (get_or ends node 0)
+      unfolding Holds
+      go (root a f) h = rising names roles ends f (left - 1) (node + 1) (get_or ends node 0) h.4 k.posed.few
+
   -- there is room for the root's row
   pub room-one : TreeOf s items begins order names roles ends marks node left → {long : ℕ} → get_or ends node 0 * items ≤ long → node * items + items ≤ long
   room-one k r = let one : node + 1 ≤ get_or ends node 0 = omega (arith, (here k).2) in omega (arith, mul-le-mul_right items one)
@@ -62,21 +72,19 @@ module _ (s : List ℕ) (items : ℕ) (begins order names roles ends marks : Lis
   abbrev Tree : Type 0
   Tree = TreeOf s items begins order names roles ends marks node left
 
-  -- the children from row c on are left; the last of all ends at row e
-  pub record Going (e : ℕ) (table : List ℕ) (n p c : ℕ) : Type 0 where
+  -- the children from row c on are left
+  pub record Going (table : List ℕ) (n p c : ℕ) : Type 0 where
     pub asked : Tree
-    pub ended : e ≡ get_or ends node 0
     pub room : get_or ends node 0 * items ≤ length old
     pub size : length table ≡ length old
     pub each : (k : Tree) → Sofar (graph k) (gone k) items names roles ends marks k.tree left node old table n p c
 
   -- the root's own names are stored, in what was the table before
-  pub going_start : Tree → (before : List ℕ) → get_or ends node 0 * items ≤ length before → (e : ℕ) → e ≡ get_or ends node 0 → length old ≡ length before
+  pub going_start : Tree → (before : List ℕ) → get_or ends node 0 * items ≤ length before → length old ≡ length before
       → (held : List ℕ) → Names s items held → old ≡ sets before (node * items) (up_to items (λ x. common (get_or names node 0) (get_or held x 0)))
-      → Going e old (many (get_or names node 0)) 1 (node + 1)
-  going_start k before r e ee long held own is = record {
+      → Going old (many (get_or names node 0)) 1 (node + 1)
+  going_start k before r long held own is = record {
     asked = k;
-    ended = ee;
     room = omega arith;
     size = refl;
     each = λ j.
@@ -106,26 +114,20 @@ worked-before {s} {items} {begins} {order} {names} {roles} {ends} {marks} {node}
           ∙ sets-again before (node * items) (up_to items f) rows long;
     }
 
-module _ {s : List ℕ} {items : ℕ} {begins order names roles ends marks : List ℕ} {node left : ℕ} {old : List ℕ} {e : ℕ} {table : List ℕ} {n p c : ℕ}
-    (w : Going s items begins order names roles ends marks node left old e table n p c) where
+module _ {s : List ℕ} {items : ℕ} {begins order names roles ends marks : List ℕ} {node left : ℕ} {old : List ℕ} {table : List ℕ} {n p c : ℕ}
+    (w : Going s items begins order names roles ends marks node left old table n p c) where
   abbrev Next : List ℕ → ℕ → ℕ → ℕ → Type 0
-  Next = Going s items begins order names roles ends marks node left old e
+  Next = Going s items begins order names roles ends marks node left old
 
   abbrev so : (k : TreeOf s items begins order names roles ends marks node left) → Sofar (graph k) (gone k) items names roles ends marks k.tree left node old table n p c
   so = w.each
 
-  module _ (l : c < e) where
-    pub below : c < get_or ends node 0
-    below = omega (arith, w.ended)
-
+  module _ (below : c < get_or ends node 0) where
     pub going-low : c < 64
-    going-low = let m = w.asked.posed.few in let q = below in omega arith
+    going-low = let m = w.asked.posed.few in omega arith
 
     pub bounds : (c < get_or ends c 0) × (get_or ends c 0 ≤ get_or ends node 0)
     bounds = rest-next (so w.asked).rest below
-
-    pub going_less : (j : ℕ) → j ≡ get_or ends c 0 → e - j < e - c
-    going_less j ej = omega (arith, bounds.0)
 
     -- where the child's rows end there is room, and they do not end before they begin
     pub going-rows : (j : ℕ) → j ≡ get_or ends c 0 → (c * items ≤ j * items) × (j * items ≤ length table)
@@ -139,7 +141,6 @@ module _ {s : List ℕ} {items : ℕ} {begins order names roles ends marks : Lis
         → new ≡ sets table (c * items) (up_to (j * items - c * items) (λ x. 0)) → Next new n p j
     going-skip m j ej new is = record {
       asked = w.asked;
-      ended = w.ended;
       room = w.room;
       size = ap length is ∙ length-sets table (c * items) (up_to (j * items - c * items) (λ x. 0)) ∙ w.size;
       each = λ k. rw ej (sofar-skip (graph k) (gone k) items names roles ends marks k.tree left node old (so k) below m new
@@ -204,7 +205,6 @@ module _ {s : List ℕ} {items : ℕ} {begins order names roles ends marks : Lis
             → Next new (n + 1) (p * scale) j
         going_next role er j ej new same is = record {
           asked = w.asked;
-          ended = w.ended;
           room = w.room;
           size = same ∙ long ∙ w.size;
           each = λ k. rw (ej, scaled k) (sofar-child (graph k) (gone k) items names roles ends marks k.tree left node old (so k) below m mid (done (kid-asked k)).filled w.room
@@ -213,10 +213,7 @@ module _ {s : List ℕ} {items : ℕ} {begins order names roles ends marks : Lis
 
   -- ---- no child is left
 
-  module _ (l : e ≤ c) where
-    over : get_or ends node 0 ≤ c
-    over = omega (arith, w.ended)
-
+  module _ (over : get_or ends node 0 ≤ c) where
     at-least : (m : ℕ) → m ≡ max n 1 → m ≡ max 1 n
     at-least m em = omega arith
 

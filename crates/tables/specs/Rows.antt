@@ -11,7 +11,9 @@ use Rattle.meaning.specs.InPlace.{scale_in, table_in}
 use Rattle.register.specs.Image.{Image}
 use Rattle.graph.specs.Walked.{walked}
 use Rattle.sorted.specs.Order.{Sorted}
+use Rattle.rows.specs.declared.Reduced.{Reduced}
 use Rattle.degrees.specs.Gradable.{Gradable}
+use Rattle.tables.specs.declared.Survey.{Survey}
 
 -- the names of each item, one after the other
 pub record Names (s : List ℕ) (items : ℕ) (held : List ℕ) : Type 0 where
@@ -38,12 +40,22 @@ folded table at scale product tops x = row_at table at x * scale + tops x * prod
 abbrev pub closed : (ℕ → Bool) → ℕ → List ℕ → ℕ → ℕ → ℕ
 closed out n table at x = cond (out x) 0 (or_one n (row_at table at x))
 
+-- the register's links are in order, and a reduced tree at a row is put to it
+abbrev pub SortedIn : Survey → Type 0
+SortedIn over = Sorted over.image.now over.items over.links.now.begins over.links.now.order
+
+abbrev pub TabledIn : Survey → Reduced → ℕ → ℕ → Type 0
+TabledIn over of node left = Gradable (SortedIn over) of.tree.names of.tree.roles of.tree.ends of.marks node left
+
 -- what is asked: both rows stand in the table, and the sums fit
 pub record Folding (s : List ℕ) (items : ℕ) (begins order : List ℕ) (role from at scale product : ℕ) (table : List ℕ) : Type 0 where
   pub in_order : Sorted s items begins order
   pub from-fits : from + items ≤ length table
   pub at-fits : at + items ≤ length table
   pub sums-fit : (x : ℕ) → x < items → folded table at scale product (row_tops in_order role from table) x < 4294967296
+
+abbrev pub FoldingIn : Survey → ℕ → ℕ → ℕ → ℕ → ℕ → List ℕ → Type 0
+FoldingIn over = Folding over.image.now over.items over.links.now.begins over.links.now.order
 
 -- the rows of a tree are filled, and nothing else has changed
 pub record Worked {s : List ℕ} {items : ℕ} {begins order names roles ends marks : List ℕ} {node left : ℕ}

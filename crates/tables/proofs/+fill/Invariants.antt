@@ -1,14 +1,15 @@
-use Prim.Native.Nat.{◌-◌}
-use Rattle.tables.proofs.Filling.{Going}
+use lib.ListN.{get_or}
+use Rattle.rows.proofs.Going.{Going}
+use Rattle.tables.proofs.Filling.{Going as Filled}
 use Rattle.tables.proofs.+fill.Given as goal
 
-abbrev pub invariant-loop-c : goal.invariant-loop-c
-invariant-loop-c l =
-    Going l.s l.items l.begins l.order l.names l.roles l.ends l.marks l.node l.left l.initial.table l.e l.table l.n l.product l.c
-
-abbrev pub decreases-loop-c : goal.decreases-loop-c
-decreases-loop-c l =
-    l.e - l.c
+abbrev pub invariant-loop-child : goal.invariant-loop-child
+invariant-loop-child l =
+    record {
+      going : Going l.of.tree.ends (get_or l.of.tree.ends l.node 0) l.child-iterator;
+      filled : Filled l.over.image.now l.over.items l.over.links.now.begins l.over.links.now.order l.of.tree.names l.of.tree.roles l.of.tree.ends l.of.marks
+          l.node l.left l.initial.table l.table l.n l.product l.child-iterator.at;
+    }
 
 abbrev pub decreases-fill : goal.decreases-fill
 decreases-fill l = l.left

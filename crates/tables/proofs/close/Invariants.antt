@@ -6,4 +6,4 @@ use Rattle.tables.proofs.close.Given as goal
 
 abbrev pub invariant-loop-x : goal.invariant-loop-x
 invariant-loop-x l =
-    Image l.s (λ g. Stored (closed (withdrawn g) l.n l.initial.table l.at) l.at l.initial.table l.table l.x)
+    Image l.over.image.now (λ g. Stored (closed (withdrawn g) l.n l.initial.table l.at) l.at l.initial.table l.table l.x)

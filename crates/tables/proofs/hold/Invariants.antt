@@ -7,4 +7,4 @@ use Rattle.tables.proofs.hold.Given as goal
 
 abbrev pub invariant-loop-x : goal.invariant-loop-x
 invariant-loop-x l =
-    Image l.s (λ g. (y : ℕ) → y < l.x → get_or l.held y 0 ≡ (walked g).names y)
+    Image l.read.bytes.now (λ g. (y : ℕ) → y < l.x → get_or l.held y 0 ≡ (walked g).names y)

@@ -5,4 +5,4 @@ use Rattle.tables.proofs.own.Given as goal
 
 abbrev pub invariant-loop-x : goal.invariant-loop-x
 invariant-loop-x l =
-    Stored (λ x. common l.names (get_or l.held x 0)) l.at l.initial.table l.table l.x
+    Stored (λ x. common l.names (get_or l.over.names.now x 0)) l.at l.initial.table l.table l.x
