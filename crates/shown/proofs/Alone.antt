@@ -49,7 +49,7 @@ sizes-fit {s} a b =
 pub clear-zeros : (notes : List ℕ) (n e : ℕ) → ((k : ℕ) → get_or notes k 0 ≡ 0) → Clear notes n e
 clear-zeros notes n e z j k l m = ap (λ (y : ℕ). has y j) (z k) ∙ has-none j
 
-module _ {read : Reading} {of : Reduced} {node left : ℕ} (k : GradableIn read of node left)
+module _ (read : Reading) {of : Reduced} {node left : ℕ} (k : GradableIn read of node left)
     (on : Indexed) (image : on.image.now ≡ read.bytes.now) where
   -- the same with an index of its links
   abbrev pub with-index : GradableOn on of node left
@@ -66,7 +66,7 @@ module _ {read : Reading} {of : Reduced} {node left : ℕ} (k : GradableIn read 
     graded-of = rw same at (done with-index).0
 
     module _ (l : item < on.items) (places : on.links ≤ length notes) where
-      noted : (x : ℕ) → Some item ≡ Some x → Noted of.tree.ends of.marks (held on.image.now) notes k.tree node x
+      pub noted : (x : ℕ) → Some item ≡ Some x → Noted of.tree.ends of.marks (held on.image.now) notes k.tree node x
       noted x e = let z : item ≡ x = cc in rw (← z) (done with-index).1
 
       abbrev pub drawing-of : Drawing on of notes node left (Some item)

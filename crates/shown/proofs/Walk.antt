@@ -36,7 +36,7 @@ use Rattle.register.proofs.Holding.{held-is}
 use Rattle.rows.specs.declared.Reduced.{Reduced}
 use Rattle.rows.specs.Rising.{Rising}
 use Rattle.rows.proofs.Rising.{rising}
-use Rattle.shown.specs.Given.{place, Inside, drawn, Drawing}
+use Rattle.shown.specs.Given.{place, Inside, Onward, drawn, Drawing}
 
 -- ---- stores one after the other
 
@@ -227,7 +227,7 @@ module _ {on : Indexed} {of : Reduced} {notes : List ℕ} {node left : ℕ} {ite
   Next j after = Walk on of notes node left item old after j
 
   module _ (below : c < get_or of.tree.ends node 0) where
-    inside : (c < get_or of.tree.ends c 0) × (get_or of.tree.ends c 0 ≤ get_or of.tree.ends node 0)
+    pub inside : (c < get_or of.tree.ends c 0) × (get_or of.tree.ends c 0 ≤ get_or of.tree.ends node 0)
     inside = drawn-next (w.each w.asked) below
 
     pub walk-low : c < 64
@@ -243,13 +243,9 @@ module _ {on : Indexed} {of : Reduced} {notes : List ℕ} {node left : ℕ} {ite
     pub walk-skip : get_or of.marks c 0 ≡ 0 → (j : ℕ) → j ≡ get_or of.tree.ends c 0 → (after : List ℕ) → after ≡ sets new c (replicate (j - c) 65534) → Next j after
     walk-skip m j ej after is = next j after (ap length is ∙ length-sets new c (replicate (j - c) 65534)) (λ k. drawn-is (drawn-skip (w.each k) below m j ej) is)
 
-    -- where a kept child is looked for
-    pub walk-onward : (x : ℕ) → item ≡ Some x → (x < on.items) × (c < 64)
-    walk-onward x e = (let i = w.asked.inside in let h = rw e at i in h, walk-low)
-
     -- it is kept, and goes where the notes say, or nowhere where the node does
     module _ (m : get_or of.marks c 0 ≡ 0 → ⊥) (next-item : Option ℕ)
-        (onward : MatchOption item (next-item ≡ None) (λ x. (j : JudgedOn on) (o : Place ℕ) → Note j.register notes c x o → place next-item ≡ o)) where
+        (onward : MatchOption item (next-item ≡ None) (λ x. Onward on notes c x next-item)) where
       module _ (k : Drawing on of notes node left item) where
         abbrev pub child : Child k.names k.roles of.tree.ends of.marks k.posed.graph.register notes (left - 1) (get_or of.tree.ends node 0) (place item)
             (children-drawn (walked k.posed.graph.register) k.tree node (place item) old) c new
@@ -261,7 +257,7 @@ module _ {on : Indexed} {of : Reduced} {notes : List ℕ} {node left : ℕ} {ite
           pub inside : Inside on.items n
           pub noted : (y : ℕ) → n ≡ Some y → Noted of.tree.ends of.marks k.posed.graph.register notes child.tree c y
 
-        from : (p n : Option ℕ) → item ≡ p → MatchOption p (n ≡ None) (λ x. (j : JudgedOn on) (o : Place ℕ) → Note j.register notes c x o → place n ≡ o)
+        from : (p n : Option ℕ) → item ≡ p → MatchOption p (n ≡ None) (λ x. Onward on notes c x n)
             → Going p n
         unfolding goes_to
         from None n q e = rw e (record { same = refl; inside = tt; noted = λ y z. absurd (let x : ◌≡◌ {A = ℕ} 0 1 = cc in omega arith) })

@@ -16,7 +16,7 @@ use Rattle.graph.specs.declared.Indexed.{Indexed}
 use Rattle.graph.specs.On.{JudgedOn}
 use Rattle.degrees.specs.Gradable.{Gradable}
 use Rattle.graph.specs.Posed.{Posed}
-use Rattle.degrees.specs.Notes.{Noted}
+use Rattle.degrees.specs.Notes.{Note, Noted}
 use Rattle.shown.specs.declared.Degree.{Degree}
 
 -- an item or none, in meaning's words
@@ -28,6 +28,10 @@ place (Some x) = some x
 abbrev pub Inside : ℕ → Option ℕ → Type 0
 Inside items None = Unit {0}
 Inside items (Some x) = x < items
+
+-- the child at a node goes where it is noted that it goes from item x
+abbrev pub Onward : Indexed → List ℕ → ℕ → ℕ → Option ℕ → Type 0
+Onward on notes node x r = (j : JudgedOn on) (o : Place ℕ) → Note j.register notes node x o → place r ≡ o
 
 -- the map with what is shown for a tree from a row on, whose root goes to o
 abbrev pub drawn : Register → Concept → ℕ → Option ℕ → List ℕ → List ℕ

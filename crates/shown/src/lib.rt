@@ -1,13 +1,12 @@
 // The degree of one item in a concept tree that is held as rows, over a register image that was read; and the map shown for it.
 #![tactic(auto)]
 
-ghost use Rattle.std.specs.Prelude.{◌≡◌, Some, ℕ, ◌+◌, ◌≤◌, ◌<◌, length, get_or};
-ghost use Rattle.std.proofs.Math.Option.{Option as Place};
+ghost use Rattle.std.specs.Prelude.{◌≡◌, Some, None, MatchOption, ◌+◌, ◌≤◌, ◌<◌, length, get_or};
 ghost use Rattle.meaning.specs.Bounds.{most_links};
 ghost use Rattle.graph.specs.On.{JudgedOn};
 ghost use Rattle.degrees.specs.Gradable.{GradableOn};
-ghost use Rattle.degrees.specs.Notes.{Note, Noted, Clear};
-ghost use Rattle.shown.specs.Given.{place, drawn, Graded, GradableIn, Drawing};
+ghost use Rattle.degrees.specs.Notes.{Noted, Clear};
+ghost use Rattle.shown.specs.Given.{Inside, Onward, drawn, Graded, GradableIn, Drawing};
 
 use fields::bits;
 use graph::Indexed;
@@ -22,13 +21,15 @@ pub struct Degree {
     pub scale: u64,
 }
 
-// Where the child at a node goes whose parent goes to `item`: along the link of the item that is noted for it; nowhere where none is.
-fn found(on: &Indexed, notes: &[u64], node: usize, item: usize) -> Option<usize>
+// Where the child at a node goes whose parent goes to `item`: along the link of the item that is noted for it; nowhere where none is, and where its
+// parent does.
+fn found(on: &Indexed, notes: &[u64], node: usize, item: Option<usize>) -> Option<usize>
     requires links_in_bounds { on.now.links ≤ length notes.now }
-    requires item_lt { (item < on.now.items) × (node < 64) }
-    ensures { (j : JudgedOn on.now) (o : Place ℕ) → Note j.register notes.now node item o → place result ≡ o }
+    requires inside { Inside on.now.items item × (node < 64) }
+    ensures { MatchOption item (result ≡ None) (λ x. Onward on.now notes.now node x result) }
 {
-    for k in usize::from(on.index[item])..usize::from(on.index[item + 1]) {
+    let x = item?;
+    for k in usize::from(on.index[x])..usize::from(on.index[x + 1]) {
         if bits::on(notes[k], node) {
             return Some(on.end_of(k));
         }
@@ -58,7 +59,7 @@ pub fn show(
             map[child..end].fill(meaning::DROPPED as u16);
             continue;
         }
-        let next = item.and_then(|x| found(on, notes, child, x));
+        let next = found(on, notes, child, item);
         show(on, of, notes, child, left - 1, next, map);
     }
 }

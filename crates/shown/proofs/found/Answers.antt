@@ -8,7 +8,7 @@ pub loop-k-init : goal.loop-k-init
 loop-k-init c =
     record {
       graph = judged c.args.on.now.judged;
-      inside = c.requires.item_lt.0;
+      inside = rw c.in_ok-x.was at c.requires.inside.0;
       places = omega (arith, c.requires.links_in_bounds, c.args.on.now.judged.read.2);
       behind = omega (arith, c.from-k.ensures);
       unmet = λ i l m. absurd (omega (arith, c.from-k.ensures));
