@@ -51,10 +51,10 @@ module _ {s : List ℕ} {items : ℕ} {begins order names roles ends marks : Lis
       (root.deep, let l = root.inside in let m = k.posed.few in omega arith, root.inside)
 
   pub children-rise : TreeOf s items begins order names roles ends marks node left → Rising ends (node + 1) (get_or ends node 0)
+  unfolding Holds
   children-rise k = go k.tree k.posed.held
     where
       go : (t : Concept) → Holds names roles ends t left node (get_or ends node 0) → Rising ends (node + 1) (get_or ends node 0)
-      unfolding Holds
       go (root a f) h = rising names roles ends f (left - 1) (node + 1) (get_or ends node 0) h.4 k.posed.few
 
   -- there is room for the root's row

@@ -9,9 +9,9 @@ pub fill_empty-requires : goal.fill_empty-requires
 fill_empty-requires c =
     (omega arith, omega (arith, c.requires.served.1))
 
-pub returns-then-served : goal.returns-then-served
-returns-then-served c =
-    λ g h. closed-served (withdrawn g) c.args.n c.args.at c.args.items _ c.args.table.now _ (c.requires.served.0 c.if-served.true g h)
+pub returns-then-over : goal.returns-then-over
+returns-then-over c =
+    λ g h. closed-served (withdrawn g) c.args.n c.args.at c.args.over.now.items _ c.args.table.now _ (c.requires.served.0 c.if-over.true g h)
     (omega arith) c.fill_empty.ensures
 
 pub loop-x-init : goal.loop-x-init
