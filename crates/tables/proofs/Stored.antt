@@ -77,21 +77,31 @@ fits-here a b s t p n e h = rw e h
 pub sum-here : (r a b s t p : ℕ) → r ≡ a * s + t * p → a ≡ b → r ≡ b * s + t * p
 sum-here r a b s t p q e = rw (← e) q
 
--- ---- tops that are a child's
+-- ---- tops that are a child's: of all that are gathered the first, one for each item
 
-module _ {s : List ℕ} {items : ℕ} {begins order : List ℕ} (role from at scale product : ℕ) (table tops : List ℕ)
-    (is : (c : Sorted s items begins order) (x : ℕ) → x < items → get_or tops x 0 ≡ row_tops c role from table x) where
+module _ {s : List ℕ} {items : ℕ} {begins order : List ℕ} (role from at scale product : ℕ) (table all : List ℕ) (long : length all ≡ 512)
+    (is : (c : Sorted s items begins order) (x : ℕ) → x < items → get_or all x 0 ≡ row_tops c role from table x) where
+  abbrev pub tops : List ℕ
+  tops = take items all
+
+  pub tops-long : items ≤ 512 → length tops ≡ items
+  tops-long l = length-take-le items all (omega arith)
+
   same_sum : (c : Sorted s items begins order) (x : ℕ) → x < items
       → folded table at scale product (λ y. get_or tops y 0) x ≡ folded table at scale product (row_tops c role from table) x
-  same_sum c x l = ap (λ (z : ℕ). row_at table at x * scale + z * product) (is c x l)
+  same_sum c x l = ap (λ (z : ℕ). row_at table at x * scale + z * product) (get_or-take items all x 0 l ∙ is c x l)
 
-  pub tops_fit : Folding s items begins order role from at scale product table → (x : ℕ) → x < items
+  pub tops_fit : Folding s items begins order role from at scale product table → (x : ℕ) → x < length tops
       → folded table at scale product (λ y. get_or tops y 0) x < 4294967296
-  tops_fit w x l = rw (same_sum w.in_order x l) (w.sums-fit x l)
+  tops_fit w x l =
+      let m : x < items = omega (arith, tops-long w.in_order.most) in
+      rw (same_sum w.in_order x m) (w.sums-fit x m)
 
-  pub tops-folded : (new : List ℕ) → new ≡ sets table at (up_to items (folded table at scale product (λ y. get_or tops y 0))) → (c : Sorted s items begins order)
-      → new ≡ sets table at (up_to items (folded table at scale product (row_tops c role from table)))
-  tops-folded new e c = e ∙ ap (sets table at) (up_to-same items _ _ (same_sum c))
+  pub tops-folded : (new : List ℕ) → new ≡ sets table at (up_to (length tops) (folded table at scale product (λ y. get_or tops y 0)))
+      → (c : Sorted s items begins order) → new ≡ sets table at (up_to items (folded table at scale product (row_tops c role from table)))
+  tops-folded new e c =
+      e ∙ ap (λ (n : ℕ). sets table at (up_to n (folded table at scale product (λ y. get_or tops y 0)))) (tops-long c.most)
+      ∙ ap (sets table at) (up_to-same items _ _ (same_sum c))
 
 -- ---- what is stored over by at least as much
 

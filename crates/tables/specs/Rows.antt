@@ -42,7 +42,7 @@ closed out n table at x = cond (out x) 0 (or_one n (row_at table at x))
 
 -- the register's links are in order, and a reduced tree at a row is put to it
 abbrev pub SortedIn : Survey → Type 0
-SortedIn over = Sorted over.image.now over.items over.links.now.begins over.links.now.order
+SortedIn over = Sorted over.image.now over.items over.links.begins.now over.links.order.now
 
 abbrev pub TabledIn : Survey → Reduced → ℕ → ℕ → Type 0
 TabledIn over of node left = Gradable (SortedIn over) of.tree.names of.tree.roles of.tree.ends of.marks node left
@@ -55,7 +55,7 @@ pub record Folding (s : List ℕ) (items : ℕ) (begins order : List ℕ) (role 
   pub sums-fit : (x : ℕ) → x < items → folded table at scale product (row_tops in_order role from table) x < 4294967296
 
 abbrev pub FoldingIn : Survey → ℕ → ℕ → ℕ → ℕ → ℕ → List ℕ → Type 0
-FoldingIn over = Folding over.image.now over.items over.links.now.begins over.links.now.order
+FoldingIn over = Folding over.image.now over.items over.links.begins.now over.links.order.now
 
 -- the rows of a tree are filled, and nothing else has changed
 pub record Worked {s : List ℕ} {items : ℕ} {begins order names roles ends marks : List ℕ} {node left : ℕ}

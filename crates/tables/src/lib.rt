@@ -19,10 +19,11 @@ use sorted::ByRole;
 
 // A register that a table is made of: an image that was read, and how many items it has; its links by role; the names of each item, read once;
 // and whether all items are in service.
+#[derive(Clone, Copy)]
 pub struct Survey<'a> {
     pub image: &'a [u8],
     pub items: usize,
-    pub links: &'a ByRole,
+    pub links: ByRole<'a>,
     pub names: &'a [u64],
     pub served: bool,
 }
@@ -153,12 +154,18 @@ pub fn whole(read: &Reading, of: &Reduced, table: &mut [u32]) -> u32
     requires in_bounds { get_or of.now.tree.ends 0 0 * read.now.items ≤ length table.old }
     ensures { (k : GradableIn read.now of.now 0 17) → Whole read.now.items k.posed.graph.register k.tree result table.old table.new }
 {
+    let mut begins = [0; sorted::PLACES];
+    let mut order = [0; meaning::MOST_LINKS];
+    sorted::sort(read, &mut begins, &mut order);
     let mut names = [0; meaning::MOST_ITEMS];
     hold(read, &mut names);
     let over = Survey {
         image: read.bytes,
         items: read.items,
-        links: &ByRole::of(read),
+        links: ByRole {
+            begins: &begins,
+            order: &order,
+        },
         names: &names,
         served: graph::none_out(read.bytes, read.items),
     };

@@ -7,7 +7,7 @@ abbrev pub invariant-loop-child : goal.invariant-loop-child
 invariant-loop-child l =
     record {
       going : Going l.of.tree.ends (get_or l.of.tree.ends l.node 0) l.child-iterator;
-      filled : Filled l.over.image.now l.over.items l.over.links.now.begins l.over.links.now.order l.of.tree.names l.of.tree.roles l.of.tree.ends l.of.marks
+      filled : Filled l.over.image.now l.over.items l.over.links.begins.now l.over.links.order.now l.of.tree.names l.of.tree.roles l.of.tree.ends l.of.marks
           l.node l.left l.initial.table l.table l.n l.product l.child-iterator.at;
     }
 
