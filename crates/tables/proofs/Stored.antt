@@ -10,7 +10,7 @@ use native.Mathlib.Decide.{ℕ_discrete}
 use native.Mathlib.Omega.{arith}
 use lib.Count.{ones}
 use lib.ListN.{length, get_or, set, replicate, take, drop, take-append-drop, length-drop}
-use lib.Seq.{sets, length-take-le, set-get_or, get_or-set_same, get_or-set_other, drop-drop, sets-eq}
+use lib.Seq.{sets, length-take-le, set-get_or, get_or-set_same, get_or-set_other, get_or-take, drop-drop, sets-eq}
 use Rattle.std.proofs.lemmas.List.{replicate_more}
 use Rattle.meaning.specs.Names.{common}
 use Rattle.graph.specs.Walked.{walked}

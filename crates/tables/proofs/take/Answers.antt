@@ -12,7 +12,16 @@ gather-requires c =
     }
 
 pub fold-requires : goal.fold-requires
-fold-requires c = ?
+fold-requires c =
+    let w = c.requires in
+    let long = c.gather.auto.tops in
+    let is = rw c.from.ensures at c.gather.ensures c.args.over.now.image.now in
+    record {
+      in_bounds = omega (arith, w.at-fits, tops-long c.args.role c.args.«from» c.args.at c.args.scale c.args.product c.args.table.now c.gather.new.tops long is w.in_order.most);
+      by_index = tops_fit c.args.role c.args.«from» c.args.at c.args.scale c.args.product c.args.table.now c.gather.new.tops long is w;
+    }
 
 pub returns : goal.returns
-returns c = ?
+returns c =
+    tops-folded c.args.role c.args.«from» c.args.at c.args.scale c.args.product c.args.table.now c.gather.new.tops c.gather.auto.tops
+    (rw c.from.ensures at c.gather.ensures c.args.over.now.image.now) _ c.fold.ensures

@@ -1,4 +1,3 @@
-use mathlib.Core.Path.{refl}
 use native.Mathlib.Omega.{arith}
 use Rattle.graph.proofs.Empty.{zero-at}
 use Rattle.tables.proofs.Sorting.{with-order, asked-items, whole_of}
@@ -6,27 +5,21 @@ use Rattle.tables.proofs.whole.Goals as goal
 
 pub sort-requires : goal.sort-requires
 sort-requires c =
-    record {
-      of_size = c.requires.gradable.posed.graph;
-      begins_len = (refl, refl, λ k. zero-at 257 k);
-    }
+    λ k. zero-at 257 k
 
 pub hold-requires : goal.hold-requires
 hold-requires c =
-    record {
-      asked = asked-items c.requires.gradable;
-      in_bounds = omega (arith, c.sort.ensures.most);
-    }
+    omega (arith, c.sort.ensures.most)
 
-pub none_out-served-requires : goal.none_out-served-requires
-none_out-served-requires c =
+pub none_out-requires : goal.none_out-requires
+none_out-requires c =
     asked-items c.requires.gradable
 
 pub fill-requires : goal.fill-requires
 fill-requires c =
     record {
       gradable = with-order c.requires.gradable c.sort.ensures;
-      names = (c.hold.ensures, c.none_out-served.ensures, c.requires.in_bounds);
+      names = (c.hold.ensures, c.none_out.ensures, c.requires.in_bounds);
     }
 
 pub returns : goal.returns
