@@ -5,3 +5,4 @@ pub mod Noted
 pub mod Reaching
 pub mod Head
 pub mod Going
+pub mod Filled

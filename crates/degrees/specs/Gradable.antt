@@ -5,6 +5,8 @@ use Rattle.meaning.specs.Bounds.{most_scale}
 use Rattle.meaning.specs.Tree.{Concept}
 use Rattle.meaning.specs.InPlace.{scale_in}
 use Rattle.meaning.specs.Rows.{Marked}
+use Rattle.register.specs.declared.Reading.{Reading}
+use Rattle.register.specs.Image.{OfSize}
 use Rattle.graph.specs.declared.Indexed.{Indexed}
 use Rattle.graph.specs.On.{JudgedOn}
 use Rattle.graph.specs.Posed.{Posed}
@@ -21,3 +23,7 @@ pub record Gradable (R : Type 0) (names roles ends marks : List ℕ) (node left 
 -- the same of a tree in code, put to a register with its index
 abbrev pub GradableOn : Indexed → Reduced → ℕ → ℕ → Type 0
 GradableOn on of node left = Gradable (JudgedOn on) of.tree.names of.tree.roles of.tree.ends of.marks node left
+
+-- and to an image that was read
+abbrev pub GradableIn : Reading → Reduced → ℕ → ℕ → Type 0
+GradableIn read of node left = Gradable (OfSize read.bytes.now read.items read.links) of.tree.names of.tree.roles of.tree.ends of.marks node left

@@ -4,13 +4,12 @@ use mathlib.Core.Path.{◌≡◌, refl, sym, ap, ap₂, ◌∙◌}
 use mathlib.Core.Logic.{inr}
 use mathlib.Core.Bool.{Bool, false, cond}
 use mathlib.Core.List.{List, [], ◌∷◌, ◌++◌, append-nil}
-use Rattle.std.proofs.lemmas.List.{append_assoc}
 use Prim.Native.Nat.{ℕ, zero, suc, ◌+◌, ◌-◌, ◌*◌, ◌≤◌, ◌<◌}
 use native.Mathlib.Decide.{ℕ_discrete}
 use native.Mathlib.Omega.{arith}
 use lib.Count.{ones}
-use lib.ListN.{length, get_or, set, replicate, take, drop, take-append-drop, length-drop}
-use lib.Seq.{sets, length-take-le, set-get_or, get_or-set_same, get_or-set_other, get_or-take, drop-drop, sets-eq}
+use lib.ListN.{length, get_or, set, replicate, take, drop, take-append-drop}
+use lib.Seq.{sets, length-take-le, set-get_or, get_or-set_same, get_or-set_other, get_or-take}
 use Rattle.std.proofs.lemmas.List.{replicate_more}
 use Rattle.meaning.specs.Names.{common}
 use Rattle.graph.specs.Walked.{walked}
@@ -20,6 +19,7 @@ use Rattle.meaning.proofs.Stores.{sets-append, sets-beyond, sets_over}
 use Rattle.meaning.proofs.Table.{up_to-long, up_to-same}
 use Rattle.register.specs.Image.{Image}
 use Rattle.sorted.specs.Order.{Sorted}
+use Rattle.degrees.proofs.Filled.{part-filled}
 use Rattle.tables.specs.Rows.{Names, row_at, row_tops, folded, closed, Folding}
 
 -- so many are stored
@@ -59,15 +59,9 @@ all-one (suc n) v =
     let one : n + 1 ≡ suc n = omega arith in
     ap (λ (k : ℕ). replicate k v) (sym one) ∙ sym (replicate_more n v) ∙ ap (λ (z : List ℕ). z ++ (v ∷ [])) (all-one n v)
 
-pub part-filled : (a b v : ℕ) (old part : List ℕ) → a ≤ b → b ≤ length old → part ≡ replicate (length (take (b - a) (drop a old))) v
+pub row-filled : (a b v : ℕ) (old part : List ℕ) → a ≤ b → b ≤ length old → part ≡ replicate (length (take (b - a) (drop a old))) v
     → take a old ++ (part ++ drop (b - a) (drop a old)) ≡ sets old a (up_to (b - a) (λ x. v))
-part-filled a b v old part l m e =
-    let long : length (take (b - a) (drop a old)) ≡ b - a = length-take-le (b - a) (drop a old) (omega (arith, length-drop a old)) in
-    let is : part ≡ up_to (b - a) (λ x. v) = e ∙ ap (λ (k : ℕ). replicate k v) long ∙ all-one (b - a) v in
-    let fits : a + length (up_to (b - a) (λ x. v)) ≤ length old = omega (arith, up_to-long (b - a) (λ x. v)) in
-    let behind : drop (b - a) (drop a old) ≡ drop (a + length (up_to (b - a) (λ x. v))) old =
-    drop-drop (b - a) a old ∙ ap (λ (k : ℕ). drop k old) (omega (arith, up_to-long (b - a) (λ x. v))) in
-    ap₂ (λ (p q : List ℕ). take a old ++ (p ++ q)) is behind ∙ sym (append_assoc (take a old) (up_to (b - a) (λ x. v)) _) ∙ sym (sets-eq (up_to (b - a) (λ x. v)) old a fits)
+row-filled a b v old part l m e = part-filled a b v old part l m e ∙ ap (sets old a) (all-one (b - a) v)
 
 -- ---- sums of equal parts
 

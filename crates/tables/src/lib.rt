@@ -72,13 +72,22 @@ fn fold(at: usize, scale: u32, product: u32, tops: &[u32], table: &mut [u32])
 }
 
 // Folds the child whose row stands from `from` on into the row from `at` on: of the items that an item's links of the role lead to, the greatest number counts.
-fn take(over: &Survey, role: u8, from: usize, at: usize, scale: u32, product: u32, table: &mut [u32])
+fn take(
+    over: &Survey,
+    role: u8,
+    from: usize,
+    at: usize,
+    scale: u32,
+    product: u32,
+    table: &mut [u32],
+)
     requires { FoldingIn over.now role from at scale product table.old }
     ensures { (c : SortedIn over.now)
         → table.new ≡ sets table.old at (up_to over.now.items (folded table.old at scale product (row_tops c role from table.old))) }
 {
     let mut tops = [0; meaning::MOST_ITEMS];
-    over.links.gather(over.items, usize::from(role), table, from, &mut tops);
+    over.links
+        .gather(over.items, usize::from(role), table, from, &mut tops);
     fold(at, scale, product, &tops[..over.items], table);
 }
 

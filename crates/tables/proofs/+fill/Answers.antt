@@ -1,9 +1,9 @@
-use mathlib.Core.Path.{refl, ◌∙◌}
+use mathlib.Core.Path.{refl}
 use native.Mathlib.Omega.{arith}
 use Rattle.rows.proofs.Going.{begins, turn, ended}
-use Rattle.tables.proofs.Stored.{part-filled}
-use Rattle.tables.proofs.Filling.{here, children-rise, room-one, going_start, worked-before, going-low, going-rows, going-skip}
-use Rattle.tables.proofs.Filling.{kid-asked, kid-room, kid-folding, kid-fits, going_next, going-fits, going-asked, going-last}
+use Rattle.tables.proofs.Stored.{row-filled}
+use Rattle.tables.proofs.Filling.{here, children-rise, room-one, going_start, worked-before, going-rows, going-skip}
+use Rattle.tables.proofs.Filling.{kid-asked, kid-room, kid-folding, kid-fits, going_next, going-fits, going-last}
 use Rattle.tables.proofs.+fill.Goals as goal
 
 pub overflow_mul-at : goal.overflow_mul-at
@@ -56,7 +56,7 @@ loop-child-preserved-then-of-child-eq0 t c =
     record {
       going = g.going;
       filled = rw (g.onward, ← c.from-end.ensures) (going-skip w g.inside c.if-of-child-eq0.true _ c.from-end.ensures _
-          (part-filled _ _ _ _ _ rows.0 rows.1 (c.fill.ensures.after (λ y e. e))));
+          (row-filled _ _ _ _ _ rows.0 rows.1 (c.fill.ensures.after (λ y e. e))));
     }
 
 pub overflow_sub-left : goal.overflow_sub-left

@@ -1,12 +1,12 @@
-use mathlib.Core.Path.{refl, ◌∙◌}
+use mathlib.Core.Path.{refl}
 use native.Mathlib.Omega.{arith}
-use Rattle.tables.proofs.Stored.{stored-start, stored_more, stored-upto, stored-none, part-filled}
+use Rattle.tables.proofs.Stored.{stored-start, stored_more, stored-upto, stored-none, row-filled}
 use Rattle.tables.proofs.own.Goals as goal
 
 pub returns-then-names-eq0 : goal.returns-then-names-eq0
 returns-then-names-eq0 c =
     stored-none _ _ _ _ _ _ _ c.if-names-eq0.true (omega arith)
-    (part-filled _ _ _ _ _ (omega arith) (omega (arith, c.requires.1)) (c.fill.ensures.after (λ y e. e)))
+    (row-filled _ _ _ _ _ (omega arith) (omega (arith, c.requires.1)) (c.fill.ensures.after (λ y e. e)))
 
 pub loop-x-init : goal.loop-x-init
 loop-x-init c = stored-start _ _ _ _ refl
