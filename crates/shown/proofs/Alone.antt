@@ -24,10 +24,10 @@ use Rattle.graph.specs.declared.Indexed.{Indexed}
 use Rattle.graph.proofs.Judging.{judged}
 use Rattle.graph.specs.Sets.{in_set, Among, All, With}
 use Rattle.graph.proofs.All.{all_among}
-use Rattle.degrees.specs.Gradable.{GradableOn}
+use Rattle.degrees.specs.Gradable.{GradableOn, GradableIn}
 use Rattle.degrees.specs.Notes.{Noted, Clear}
 use Rattle.shown.specs.declared.Degree.{Degree}
-use Rattle.shown.specs.Given.{drawn, Graded, GradableIn, Drawing}
+use Rattle.shown.specs.Given.{drawn, Graded, Drawing}
 
 module _ (item : ℕ) (none set : List ℕ) (empty : All 0 none) (w : With none item set) where
   pub alone-in : in_set set item ≡ true

@@ -1,18 +1,17 @@
 -- Walking over a node's children with the map: what is drawn and what is left make up what is shown. A kept child goes where the notes say.
 -- Assumes nothing.
-use mathlib.Core.Path.{◌≡◌, refl, sym, ap, ap₂, subst, ◌∙◌, fun_ext}
+use mathlib.Core.Path.{◌≡◌, refl, sym, ap, subst, ◌∙◌, fun_ext}
 use mathlib.Core.Bool.{true, false}
 use mathlib.Core.List.{List, [], ◌∷◌, ◌++◌, map, map-append, Memᴰ}
-use mathlib.Core.Option.{Option as Place, some, none as nowhere}
+use mathlib.Core.Option.{Option as Place, some}
 use Rattle.std.specs.Prelude.{Option, Some, None, MatchOption, unwrap_or}
 use Prim.Native.Nat.{ℕ, zero, suc, ◌+◌, ◌-◌, ◌≤◌, ◌<◌}
 use native.Mathlib.Nat.{le_trans}
 use native.Mathlib.Numerals.{add-one}
 use native.Mathlib.Omega.{arith}
-use lib.ListN.{length, get_or, set, replicate, take, drop, length-map, length-replicate, length-drop}
+use lib.ListN.{length, get_or, set, replicate, length-map, length-replicate}
 use lib.Dec.{lit≤}
-use lib.Seq.{sets, length-sets, length-take-le, drop-drop, sets-eq}
-use Rattle.std.proofs.lemmas.List.{append_assoc}
+use lib.Seq.{sets, length-sets}
 use Rattle.meaning.specs.Tree.{node, Forest, none, more, Concept, children, under, nodes}
 use Rattle.meaning.specs.Graph.{Graph}
 use Rattle.meaning.specs.Register.{Register}
@@ -31,7 +30,6 @@ use Rattle.graph.proofs.Use.{next-inside}
 use Rattle.degrees.specs.Notes.{Note, Noted, NotedF}
 use Rattle.degrees.proofs.Folding.{mark-zero, mark-other}
 use Rattle.graph.specs.declared.Indexed.{Indexed}
-use Rattle.graph.specs.On.{JudgedOn}
 use Rattle.register.proofs.Holding.{held-is}
 use Rattle.rows.specs.declared.Reduced.{Reduced}
 use Rattle.rows.specs.Rising.{Rising}
@@ -306,16 +304,3 @@ module _ {on : Indexed} {of : Reduced} {notes : List ℕ} {node left : ℕ} {ite
       walk-next j ej after size shows =
           next j after size (λ k. drawn-is ((child k).then j ej)
           (shows (child-of k) ∙ ap (λ (o : Place ℕ). sets new c (map mark_number (shown (walked k.posed.graph.register) (child k).tree o))) (going k).same))
-
--- ---- a dropped child
-
-pub part-filled : (a b v : ℕ) (m part : List ℕ) → a ≤ b → b ≤ length m → part ≡ replicate (length (take (b - a) (drop a m))) v
-    → take a m ++ (part ++ drop (b - a) (drop a m)) ≡ sets m a (replicate (b - a) v)
-part-filled a b v m part l r e =
-    let long : length (take (b - a) (drop a m)) ≡ b - a = length-take-le (b - a) (drop a m) (omega (arith, length-drop a m)) in
-    let is : part ≡ replicate (b - a) v = e ∙ ap (λ (k : ℕ). replicate k v) long in
-    let size : length (replicate (b - a) v) ≡ b - a = length-replicate (b - a) v in
-    let behind : drop (b - a) (drop a m) ≡ drop (a + length (replicate (b - a) v)) m =
-    drop-drop (b - a) a m ∙ ap (λ (k : ℕ). drop k m) (omega arith) in
-    ap₂ (λ (p q : List ℕ). take a m ++ (p ++ q)) is behind ∙ sym (append_assoc (take a m) (replicate (b - a) v) _)
-    ∙ sym (sets-eq (replicate (b - a) v) m a (omega arith))

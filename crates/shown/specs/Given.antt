@@ -9,12 +9,9 @@ use Rattle.graph.specs.Walked.{walked}
 use Rattle.meaning.specs.InPlace.{scale_in, degree_in}
 use Rattle.meaning.specs.Rows.{Marked}
 use Rattle.meaning.specs.Shown.{shown, mark_number}
-use Rattle.register.specs.declared.Reading.{Reading}
-use Rattle.register.specs.Image.{OfSize}
 use Rattle.rows.specs.declared.Reduced.{Reduced}
 use Rattle.graph.specs.declared.Indexed.{Indexed}
 use Rattle.graph.specs.On.{JudgedOn}
-use Rattle.degrees.specs.Gradable.{Gradable}
 use Rattle.graph.specs.Posed.{Posed}
 use Rattle.degrees.specs.Notes.{Note, Noted}
 use Rattle.shown.specs.declared.Degree.{Degree}
@@ -41,10 +38,6 @@ drawn g t row o m = sets m row (map mark_number (shown (walked g) t (place o)))
 pub record Graded (g : Register) (t : Concept) (x : ℕ) (d : Degree) : Type 0 where
   pub number : d.number ≡ degree_in (walked g) t x
   pub scale : d.scale ≡ scale_in t
-
--- a reduced tree at a row, put to an image that was read
-abbrev pub GradableIn : Reading → Reduced → ℕ → ℕ → Type 0
-GradableIn read of node left = Gradable (OfSize read.bytes.now read.items read.links) of.tree.names of.tree.roles of.tree.ends of.marks node left
 
 -- What is to be drawn: rows that hold a tree, whose root goes to an item or nowhere, and notes for all links that say where its kept nodes go.
 pub record Drawing (on : Indexed) (of : Reduced) (notes : List ℕ) (node left : ℕ) (item : Option ℕ) : Type 0 where

@@ -4,9 +4,9 @@
 ghost use Rattle.std.specs.Prelude.{◌≡◌, Some, None, MatchOption, ◌+◌, ◌≤◌, ◌<◌, length, get_or};
 ghost use Rattle.meaning.specs.Bounds.{most_links};
 ghost use Rattle.graph.specs.On.{JudgedOn};
-ghost use Rattle.degrees.specs.Gradable.{GradableOn};
+ghost use Rattle.degrees.specs.Gradable.{GradableOn, GradableIn};
 ghost use Rattle.degrees.specs.Notes.{Noted, Clear};
-ghost use Rattle.shown.specs.Given.{Inside, Onward, drawn, Graded, GradableIn, Drawing};
+ghost use Rattle.shown.specs.Given.{Inside, Onward, drawn, Graded, Drawing};
 
 use fields::bits;
 use graph::Indexed;
@@ -65,7 +65,14 @@ pub fn show(
 }
 
 // The degree of one item in the tree at a node; and it is noted where the nodes below go.
-fn graded(on: &Indexed, of: &Reduced, node: usize, left: usize, item: usize, notes: &mut [u64]) -> Degree
+fn graded(
+    on: &Indexed,
+    of: &Reduced,
+    node: usize,
+    left: usize,
+    item: usize,
+    notes: &mut [u64],
+) -> Degree
     requires gradable { GradableOn on.now of.now node left }
     requires item_lt { (item < on.now.items) × Clear notes.old (node + 1) (get_or of.now.tree.ends node 0) }
     ensures { (k : GradableOn on.now of.now node left) → Graded k.posed.graph.register k.tree item result
@@ -92,7 +99,14 @@ pub fn degree_at(read: &Reading, of: &Reduced, node: usize, left: usize, item: u
 }
 
 // The degree of one item in the tree at a node, and its map. Only as many notes are made as a register of its size wants.
-pub fn shown_at(read: &Reading, of: &Reduced, node: usize, left: usize, item: usize, map: &mut [u16]) -> Degree
+pub fn shown_at(
+    read: &Reading,
+    of: &Reduced,
+    node: usize,
+    left: usize,
+    item: usize,
+    map: &mut [u16],
+) -> Degree
     requires gradable { GradableIn read.now of.now node left }
     requires node_in_bounds { (get_or of.now.tree.ends node 0 ≤ length map.old) × (item < read.now.items) }
     ensures { (k : GradableIn read.now of.now node left)

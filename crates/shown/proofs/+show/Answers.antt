@@ -1,8 +1,9 @@
 use native.Mathlib.Omega.{arith}
-use mathlib.Core.Path.{refl, ◌∙◌}
+use mathlib.Core.Path.{refl}
 use lib.ListN.{length-set}
 use Rattle.rows.proofs.Going.{begins, turn, ended}
-use Rattle.shown.proofs.Walk.{drawing-here, drawing-notes, drawing-rises, part-filled, trace-start, trace-end, walk-low, walk_rows, walk-skip, walk-child, walk-next}
+use Rattle.degrees.proofs.Filled.{part-filled}
+use Rattle.shown.proofs.Walk.{drawing-here, drawing-notes, drawing-rises, trace-start, trace-end, walk-low, walk_rows, walk-skip, walk-child, walk-next}
 use Rattle.shown.proofs.+show.Goals as goal
 
 pub offset_bounds-map-node : goal.offset_bounds-map-node

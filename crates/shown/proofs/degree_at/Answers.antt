@@ -6,10 +6,10 @@ use Rattle.shown.proofs.degree_at.Goals as goal
 pub graded-requires : goal.graded-requires
 graded-requires c =
     record {
-      gradable = with-index c.requires.gradable _ c.new.ensures.image;
+      gradable = with-index c.args.read.now c.requires.gradable c.new.result c.new.ensures.image;
       item_lt = (omega (arith, c.requires.item_lt, c.new.ensures.items), clear_none _ _);
     }
 
 pub returns : goal.returns
 returns c =
-    λ k. graded-of k _ c.new.ensures.image _ _ _ c.graded.ensures
+    λ k. graded-of c.args.read.now k c.new.result c.new.ensures.image _ _ _ c.graded.ensures

@@ -11,7 +11,7 @@ whole_as_slice-graded g c = omega (arith, c.requires.links_in_bounds)
 pub graded-degree-requires : goal.graded-degree-requires
 graded-degree-requires g c =
     record {
-      gradable = with-index c.requires.gradable _ c.new-on.ensures.image;
+      gradable = with-index c.args.read.now c.requires.gradable c.new-on.result c.new-on.ensures.image;
       item_lt = (omega (arith, c.requires.node_in_bounds.1, c.new-on.ensures.items), clear-zeros _ _ _ (zero-at g.row.N));
     }
 
@@ -20,13 +20,13 @@ shared_whole_as_slice-show g c = omega (arith, c.requires.links_in_bounds)
 
 pub show-requires-clause-drawing : goal.show-requires-clause-drawing
 show-requires-clause-drawing g c =
-    drawing-of c.requires.gradable _ c.new-on.ensures.image _ _ _ c.graded-degree.ensures (omega (arith, c.requires.node_in_bounds.1, c.new-on.ensures.items))
+    drawing-of c.args.read.now c.requires.gradable c.new-on.result c.new-on.ensures.image _ _ _ c.graded-degree.ensures (omega (arith, c.requires.node_in_bounds.1, c.new-on.ensures.items))
     (omega (arith, c.requires.links_in_bounds, c.new-on.ensures.links, c.graded-degree.auto.notes, length-replicate {A = ℕ} g.row.N 0))
 
 pub returns : goal.returns
 returns g c =
     λ k. (
-      graded-of k _ c.new-on.ensures.image _ _ _ c.graded-degree.ensures,
-      drawn-of k _ c.new-on.ensures.image _ _ _ c.graded-degree.ensures (omega (arith, c.requires.node_in_bounds.1, c.new-on.ensures.items))
+      graded-of c.args.read.now k c.new-on.result c.new-on.ensures.image _ _ _ c.graded-degree.ensures,
+      drawn-of c.args.read.now k c.new-on.result c.new-on.ensures.image _ _ _ c.graded-degree.ensures (omega (arith, c.requires.node_in_bounds.1, c.new-on.ensures.items))
           (omega (arith, c.requires.links_in_bounds, c.new-on.ensures.links, c.graded-degree.auto.notes, length-replicate {A = ℕ} g.row.N 0)) _ _ c.show.ensures,
     )
