@@ -6,7 +6,7 @@ use mathlib.Core.Bool.{Bool, true, false, ◌&&◌}
 use mathlib.Core.List.{List}
 use Prim.Native.Nat.{ℕ, ◌+◌, ◌≤◌, ◌<◌}
 use native.Mathlib.Omega.{arith}
-use lib.ListN.{length, get_or, replicate, length-replicate}
+use lib.ListN.{get_or}
 use Rattle.meaning.specs.Bytes.{number}
 use Rattle.meaning.specs.Bounds.{most_size, most_scale}
 use Rattle.meaning.specs.Tree.{Concept, nodes}
@@ -102,9 +102,3 @@ module _ (g : Register) (h : Threshold) (s : List ℕ) (p : ℕ) (c : StandsAt s
   -- the scale is a 32-bit number
   pub scale-fits : scale < 4294967296
   scale-fits = omega (arith, w.scaled, scale_small h.inner c.small)
-
-abbrev numbers : List ℕ
-numbers = replicate 3584 0
-
-pub numbers-length : length numbers ≡ 3584
-numbers-length = length-replicate {A = ℕ} 3584 0

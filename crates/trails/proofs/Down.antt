@@ -1,25 +1,31 @@
 -- On the way down: what is asked at a child, from what is asked at its parent.
 -- Assumes nothing.
-use mathlib.Core.Path.{◌≡◌, ap, subst, ◌∙◌}
+use mathlib.Core.Path.{◌≡◌, ap, ◌∙◌}
 use mathlib.Core.List.{List}
-use Prim.Native.Nat.{ℕ, ◌-◌, ◌+◌, ◌*◌, ◌≤◌, ◌<◌}
+use Prim.Native.Nat.{ℕ, ◌-◌, ◌+◌, ◌≤◌, ◌<◌}
 use native.Mathlib.Nat.{le_trans}
-use lib.ListN.{get_or, set, take, drop}
+use lib.ListN.{get_or, set}
 use lib.Seq.{sets}
+use Rattle.std.specs.Prelude.{Option, Some}
 use Rattle.meaning.specs.Bytes.{Bytes}
 use Rattle.meaning.specs.Tree.{Concept, children}
+use Rattle.meaning.specs.Tree.{node as branch}
 use Rattle.meaning.specs.Graph.{Graph}
-use Rattle.graph.specs.Walked.{walked}
 use Rattle.meaning.specs.Requirement.{fulfils}
 use Rattle.meaning.specs.Rows.{Holds}
 use Rattle.meaning.specs.Shown.{first, yes_by_f, yes_map}
 use Rattle.meaning.proofs.Rows.{opened}
-use Rattle.graph.specs.Posed.{Posed, place_of}
-use Rattle.graph.specs.Sets.{in_set}
+use Rattle.rows.specs.declared.Tree.{Tree}
+use Rattle.rows.specs.Rising.{Rising}
+use Rattle.rows.proofs.Rising.{rising}
+use Rattle.graph.specs.declared.sets.Items.{Items}
+use Rattle.graph.specs.declared.Indexed.{Indexed}
+use Rattle.graph.specs.Walked.{walked}
+use Rattle.graph.specs.Posed.{Posed}
 use Rattle.graph.proofs.Use.{next-inside}
 use Rattle.trails.specs.Cells.{cell}
 use Rattle.trails.specs.Charted.{Charted}
-use Rattle.trails.proofs.Table.{part-row}
+use Rattle.trails.specs.Sought.{found}
 use Rattle.trails.proofs.Trail.{Trail, Next, trail-start, trail-next, trail-end, whole-map}
 
 module _ {R : Type 0} {names roles ends : List ℕ} {t : Concept} {node left : ℕ} (p : Posed R names roles ends t node left) where
@@ -27,48 +33,52 @@ module _ {R : Type 0} {names roles ends : List ℕ} {t : Concept} {node left : �
   pub here : (0 < left) × (node < get_or ends node 0) × (get_or ends node 0 ≤ 64)
   here = let o = opened names roles ends t left node (get_or ends node 0) p.held in (o.deep, o.inside, p.few)
 
+  -- its children end after themselves
+  pub children-rise : Rising ends (node + 1) (get_or ends node 0)
+  unfolding Holds
+  children-rise = go t p.held
+    where
+      go : (u : Concept) → Holds names roles ends u left node (get_or ends node 0) → Rising ends (node + 1) (get_or ends node 0)
+      go (branch a f) h = rising names roles ends f (left - 1) (node + 1) (get_or ends node 0) h.4 p.few
+
   abbrev pub onward : {u : Concept} {c : ℕ} → Holds names roles ends u (left - 1) c (get_or ends c 0) → get_or ends c 0 ≤ get_or ends node 0
       → Posed R names roles ends u c (left - 1)
   onward h l = record { graph = p.graph; held = h; few = le_trans l p.few }
 
-module _ {s : List ℕ} {items : ℕ} {index names roles ends met : List ℕ} {node left item : ℕ}
-    (k : Charted s items index names roles ends met node left item) where
+module _ {on : Indexed} {rows : Tree} {met : List Items} {node left item : ℕ} (k : Charted on rows met node left item) where
   abbrev G : Graph ℕ
   G = walked k.posed.graph.register
 
   -- the children from row c on are left
   abbrev pub Ahead : List ℕ → ℕ → List ℕ → Type 0
-  Ahead map c goal = Trail names roles ends G met (left - 1) (get_or ends node 0) item map c goal
+  Ahead map c goal = Trail rows.names rows.roles rows.ends G met (left - 1) (get_or rows.ends node 0) item map c goal
 
   -- the map of the children
   abbrev pub below : List ℕ → List ℕ
   below map = sets map (node + 1) (yes_by_f (fulfils G) G (children k.tree) item)
 
   pub ahead-start : (map : List ℕ) → Ahead map (node + 1) (below map)
-  ahead-start map = trail-start names roles ends G met k.tree left node (get_or ends node 0) item map k.posed.held k.right k.yes
+  ahead-start map = trail-start rows.names rows.roles rows.ends G met k.tree left node (get_or rows.ends node 0) item map k.posed.held k.right k.yes
 
-  pub ahead-end : (old map : List ℕ) (c e : ℕ) → Ahead map c (below (set old node item)) → e ≡ get_or ends node 0 → e ≤ c
+  pub ahead-end : (old map : List ℕ) (c : ℕ) → Ahead map c (below (set old node item)) → get_or rows.ends node 0 ≤ c
       → map ≡ sets old node (yes_map G k.tree item)
-  ahead-end old map c e w q l = trail-end _ _ _ _ _ _ _ _ _ _ _ w (subst (λ (z : ℕ). z ≤ c) q l) ∙ whole-map G k.tree node item old
+  ahead-end old map c w l = trail-end _ _ _ _ _ _ _ _ _ _ _ w l ∙ whole-map G k.tree node item old
 
-  module _ (b : Bytes s) {map : List ℕ} {c e : ℕ} {goal : List ℕ} (w : Ahead map c goal) (q : e ≡ get_or ends node 0) (l : c < e) where
-    abbrev pub next : Next names roles ends G met (left - 1) (get_or ends node 0) item map c goal
-    next = trail-next names roles ends G met (left - 1) (get_or ends node 0) item map c goal w (subst (λ (z : ℕ). c < z) q l)
+  module _ (b : Bytes on.image.now) {map : List ℕ} {c : ℕ} {goal : List ℕ} (w : Ahead map c goal) (l : c < get_or rows.ends node 0) where
+    abbrev pub next : Next rows.names rows.roles rows.ends G met (left - 1) (get_or rows.ends node 0) item map c goal
+    next = trail-next rows.names rows.roles rows.ends G met (left - 1) (get_or rows.ends node 0) item map c goal w l
 
-    pub goes : (to role : ℕ) → role ≡ get_or roles c 0 → to ≡ place_of (first (λ y. in_set (take (c * 8 + 8 - c * 8) (drop (c * 8) met)) y) (G.next item role))
-        → to ≡ next.to
-    goes to role f h =
-        h ∙ ap (λ (l : List ℕ). place_of (first (λ y. in_set l y) (G.next item role))) (part-row met c)
-        ∙ ap (λ (z : ℕ). place_of (first (λ y. cell met c y) (G.next item z))) f ∙ ap place_of next.found
+    pub goes : (o : Option ℕ) (role : ℕ) → role ≡ get_or rows.roles c 0 → o ≡ found (first (λ y. cell met c y) (G.next item role)) → o ≡ Some next.to
+    goes o role e h = h ∙ rw e (ap found next.found)
 
-    pub next-ahead : (later : List ℕ) (to d : ℕ) → to ≡ next.to → d ≡ get_or ends c 0 → later ≡ sets map c (yes_map G next.tree to) → Ahead later d goal
-    next-ahead later to d f g h = rw g (next.then later (h ∙ ap (λ (z : ℕ). sets map c (yes_map G next.tree z)) f))
+    pub next-ahead : (later : List ℕ) (to : ℕ) → to ≡ next.to → later ≡ sets map c (yes_map G next.tree to) → Ahead later (get_or rows.ends c 0) goal
+    next-ahead later to f h = next.then later (h ∙ ap (λ (z : ℕ). sets map c (yes_map G next.tree z)) f)
 
-    abbrev pub next-charted : (to : ℕ) → to ≡ next.to → Charted s items index names roles ends met c (left - 1) to
+    abbrev pub next-charted : (to : ℕ) → to ≡ next.to → Charted on rows met c (left - 1) to
     next-charted to f = record {
       tree = next.tree;
       posed = onward k.posed next.held next.within;
       right = rw f next.right;
-      inside = rw f (next-inside k.posed.graph b item (get_or roles c 0) next.to next.next);
+      inside = rw f (next-inside k.posed.graph b item (get_or rows.roles c 0) next.to next.next);
       yes = rw f next.yes;
     }

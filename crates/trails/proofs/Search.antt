@@ -1,18 +1,16 @@
 -- The first of an item's successors that is in a set.
 -- Assumes nothing.
 use mathlib.Core.Path.{◌≡◌, refl, ap, ◌∙◌}
-use mathlib.Core.Bool.{Bool, true, false, ◌||◌, not, cond}
-use mathlib.Core.List.{List, [], ◌∷◌, Memᴰ}
+use mathlib.Core.Bool.{Bool, true, false, ◌||◌, cond}
+use mathlib.Core.List.{List, [], ◌∷◌}
 use mathlib.Core.Option.{some}
 use mathlib.Core.Option.{none as nowhere}
 use Prim.Native.Nat.{ℕ, ◌+◌, ◌≤◌, ◌<◌}
-use native.Mathlib.Omega.{arith}
-use lib.Dec.{eqb}
-use borrow.Author.Tests.{ne_eqb}
+use Rattle.std.specs.Prelude.{is_some}
 use Rattle.meaning.specs.Whole.{any}
 use Rattle.meaning.specs.Shown.{first}
 use Rattle.graph.proofs.Spans.{kept, kept_step, kept-end}
-use Rattle.graph.specs.Posed.{place_of}
+use Rattle.trails.specs.Sought.{found}
 
 -- along the numbers from k up to an end, passing those that are out
 module _ (p out : ℕ → Bool) (f : ℕ → ℕ) where
@@ -36,12 +34,11 @@ module _ (p out : ℕ → Bool) (f : ℕ → ℕ) where
   none_first k end l = rw (kept-end out f k end l)
 
 -- something is found exactly where some member says yes
-pub found-any : (p : ℕ → Bool) (ys : List ℕ) → ((y : ℕ) → Memᴰ y ys → y < 65535) → not (eqb (place_of (first p ys)) 65535) ≡ any p ys
+pub found_any : (p : ℕ → Bool) (ys : List ℕ) → is_some (found (first p ys)) ≡ any p ys
 unfolding first any
-found-any p [] h = refl
-found-any p (x ∷ ys) h = go (p x) (h x (Memᴰ.head refl)) (found-any p ys (λ y m. h y (Memᴰ.tail m)))
+found_any p [] = refl
+found_any p (x ∷ ys) = go (p x) (found_any p ys)
   where
-    go : (b : Bool) → x < 65535 → not (eqb (place_of (first p ys)) 65535) ≡ any p ys
-        → not (eqb (place_of (cond b (some x) (first p ys))) 65535) ≡ (b || any p ys)
-    go true l k = rw (ne_eqb x 65535 (λ e. let z : x ≡ 65535 = e in omega arith))
-    go false l k = k
+    go : (b : Bool) → is_some (found (first p ys)) ≡ any p ys → is_some (found (cond b (some x) (first p ys))) ≡ (b || any p ys)
+    go true e = refl
+    go false e = e

@@ -10,6 +10,7 @@ use native.Mathlib.Omega.{arith}
 use lib.Dec.{T}
 use lib.ListN.{length, get_or, set}
 use lib.Seq.{sets}
+use Rattle.graph.specs.declared.sets.Items.{Items}
 use Rattle.meaning.specs.Tree.{node, Forest, none, more, children, relabel, relabel_f, nodes}
 use Rattle.meaning.specs.Graph.{Graph}
 use Rattle.meaning.specs.Whole.{any, meets_by, meets_by_f}
@@ -34,7 +35,7 @@ module _ (names roles ends : List ℕ) where
   pub holds-nodes : (t : Requirement) (left i e : ℕ) → Holds names roles ends (bare t) left i e → e ≡ i + nodes t
   holds-nodes t left i e h = omega (arith, concept-nodes names roles ends (bare t) left i e h, bare-nodes t)
 
-  module _ (G : Graph ℕ) (m : List ℕ) (left e x : ℕ) where
+  module _ (G : Graph ℕ) (m : List Items) (left e x : ℕ) where
     -- the children from row c on are left, of a node that goes to x
     pub record Trail (map : List ℕ) (c : ℕ) (goal : List ℕ) : Type 0 where
       pub rest : Forest Label
@@ -101,7 +102,7 @@ module _ (names roles ends : List ℕ) where
             absurd (let o = opened names roles ends (bare u) left c (get_or ends c 0) h.2 in let z : get_or ends c 0 ≤ e = h.1 in let y = o.inside in omega arith)
 
 -- at first all are left
-pub trail-start : (names roles ends : List ℕ) (G : Graph ℕ) (m : List ℕ) (t : Requirement) (left n e x : ℕ) (map : List ℕ)
+pub trail-start : (names roles ends : List ℕ) (G : Graph ℕ) (m : List Items) (t : Requirement) (left n e x : ℕ) (map : List ℕ)
     → Holds names roles ends (bare t) left n e → Right ends G m t n x → member G t x ≡ true
     → Trail names roles ends G m (left - 1) e x map (n + 1) (sets map (n + 1) (yes_by_f (fulfils G) G (children t) x))
 unfolding Holds relabel Right meets_by yes_by

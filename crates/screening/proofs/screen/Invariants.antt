@@ -1,18 +1,14 @@
-use mathlib.Core.Path.{◌≡◌}
-use Prim.Native.Nat.{◌-◌, ◌≤◌}
-use lib.ListN.{length}
+-- `screening::screen`: the thresholds so far are satisfied by what stays.
 use Rattle.graph.specs.Walked.{walked}
-use Rattle.graph.specs.Judged.{Judged}
 use Rattle.graph.specs.Sets.{Among}
+use Rattle.graph.specs.On.{JudgedOn}
 use Rattle.screening.specs.Standing.{AllStand}
 use Rattle.screening.proofs.Through.{Through}
 use Rattle.screening.proofs.screen.Given as goal
 
 abbrev pub invariant-loop-k : goal.invariant-loop-k
-invariant-loop-k l =
-    (length l.set ≡ 8) × (l.k ≤ l.parts) × Among l.items l.set
-    × ((j : Judged l.s l.items l.index) (a : AllStand l.message l.firsts l.parts) → Through (walked j.register) l.owners a.thresholds l.node l.initial.set l.set l.k)
-
-abbrev pub decreases-loop-k : goal.decreases-loop-k
-decreases-loop-k l =
-    l.parts - l.k
+invariant-loop-k l = record {
+  among : Among l.on.items l.set.words;
+  through : (j : JudgedOn l.on) (a : AllStand l.wanted.message.now l.wanted.parts.firsts l.wanted.parts.count)
+      → Through (walked j.register) l.wanted.parts.owners a.thresholds l.node l.initial.set.words l.set.words l.k;
+}
