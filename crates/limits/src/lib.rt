@@ -36,7 +36,8 @@ pub fn put_node(list: &Nodes, k: usize, many: usize, out: &mut [u8], at: usize)
     requires { (k < length list.now / 3) × (length list.now / 3 ≤ k + 64) × (many < 256) × (at + 10 ≤ length out.old) }
     ensures { out.new ≡ sets out.old at (fixed_at list.now k (length list.now / 3) many) }
 {
-    fields::put(out, at, 8, list.names(k) as usize);
+    let names = list.names(k);
+    fields::put(out, at, 8, names as usize);
     fields::put(out, at + 8, 1, many);
     fields::put(out, at + 9, 1, children(list, k));
 }

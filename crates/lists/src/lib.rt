@@ -23,7 +23,7 @@ impl<'a> Model for Nodes<'a> {
     ghost view = { λ s. s.numbers.now };
 
     // They stand in memory.
-    ghost invariant = { λ s. 8 * length s.numbers.now < 2 ^ 64 };
+    ghost invariant = { λ s. 8 * length s.numbers.now < 2 ^ 63 };
 }
 
 impl<'a> Nodes<'a> {
@@ -34,7 +34,8 @@ impl<'a> Nodes<'a> {
     }
 
     pub fn count(&self) -> usize
-        ensures { result ≡ length self.now / 3 }
+        ensures value { result ≡ length self.now / 3 }
+        ensures fits { 3 * result < 2 ^ 60 }
     {
         self.numbers.len() / 3
     }
@@ -122,7 +123,7 @@ impl<'a> Model for Limits<'a> {
     ghost view = { λ s. s.numbers.now };
 
     // They stand in memory.
-    ghost invariant = { λ s. 8 * length s.numbers.now < 2 ^ 64 };
+    ghost invariant = { λ s. 8 * length s.numbers.now < 2 ^ 63 };
 }
 
 impl<'a> Limits<'a> {
@@ -133,7 +134,8 @@ impl<'a> Limits<'a> {
     }
 
     pub fn count(&self) -> usize
-        ensures { result ≡ length self.now / 5 }
+        ensures value { result ≡ length self.now / 5 }
+        ensures fits { 5 * result < 2 ^ 60 }
     {
         self.numbers.len() / 5
     }

@@ -3,7 +3,7 @@
 use mathlib.Core.Path.{◌≡◌, refl, sym, ap, ◌∙◌, subst}
 use mathlib.Core.Bool.{Bool, true, false, not, ◌&&◌}
 use mathlib.Core.List.{List}
-use Prim.Native.Nat.{ℕ, zero, suc, ◌≤◌, ◌<◌}
+use Prim.Native.Nat.{ℕ, ◌≤◌, ◌<◌}
 use lib.Dec.{ltb}
 use lib.ListN.{length}
 use lib.Seq.{sets}
@@ -12,14 +12,9 @@ use Rattle.meaning.specs.Message.{encode}
 use Rattle.meaning.specs.Lists.{form, said}
 use Rattle.meaning.specs.Writing.{lists_in, whole, lists_fit, write_call, after_write}
 use Rattle.meaning.proofs.Reading.{pass, stop, halted, went, below, not-below}
-use Rattle.faults.specs.Faulty.{told}
-use Rattle.writer.specs.declared.Written.{Written}
-use Rattle.writer.specs.declared.Written.TheVariants.{Good as GoodWritten}
-use Rattle.writer.specs.Promise.{long, written_refused, WritePromise}
-
-pub told-refused : (n : ℕ) → (n ≡ 0 → ⊥) → told n ≡ refused (on_call n)
-told-refused zero d = absurd (d refl)
-told-refused (suc n) d = refl
+use Rattle.std.specs.Prelude.{Ok, Err}
+use Rattle.meaning.specs.declared.Refusal.{Refusal}
+use Rattle.writer.specs.Promise.{long, WritePromise}
 
 module _ (nodes hs inner old : List ℕ) where
   abbrev pub lists : Bool
@@ -31,26 +26,27 @@ module _ (nodes hs inner old : List ℕ) where
   abbrev fits : Answer (Unit {0})
   fits = lists_fit 0 (lists_in nodes hs inner).outer (lists_in nodes hs inner).limits
 
-  refuses : (n : ℕ) (r : Written) → r ≡ written_refused n → write_call nodes hs inner (length old) ≡ refused (on_call n) → WritePromise nodes hs inner old old r
+  refuses : (f : Refusal) → write_call nodes hs inner (length old) ≡ refused f → WritePromise nodes hs inner old old (Err f)
   unfolding long ◌>>=◌
-  refuses n r d e = (rw (d, e) refl, rw e refl)
+  refuses f e = (rw e refl, rw e refl)
 
-  pub no-lists : (r : Written) → r ≡ written_refused 22 → lists ≡ false → WritePromise nodes hs inner old old r
+  pub no-lists : lists ≡ false → WritePromise nodes hs inner old old (Err (on_call 22))
   unfolding write_call
-  no-lists r d e = refuses 22 r d (stop (not lists) _ _ (rw e refl))
+  no-lists e = refuses (on_call 22) (stop (not lists) _ _ (rw e refl))
 
   module _ (e : lists ≡ true) where
-    pub unfit : (n : ℕ) (r : Written) → r ≡ written_refused n → fits ≡ refused (on_call n) → WritePromise nodes hs inner old old r
+    pub unfit : (f : Refusal) → refused f ≡ fits → WritePromise nodes hs inner old old (Err f)
     unfolding write_call
-    unfit n r d h = refuses n r d (pass (not lists) _ _ (rw e refl) ∙ halted fits _ _ h)
+    unfit f h = refuses f (pass (not lists) _ _ (rw e refl) ∙ halted fits _ _ (sym h))
 
-    module _ (h : fits ≡ good tt) where
-      pub too_short : (r : Written) → r ≡ written_refused 21 → length old < length message → WritePromise nodes hs inner old old r
+    module _ (h : good tt ≡ fits) where
+      pub too_short : length old < length message → WritePromise nodes hs inner old old (Err (on_call 21))
       unfolding write_call
-      too_short r d l = refuses 21 r d (pass (not lists) _ _ (rw e refl) ∙ went fits _ h ∙ stop (ltb (length old) (length message)) _ _ (below _ _ l))
+      too_short l = refuses (on_call 21) (pass (not lists) _ _ (rw e refl) ∙ went fits _ (sym h) ∙ stop (ltb (length old) (length message)) _ _ (below _ _ l))
 
-      pub writes : (n : ℕ) → n ≡ length message → n ≤ length old → (new : List ℕ) → new ≡ sets old 0 message → WritePromise nodes hs inner old new (GoodWritten n)
+      pub writes : (n : ℕ) → n ≡ length message → n ≤ length old → (new : List ℕ) → new ≡ sets old 0 message → WritePromise nodes hs inner old new (Ok n)
       unfolding write_call long ◌>>=◌
       writes n d l new g =
-          let a = pass (not lists) _ _ (rw e refl) ∙ went fits _ h ∙ pass (ltb (length old) (length message)) _ (good message) (not-below _ _ (subst (λ (z : ℕ). z ≤ length old) d l)) in
+          let a = pass (not lists) _ _ (rw e refl) ∙ went fits _ (sym h) ∙ pass (ltb (length old) (length message)) _ (good message)
+          (not-below _ _ (subst (λ (z : ℕ). z ≤ length old) d l)) in
           (ap good d ∙ ap long (sym a), g ∙ ap (after_write old) (sym a))

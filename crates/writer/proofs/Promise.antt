@@ -19,23 +19,14 @@ use Rattle.meaning.proofs.Reading.{not_good, good-inj}
 use Rattle.meaning.proofs.Message.{parts_in}
 use Rattle.meaning.proofs.Writing.{Words, written-reads, written-again}
 use Rattle.meaning.proofs.WriteRows.{write-exactly}
-use Rattle.fields.proofs.Once.{Apart, told_back, once-left}
-use Rattle.writer.specs.declared.Written.{Written}
-use Rattle.writer.specs.declared.Written.TheVariants.{Good as GoodWritten, Refused as RefusedWritten}
+use Rattle.fields.proofs.Once.{Apart, paper_told, once-left}
+use Rattle.std.specs.Prelude.{Result, Ok, Err}
 use Rattle.writer.specs.Promise.{paper_written, long, WritePromise}
 
 -- ---- the document's words tell all results apart
 
-abbrev back : Answer ℕ → Written
-back (good n) = GoodWritten n
-back (refused f) = RefusedWritten f
-
 pub written-told : Apart paper_written
-written-told = told_back paper_written back go
-  where
-    go : (r : Written) → back (paper_written r) ≡ r
-    go (GoodWritten n) = refl
-    go (RefusedWritten f) = refl
+written-told = paper_told
 
 -- ---- lengths of answers
 
@@ -59,48 +50,48 @@ good-long a m e = rw e refl
 
 -- ---- of any result
 
-module _ (nodes hs inner old new : List ℕ) (r : Written) (w : WritePromise nodes hs inner old new r) where
+module _ (nodes hs inner old new : List ℕ) (r : Result ℕ Refusal) (w : WritePromise nodes hs inner old new r) where
   abbrev answer : Answer (List ℕ)
   answer = write_call nodes hs inner (length old)
 
   -- refused exactly when a row of the table holds, with that row's number
-  pub write-refused : (f : Refusal) → (r ≡ RefusedWritten f) ↔ WriteRow nodes hs inner (length old) f
+  pub write-refused : (f : Refusal) → (r ≡ Err f) ↔ WriteRow nodes hs inner (length old) f
   write-refused f = (
     (λ e. ((write-exactly nodes hs inner (length old)).refuses f).0 (long-refused answer f (sym w.0 ∙ ap paper_written e))),
-    λ row. written-told r (RefusedWritten f) (w.0 ∙ refused-long answer f (((write-exactly nodes hs inner (length old)).refuses f).1 row)),
+    λ row. written-told r (Err f) (w.0 ∙ refused-long answer f (((write-exactly nodes hs inner (length old)).refuses f).1 row)),
   )
 
   -- and then no byte has changed
-  pub refused-keeps : (f : Refusal) → r ≡ RefusedWritten f → new ≡ old
+  pub refused-keeps : (f : Refusal) → r ≡ Err f → new ≡ old
   refused-keeps f e = w.1 ∙ ap (after_write old) (long-refused answer f (sym w.0 ∙ ap paper_written e))
 
   -- good exactly when none does
-  pub write-good : ((n : ℕ) × (r ≡ GoodWritten n)) ↔ WriteTakes nodes hs inner (length old)
+  pub write-good : ((n : ℕ) × (r ≡ Ok n)) ↔ WriteTakes nodes hs inner (length old)
   write-good = (
     (λ g.
         let m = long-good answer g.0 (sym w.0 ∙ ap paper_written g.1) in
         (write-exactly nodes hs inner (length old)).takes.0 (m.0, m.1)),
     λ t.
         let m = (write-exactly nodes hs inner (length old)).takes.1 t in
-        (length m.0, written-told r (GoodWritten (length m.0)) (w.0 ∙ good-long answer m.0 m.1)),
+        (length m.0, written-told r (Ok (length m.0)) (w.0 ∙ good-long answer m.0 m.1)),
   )
 
   -- what is written, and that it reads back; bytes behind it are as they were
-  pub write-says : Words nodes → Words inner → (n : ℕ) → r ≡ GoodWritten n
+  pub write-says : Words nodes → Words inner → (n : ℕ) → r ≡ Ok n
       → (m : List ℕ) × (length m ≡ n) × (new ≡ sets old 0 m) × (read_requirement m ≡ good (said (lists_in nodes hs inner), parts_in (said (lists_in nodes hs inner))))
   write-says u v n e =
       let m = long-good answer n (sym w.0 ∙ ap paper_written e) in
       (m.0, m.2, w.1 ∙ ap (after_write old) m.1, written-reads nodes hs inner (length old) m.0 u v m.1)
 
 -- a message that was read is written again byte for byte from the lists of what was read
-pub write_again : (s : List ℕ) (q : Requirement) (ps : List Part) (old new : List ℕ) (r : Written) → Bytes s → read_requirement s ≡ good (q, ps)
+pub write_again : (s : List ℕ) (q : Requirement) (ps : List Part) (old new : List ℕ) (r : Result ℕ Refusal) → Bytes s → read_requirement s ≡ good (q, ps)
     → length s ≤ length old → WritePromise (node_numbers (lists_of q).outer) (limit_numbers (lists_of q).limits) (inner_numbers (lists_of q).limits) old new r
-    → (r ≡ GoodWritten (length s)) × (new ≡ sets old 0 s)
+    → (r ≡ Ok (length s)) × (new ≡ sets old 0 s)
 write_again s q ps old new r b e l w =
     let a = written-again s q ps (length old) b e l in
-    (written-told r (GoodWritten (length s)) (w.0 ∙ good-long _ s a), w.1 ∙ ap (after_write old) a)
+    (written-told r (Ok (length s)) (w.0 ∙ good-long _ s a), w.1 ∙ ap (after_write old) a)
 
 -- one result
-pub one-write : (nodes hs inner old new new' : List ℕ) (r r' : Written) → WritePromise nodes hs inner old new r → WritePromise nodes hs inner old new' r'
+pub one-write : (nodes hs inner old new new' : List ℕ) (r r' : Result ℕ Refusal) → WritePromise nodes hs inner old new r → WritePromise nodes hs inner old new' r'
     → (r ≡ r') × (new ≡ new')
 one-write nodes hs inner old new new' r r' = once-left paper_written written-told _ _ _ _ _ _

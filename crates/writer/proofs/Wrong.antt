@@ -15,8 +15,7 @@ use Rattle.meaning.specs.Message.{encode, node_bytes, thresholds_bytes}
 use Rattle.meaning.specs.Lists.{go_on, form_tree, stand_at, form, gathered, others, grown, first_tree, owned, labelled, said, listed, limits_at, limits_of, names_only, lists_of}
 use Rattle.meaning.specs.Writing.{nodes_from, limits_from, node_numbers, limit_numbers, inner_numbers, shared_out, whole, node_fits, own_fit, lists_fit, write_call, after_write}
 use Rattle.meaning.proofs.Reading.{not_good}
-use Rattle.writer.specs.declared.Written.{Written}
-use Rattle.writer.specs.declared.Written.TheVariants.{Good as GoodWritten, Refused as RefusedWritten}
+use Rattle.std.specs.Prelude.{Result, Ok, Err}
 use Rattle.writer.specs.Promise.{paper_written, long, WritePromise}
 use Rattle.writer.proofs.Promise.{written-told}
 
@@ -77,21 +76,21 @@ names_apart e = let z : ◌≡◌ {A = ℕ} 1 2 = ap (λ (s : List ℕ). get_or 
 
 -- ---- any program that keeps the promise, by its result and the output afterwards
 
-module _ (result : List ℕ → List ℕ → List ℕ → List ℕ → Written) (output : List ℕ → List ℕ → List ℕ → List ℕ → List ℕ)
+module _ (result : List ℕ → List ℕ → List ℕ → List ℕ → Result ℕ Refusal) (output : List ℕ → List ℕ → List ℕ → List ℕ → List ℕ)
     (kept : (nodes hs inner old : List ℕ) → WritePromise nodes hs inner old (output nodes hs inner old) (result nodes hs inner old)) where
   takes : (nodes hs inner m : List ℕ) → write_call nodes hs inner (length room) ≡ good m
-      → (result nodes hs inner room ≡ GoodWritten (length m)) × (output nodes hs inner room ≡ sets room 0 m)
+      → (result nodes hs inner room ≡ Ok (length m)) × (output nodes hs inner room ≡ sets room 0 m)
   unfolding long ◌>>=◌
   takes nodes hs inner m e =
       let k = kept nodes hs inner room in
-      (written-told (result nodes hs inner room) (GoodWritten (length m)) (k.0 ∙ ap long e), k.1 ∙ ap (after_write room) e)
+      (written-told (result nodes hs inner room) (Ok (length m)) (k.0 ∙ ap long e), k.1 ∙ ap (after_write room) e)
 
-  pub not-refusing-all : ((nodes hs inner old : List ℕ) → (f : Refusal) × (result nodes hs inner old ≡ RefusedWritten f)) → ⊥
+  pub not-refusing-all : ((nodes hs inner old : List ℕ) → (f : Refusal) × (result nodes hs inner old ≡ Err f)) → ⊥
   not-refusing-all all =
       let f = all (lone 1) [] [] room in
       not_good (ap paper_written (sym f.1 ∙ (takes (lone 1) [] [] (lone-message 1) lone-written.0).0))
 
-  pub not-one-message : (m : List ℕ) → ((nodes hs inner old : List ℕ) (n : ℕ) → result nodes hs inner old ≡ GoodWritten n → output nodes hs inner old ≡ sets old 0 m) → ⊥
+  pub not-one-message : (m : List ℕ) → ((nodes hs inner old : List ℕ) (n : ℕ) → result nodes hs inner old ≡ Ok n → output nodes hs inner old ≡ sets old 0 m) → ⊥
   not-one-message m all =
       let a = takes (lone 1) [] [] (lone-message 1) lone-written.0 in
       let b = takes (lone 2) [] [] (lone-message 2) lone-written.1 in
@@ -99,7 +98,7 @@ module _ (result : List ℕ → List ℕ → List ℕ → List ℕ → Written) 
 
   pub not-swapping-children : ((a : Label) (r s : ℕ) (t u : Requirement) (f : Forest Label) (old : List ℕ) (n : ℕ)
       → let q = node a (more r t (more s u f)) in
-      result (nodes-of q) (limits-of q) (inner_of q) old ≡ GoodWritten n
+      result (nodes-of q) (limits-of q) (inner_of q) old ≡ Ok n
       → output (nodes-of q) (limits-of q) (inner_of q) old ≡ sets old 0 (encode (node a (more s u (more r t f))))) → ⊥
   unfolding bare one-two two-one
   not-swapping-children all =

@@ -7,5 +7,5 @@ pub returns : goal.returns
 returns c =
     record {
       value = c.put_limits.ensures.value;
-      out_after = behind-fixed c.args.nodes.now c.args.out.now _ _ _ _ _ _ _ c.put_node.ensures c.put_limits.ensures.out_after;
+      out_after = behind-fixed c.args.of.now.nodes c.args.out.now _ _ _ _ _ _ _ c.put_node.ensures c.put_limits.ensures.out_after;
     }

@@ -19,24 +19,12 @@ pub loop-k-init : goal.loop-k-init
 loop-k-init c =
     let g = given _ _ _ c.requires.ready in
     let r = first-room _ _ _ _ g c.own_count-j.ensures in
-    (omega arith, omega (arith, g.some), refl, r.0, omega (arith, r.2, c.put_labelled-first.ensures.value), λ old w. w)
-
-pub put-requires : goal.put-requires
-put-requires c =
-    omega (
-      arith,
-      c.loop-k.invariant.2,
-      c.loop-k.invariant.3,
-      c.loop-k.invariant.4,
-      c.loop-k-test.true,
-      c.requires.inner_in_bounds,
-      c.put_labelled-first.auto.out,
-    )
+    record { room = refl; thresholds = r.0; nodes = omega (arith, r.2, c.put_labelled-first.ensures.value); put = λ old w. w }
 
 pub overflow_add-end : goal.overflow_add-end
 overflow_add-end c =
     -- what is put so far, over the output as it was handed in
-    let here = c.loop-k.invariant.5 c.args.out.now (stage-first _ _ _ c.args.out.now _ _ _ c.requires.ready.forms (given _ _ _ c.requires.ready)
+    let here = c.loop-k.invariant.put c.args.out.now (stage-first _ _ _ c.args.out.now _ _ _ c.requires.ready.forms (given _ _ _ c.requires.ready)
     c.own_count-j.ensures c.put_labelled-first.ensures.value c.put_labelled-first.ensures.out_after) in
     let g = given _ _ _ c.requires.ready in
     let r = stage-room _ _ _ _ _ _ _ _ _ (c.loop-k.j + c.own_count.result) here (ap (λ (z : ℕ). c.loop-k.j + z) c.own_count.ensures) in
@@ -45,12 +33,12 @@ overflow_add-end c =
 pub put_labelled-first-requires-in-loop-k : goal.put_labelled-first-requires-in-loop-k
 put_labelled-first-requires-in-loop-k c =
     -- what is put so far, over the output as it was handed in
-    let here = c.loop-k.invariant.5 c.args.out.now (stage-first _ _ _ c.args.out.now _ _ _ c.requires.ready.forms (given _ _ _ c.requires.ready)
+    let here = c.loop-k.invariant.put c.args.out.now (stage-first _ _ _ c.args.out.now _ _ _ c.requires.ready.forms (given _ _ _ c.requires.ready)
     c.own_count-j.ensures c.put_labelled-first.ensures.value c.put_labelled-first.ensures.out_after) in
     let g = given _ _ _ c.requires.ready in
     let r = stage-room _ _ _ _ _ _ _ _ _ (c.loop-k.j + c.own_count.result) here
     (ap (λ (z : ℕ). c.loop-k.j + z) c.own_count.ensures) in record {
-      k_in_bounds = (c.loop-k-test.true, omega (arith, g.few));
+      k_in_bounds = (omega arith, omega (arith, g.few));
       j_le_end = (r.0, omega (arith, r.1, g.most), r.2);
       first_in_bounds = omega (
         arith,
@@ -60,7 +48,7 @@ put_labelled-first-requires-in-loop-k c =
         r.4,
         c.loop-k-test.true,
         c.requires.inner_in_bounds,
-        c.loop-k.invariant.2,
+        c.loop-k.invariant.room,
         c.put_labelled-first.auto.out,
         c.put.auto.s,
       );
@@ -69,29 +57,28 @@ put_labelled-first-requires-in-loop-k c =
 pub loop-k-preserved : goal.loop-k-preserved
 loop-k-preserved c =
     -- what is put so far, over the output as it was handed in
-    let here = c.loop-k.invariant.5 c.args.out.now (stage-first _ _ _ c.args.out.now _ _ _ c.requires.ready.forms (given _ _ _ c.requires.ready)
+    let here = c.loop-k.invariant.put c.args.out.now (stage-first _ _ _ c.args.out.now _ _ _ c.requires.ready.forms (given _ _ _ c.requires.ready)
     c.own_count-j.ensures c.put_labelled-first.ensures.value c.put_labelled-first.ensures.out_after) in
     let g = given _ _ _ c.requires.ready in
     let r = stage-room _ _ _ _ _ _ _ _ _ (c.loop-k.j + c.own_count.result) here
-    (ap (λ (z : ℕ). c.loop-k.j + z) c.own_count.ensures) in (
-      omega (arith, c.loop-k.invariant.0),
-      omega (arith, c.loop-k-test.true),
-      c.put_labelled-first-in-loop-k.auto.out ∙ c.put.auto.s ∙ c.loop-k.invariant.2,
-      r.1,
-      omega (arith, r.4, c.put_labelled-first-in-loop-k.ensures.value),
-      λ old w. stage-more c.args.nodes.now c.args.limits.now c.args.inner.now old _ _ _ _ _ _ _ _ _ _ (c.loop-k.invariant.5 old w)
-          c.loop-k-test.true c.role.ensures (given-role _ _ _ _ g c.loop-k.invariant.0 c.loop-k-test.true)
+    (ap (λ (z : ℕ). c.loop-k.j + z) c.own_count.ensures) in
+    record {
+      room = c.put_labelled-first-in-loop-k.auto.out ∙ c.put.auto.s ∙ c.loop-k.invariant.room;
+      thresholds = r.1;
+      nodes = omega (arith, r.4, c.put_labelled-first-in-loop-k.ensures.value);
+      put = λ old w. stage-more c.args.of.now.nodes c.args.of.now.limits c.args.of.now.inner old _ _ _ _ _ _ _ _ _ _ (c.loop-k.invariant.put old w)
+          (omega arith) c.role.ensures (given-role _ _ _ _ g (omega arith) (omega arith))
           (ap (λ (z : ℕ). c.loop-k.j + z) c.own_count.ensures) c.put_labelled-first-in-loop-k.ensures.value c.put.ensures
-          c.put_labelled-first-in-loop-k.ensures.out_after,
-    )
+          c.put_labelled-first-in-loop-k.ensures.out_after;
+    }
 
 pub shape_of-out : goal.shape_of-out
 shape_of-out c =
-    c.loop-k.invariant.2 ∙ c.put_labelled-first.auto.out
+    c.loop-k.invariant.room ∙ c.put_labelled-first.auto.out
 
 pub returns : goal.returns
 returns c =
     -- what is put so far, over the output as it was handed in
-    let here = c.loop-k.invariant.5 c.args.out.now (stage-first _ _ _ c.args.out.now _ _ _ c.requires.ready.forms (given _ _ _ c.requires.ready)
+    let here = c.loop-k.invariant.put c.args.out.now (stage-first _ _ _ c.args.out.now _ _ _ c.requires.ready.forms (given _ _ _ c.requires.ready)
     c.own_count-j.ensures c.put_labelled-first.ensures.value c.put_labelled-first.ensures.out_after) in
-    stage-all _ _ _ _ _ _ _ _ _ here c.loop-k-test.false
+    stage-all _ _ _ _ _ _ _ _ _ here (omega arith)

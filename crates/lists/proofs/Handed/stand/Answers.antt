@@ -28,4 +28,4 @@ loop-j-preserved c =
 
 pub returns : goal.returns
 returns c =
-    stood-all c.loop-j.invariant (omega arith) c.count-all.ensures
+    stood-all c.loop-j.invariant (omega arith) c.count-all.ensures.value
