@@ -15,6 +15,7 @@ use Rattle.meaning.specs.Requirement.{Label, Threshold, Requirement, fulfils, me
 use Rattle.meaning.specs.Rows.{Holds, HoldsF}
 use Rattle.meaning.proofs.Rows.{opened}
 use Rattle.meaning.proofs.Tests.{true-false}
+use Rattle.graph.specs.declared.sets.Items.{Items}
 use Rattle.graph.specs.Sets.{in_set, Closed}
 use Rattle.meaning.proofs.Same.{any_same}
 use Rattle.screening.specs.Sifting.{Sifted}
@@ -31,11 +32,11 @@ module _ (names roles ends : List ℕ) (G : Graph ℕ) where
   mutual
     unfolding Holds relabel Right
 
-    pub right_kept : (m new : List ℕ) (t : Requirement) (left i e x : ℕ) → Holds names roles ends (bare t) left i e → SameRows m new (i + 1) e
+    pub right_kept : (m new : List Items) (t : Requirement) (left i e x : ℕ) → Holds names roles ends (bare t) left i e → SameRows m new (i + 1) e
         → Right ends G m t i x → Right ends G new t i x
     right_kept m new (node a f) left i e x h s w = right-kept_f m new f (left - 1) (i + 1) e x h.4 s w
 
-    right-kept_f : (m new : List ℕ) (f : Forest Label) (left i e x : ℕ) → HoldsF names roles ends (bare_f f) left i e → SameRows m new i e
+    right-kept_f : (m new : List Items) (f : Forest Label) (left i e x : ℕ) → HoldsF names roles ends (bare_f f) left i e → SameRows m new i e
         → RightF ends G m f i x → RightF ends G new f i x
     right-kept_f m new none left i e x h s w = tt
     right-kept_f m new (more r t f) left i e x h s w =
@@ -51,29 +52,29 @@ module _ (names roles ends : List ℕ) (G : Graph ℕ) where
 
   module _ (owners : List ℕ) (hs : List Threshold) (parts : ℕ) (t : Requirement) (left n e : ℕ) (all : List ℕ) where
     -- Of t, which stands at row n, the children f are left from row c on; `set` has of `all` what meets the others.
-    pub record RestOf (f : Forest Label) (set m : List ℕ) (c : ℕ) : Type 0 where
+    pub record RestOf (f : Forest Label) (set : List ℕ) (m : List Items) (c : ℕ) : Type 0 where
       pub held : HoldsF names roles ends (bare_f f) left c e
       pub ruled : RuledF G owners hs ends parts f c
       pub row : (x : ℕ) → (in_set set x && meets_by_f (fulfils G) G f x) ≡ (in_set all x && meets_by_f (fulfils G) G (children t) x)
-      pub so_far : (x : ℕ) → in_set set x ≡ true → (new : List ℕ) → SameRows m new (n + 1) c → RightF ends G new f c x → RightF ends G new (children t) (n + 1) x
+      pub so_far : (x : ℕ) → in_set set x ≡ true → (new : List Items) → SameRows m new (n + 1) c → RightF ends G new f c x → RightF ends G new (children t) (n + 1) x
 
-    abbrev pub Rest : List ℕ → List ℕ → ℕ → Type 0
+    abbrev pub Rest : List ℕ → List Items → ℕ → Type 0
     Rest set m c = (f : Forest Label) × RestOf f set m c
 
     -- the child at row c
-    pub record Child (set m : List ℕ) (c : ℕ) : Type 0 where
+    pub record Child (set : List ℕ) (m : List Items) (c : ℕ) : Type 0 where
       pub tree : Requirement
       pub held : Holds names roles ends (bare tree) left c (get_or ends c 0)
       pub ruled : Ruled G owners hs ends parts tree c
       pub inside : c < get_or ends c 0
       pub within : get_or ends c 0 ≤ e
-      pub then : (set' new : List ℕ) → Sifted (λ x. any (λ y. member G tree y) (G.next x (get_or roles c 0))) set set'
+      pub then : (set' : List ℕ) (new : List Items) → Sifted (λ x. any (λ y. member G tree y) (G.next x (get_or roles c 0))) set set'
           → SameRows m new (n + 1) c
           → ((x y : ℕ) → in_set set x ≡ true → Memᴰ y (G.next x (get_or roles c 0))
           → (cell new c y ≡ member G tree y) × (member G tree y ≡ true → Right ends G new tree c y))
           → Rest set' new (get_or ends c 0)
 
-    pub rest-child : (set m : List ℕ) (c : ℕ) → Rest set m c → n < c → c < e → Child set m c
+    pub rest-child : (set : List ℕ) (m : List Items) (c : ℕ) → Rest set m c → n < c → c < e → Child set m c
     unfolding Holds relabel Ruled Right meets_by
     rest-child set m c w d l = go w.0 w.1
       where
@@ -115,7 +116,7 @@ module _ (names roles ends : List ℕ) (G : Graph ℕ) where
             }
 
     -- the child is met from a closed set on, and then folded in
-    pub rest-step : (set set' below met m new : List ℕ) (c : ℕ) (w : Rest set m c) (d : n < c) (l : c < e)
+    pub rest-step : (set set' below met : List ℕ) (m new : List Items) (c : ℕ) (w : Rest set m c) (d : n < c) (l : c < e)
         → Closed G set (get_or roles c 0) below → Done ends G (rest-child set m c w d l).tree c below met m new
         → Sifted (λ x. any (λ y. in_set met y) (G.next x (get_or roles c 0))) set set' → Rest set' new (get_or ends c 0)
     rest-step set set' below met m new c w d l cl q r =
@@ -133,7 +134,7 @@ module _ (names roles ends : List ℕ) (G : Graph ℕ) where
         agree x false h = refl
 
     -- nothing stays, so the others need not be looked at
-    pub rest-empty : (set m : List ℕ) (c : ℕ) → Rest set m c → ((x : ℕ) → in_set set x ≡ false) → Rest set m e
+    pub rest-empty : (set : List ℕ) (m : List Items) (c : ℕ) → Rest set m c → ((x : ℕ) → in_set set x ≡ false) → Rest set m e
     unfolding Holds relabel Ruled Right meets_by
     rest-empty set m c w h =
         (none, record { held = refl; ruled = tt; row = λ x. go x (in_set set x) (h x) (w.1.row x); so_far = λ x y. absurd (true-false y (h x)) })
@@ -144,16 +145,16 @@ module _ (names roles ends : List ℕ) (G : Graph ℕ) where
         go x false q r = r
 
     -- no child is left
-    pub rest-whole : (set m : List ℕ) (c : ℕ) → Rest set m c → e ≤ c
-        → Sifted (λ x. meets_by_f (fulfils G) G (children t) x) all set × ((x : ℕ) → in_set set x ≡ true → (new : List ℕ) → SameRows m new (n + 1) e → Right ends G new t n x)
+    pub rest-whole : (set : List ℕ) (m : List Items) (c : ℕ) → Rest set m c → e ≤ c
+        → Sifted (λ x. meets_by_f (fulfils G) G (children t) x) all set × ((x : ℕ) → in_set set x ≡ true → (new : List Items) → SameRows m new (n + 1) e → Right ends G new t n x)
     unfolding Holds relabel Right meets_by
     rest-whole set m c w l = go w.0 w.1
       where
-        open' : (u : Requirement) (new : List ℕ) (x : ℕ) → RightF ends G new (children u) (n + 1) x → Right ends G new u n x
+        open' : (u : Requirement) (new : List Items) (x : ℕ) → RightF ends G new (children u) (n + 1) x → Right ends G new u n x
         open' (node a f) new x r = r
 
         go : (f : Forest Label) → RestOf f set m c
-            → Sifted (λ x. meets_by_f (fulfils G) G (children t) x) all set × ((x : ℕ) → in_set set x ≡ true → (new : List ℕ) → SameRows m new (n + 1) e → Right ends G new t n x)
+            → Sifted (λ x. meets_by_f (fulfils G) G (children t) x) all set × ((x : ℕ) → in_set set x ≡ true → (new : List Items) → SameRows m new (n + 1) e → Right ends G new t n x)
         go none rest =
             let z : c ≡ e = rest.held in (
               record { each = λ x. sym (and-true (in_set set x)) ∙ rest.row x },
@@ -166,7 +167,7 @@ module _ (names roles ends : List ℕ) (G : Graph ℕ) where
 
 -- at first all are left
 pub rest-start : (names roles ends : List ℕ) (G : Graph ℕ) (owners : List ℕ) (hs : List Threshold) (parts : ℕ) (t : Requirement) (left n e : ℕ)
-    (set m : List ℕ) → Holds names roles ends (bare t) left n e → Ruled G owners hs ends parts t n
+    (set : List ℕ) (m : List Items) → Holds names roles ends (bare t) left n e → Ruled G owners hs ends parts t n
     → Rest names roles ends G owners hs parts t (left - 1) n e set set m (n + 1)
 unfolding Holds relabel Ruled Right meets_by
 rest-start names roles ends G owners hs parts (node a f) left n e set m h r =

@@ -1,166 +1,103 @@
+-- `meeting::meet` meets its contract: what holds the node's names and satisfies its thresholds is narrowed by one child after the other.
+-- Assumes nothing.
 use Prim.Native.Nat.{◌<◌}
-use mathlib.Core.Path.{sym, ◌∙◌}
+use native.Mathlib.Nat.{le_refl}
 use native.Mathlib.Omega.{arith}
-use Rattle.graph.proofs.Empty.{among_none}
+use lib.ListN.{length}
+use Rattle.rows.proofs.Going.{begins, turn, ended}
 use Rattle.screening.proofs.Sifting.{stays-among}
 use Rattle.trails.proofs.Table.{outside-none, outside-part}
-use Rattle.trails.proofs.Down.{here}
-use Rattle.meeting.proofs.Left.{child, child-required, next-left, left-start, left-on, whole, on-behind, asked-among}
-use Rattle.meeting.proofs.Settled.{zeros-length}
+use Rattle.trails.proofs.Down.{here, children-rise}
+use Rattle.meeting.proofs.Left.{child, child-required, next-left, left-start, left-none, whole}
+use Rattle.meeting.proofs.+meet.Goals.{in-None, in-Some+then-is_empty}
 use Rattle.meeting.proofs.+meet.Goals as goal
 
-pub hold-requires : goal.hold-requires
-hold-requires t c =
-    let h = here c.requires.required.posed in
-    let low : c.args.node < 64 = omega (arith, h.1, h.2) in
-    record {
-      asked = asked-among c.requires.required.posed.graph c.args.set.now c.requires.set_len.1;
-      node_bound = (low, c.requires.set_len.0);
-    }
+pub offset_bounds-wanted-node : goal.offset_bounds-wanted-node
+offset_bounds-wanted-node t c =
+    let h = here c.requires.required.posed in omega (arith, h.1, h.2)
+
+pub bounds-wanted-node : goal.bounds-wanted-node
+bounds-wanted-node t c =
+    let h = here c.requires.required.posed in omega (arith, h.1, h.2)
 
 pub screen-requires : goal.screen-requires
 screen-requires t c =
-    let p = c.requires in
-    let g = p.required.posed.graph in record {
-      judged = g;
+    let p = c.requires in record {
       all_stand = p.required.stand;
-      parts_le_most_thresholds = (p.required.most, c.hold.auto.set ∙ p.set_len.0, stays-among _ _ _ (c.hold.ensures g.register g.read) _ p.set_len.1);
+      count_le_most = (p.required.most, stays-among _ _ _ (c.hold.ensures p.required.posed.graph) _ p.among);
     }
 
-pub entry-e-requires : goal.entry-e-requires
-entry-e-requires t c =
-    let h = here c.requires.required.posed in
-    let low : c.args.node < 64 = omega (arith, h.1, h.2) in
-    low
+pub children-child-items-requires : goal.children-child-items-requires
+children-child-items-requires t c =
+    let h = here c.requires.required.posed in omega (arith, h.1, h.2)
 
-pub overflow_add-node : goal.overflow_add-node
-overflow_add-node t c =
-    let h = here c.requires.required.posed in
-    let low : c.args.node < 64 = omega (arith, h.1, h.2) in
-    omega (arith, low)
-
-pub next_row-c-requires : goal.next_row-c-requires
-next_row-c-requires t c =
-    c.screen.auto.set ∙ c.hold.auto.set ∙ c.requires.set_len.0
-
-pub loop-c-init : goal.loop-c-init
-loop-c-init t c =
-    let p = c.requires in
-    let g = p.required.posed.graph in
-    let said = c.hold.ensures g.register g.read in
-    let also = c.screen.ensures g p.required.stand in
-    let on = c.next_row-c.ensures in
-    let e = c.entry-e.ensures in (
-      c.screen.auto.set ∙ c.hold.auto.set ∙ p.set_len.0,
-      p.set_len.2,
-      on-behind _ on (omega arith) (omega (arith, e, (here p.required.posed).1)),
-      stays-among _ _ _ also _ (stays-among _ _ _ said _ p.set_len.1),
-      λ k. (left-on k (left-start k _ _) on e, outside-none _ _ _),
-    )
-
-pub entry-role-requires : goal.entry-role-requires
-entry-role-requires t c =
-    let row : c.loop-c.c < 64 = omega (arith, (here c.requires.required.posed).2, c.loop-c-test.true, c.entry-e.ensures) in
-    row
-
-pub spread-requires : goal.spread-requires
-spread-requires t c =
+pub loop-child-init : goal.loop-child-init
+loop-child-init t c =
+    let p = c.requires.required in
+    let b = c.children-child-items.ensures in
+    let g = begins c.into_iter-child-iterator.ensures.into_iter_gives b.ends b.from b.end (children-rise p.posed) in
     record {
-      judged = c.requires.required.posed.graph;
-      set_len = (c.loop-c.invariant.0, c.loop-c.invariant.3);
-      below_len = (zeros-length 8, among_none _);
+      going = g.0;
+      behind = omega (arith, g.1);
+      size = omega arith;
+      among = stays-among _ _ _ (c.screen.ensures p.posed.graph p.stand) _ (stays-among _ _ _ (c.hold.ensures p.posed.graph) _ c.requires.among);
+      left = λ k. (rw g.1 (left-start k _ _), outside-none _ _ _);
     }
 
 pub overflow_sub-left : goal.overflow_sub-left
 overflow_sub-left t c =
     omega (arith, (here c.requires.required.posed).0)
 
-pub slice_bounds-meet-end : goal.slice_bounds-meet-end
-slice_bounds-meet-end t c =
-    sym (c.spread.auto.below ∙ zeros-length 8)
-
 pub meet-requires : goal.meet-requires
 meet-requires t c =
     let k = c.requires.required in
-    let w = c.loop-c.invariant in (
+    let i = c.loop-child.invariant in
+    let g = turn i.going c.in-Some.ensures.goes.keeps c.in-Some.ensures.steps in
+    let w = rw g.here at (i.left k).0 in
+    let d = rw g.here at i.behind in (
       omega (arith, (here k.posed).0, c.decreases),
-      (
-        child-required k (w.4 k).0 w.2 c.entry-e.ensures c.loop-c-test.true,
-        (c.spread.auto.below ∙ zeros-length 8, (c.spread.ensures k.posed.graph).among, w.1),
-      ),
+      (child-required k w d g.inside, (c.spread.ensures k.posed.graph).among),
     )
 
-pub slice_bounds-fold-end : goal.slice_bounds-fold-end
-slice_bounds-fold-end t c =
-    sym (c.meet.auto.set ∙ c.spread.auto.below ∙ zeros-length 8)
-
-pub fold-requires : goal.fold-requires
-fold-requires t c =
-    let w = c.loop-c.invariant in record {
-      judged = c.requires.required.posed.graph;
-      child_len = (c.meet.auto.set ∙ c.spread.auto.below ∙ zeros-length 8, w.0, w.3);
+pub loop-child-preserved : goal.loop-child-preserved
+loop-child-preserved t c =
+    let p = c.requires.required in
+    let i = c.loop-child.invariant in
+    let g = turn i.going c.in-Some.ensures.goes.keeps c.in-Some.ensures.steps in
+    let d = rw g.here at i.behind in
+    record {
+      going = g.going;
+      behind = rw g.onward (let r = g.rises in omega arith);
+      size = c.meet.array_long;
+      among = stays-among _ _ _ (c.fold.ensures p.posed.graph) _ i.among;
+      left = λ k.
+          let was = i.left k in
+          let w = rw g.here at was.0 in
+          let done = c.meet.ensures (child-required k w d g.inside) in (
+            rw g.onward (next-left k w d g.inside _ _ _ _ _ c.from-role.ensures (c.spread.ensures k.posed.graph) done (c.fold.ensures k.posed.graph)),
+            outside-part _ _ _ _ _ _ _ (omega (arith, d)) (child k w d g.inside).within was.1 done.outside,
+          );
     }
 
-pub entry-requires : goal.entry-requires
-entry-requires t c =
-    let row : c.loop-c.c < 64 = omega (arith, (here c.requires.required.posed).2, c.loop-c-test.true, c.entry-e.ensures) in
-    row
+pub offset_bounds-met-node : goal.offset_bounds-met-node
+offset_bounds-met-node t c =
+    let h = here c.requires.required.posed in omega (arith, h.1, h.2)
 
-pub next_row-c-requires-in-loop-c : goal.next_row-c-requires-in-loop-c
-next_row-c-requires-in-loop-c t c =
-    c.fold.auto.set ∙ c.loop-c.invariant.0
-
-pub loop-c-smaller : goal.loop-c-smaller
-loop-c-smaller t c =
-    let k = c.requires.required in
-    let w = c.loop-c.invariant in
-    let l = c.loop-c-test.true in
-    let at-hand = child k (w.4 k).0 w.2 c.entry-e.ensures l in
-    omega (arith, l, on-behind _ c.next_row-c-in-loop-c.ensures (omega (arith, c.entry.ensures, at-hand.inside)) l)
-
-pub loop-c-preserved : goal.loop-c-preserved
-loop-c-preserved t c =
-    let p = c.requires.required in
-    let w = c.loop-c.invariant in
-    let e = c.entry-e.ensures in
-    let l = c.loop-c-test.true in
-    let sp = c.spread.ensures in
-    let met = c.meet.ensures in
-    let fd = c.fold.ensures in
-    let on = c.next_row-c-in-loop-c.ensures in
-    let en = c.entry.ensures in
-    let er = c.entry-role.ensures in (
-      c.fold.auto.set ∙ w.0,
-      c.meet.auto.met ∙ w.1,
-      on-behind _ on (omega (arith, w.2, en, (child p (w.4 p).0 w.2 e l).inside)) (omega (arith, w.2, l)),
-      stays-among _ _ _ (fd p.posed.graph) _ w.3,
-      λ k.
-          let was = w.4 k in
-          let done = met (child-required k was.0 w.2 e l) in (
-            left-on k (next-left k was.0 w.2 e l _ _ _ _ _ _ er en (sp k.posed.graph) done (fd k.posed.graph)) on e,
-            outside-part _ _ _ _ _ _ _ (omega (arith, w.2)) (child k was.0 w.2 e l).within was.1 done.outside,
-          ),
-    )
-
-pub store-requires : goal.store-requires
-store-requires t c =
-    let h = here c.requires.required.posed in
-    let low : c.args.node < 64 = omega (arith, h.1, h.2) in
-    (c.loop-c.invariant.1, low, c.loop-c.invariant.0)
-
-pub shape_of-set : goal.shape_of-set
-shape_of-set t c =
-    c.loop-c.invariant.0 ∙ sym c.requires.set_len.0
-
-pub shape_of-met : goal.shape_of-met
-shape_of-met t c =
-    c.store.auto.met ∙ c.loop-c.invariant.1 ∙ sym c.requires.set_len.2
+pub bounds-met-node : goal.bounds-met-node
+bounds-met-node t c =
+    let h = here c.requires.required.posed in omega (arith, h.1, h.2)
 
 pub returns : goal.returns
-returns t c =
-    λ k.
-    let w = c.loop-c.invariant in
-    let g = k.posed.graph in
-    whole k _ _ _ _ _ _ _ _ _ w.0 (c.hold.ensures g.register g.read)
-    (c.screen.ensures g k.stand) (w.4 k).0
-    c.entry-e.ensures c.loop-c-test.false (w.4 k).1 c.store.ensures
+returns t c = λ k.
+    let h = here k.posed in
+    let i = c.loop-child.invariant in
+    let held = c.hold.ensures k.posed.graph in
+    let screened = c.screen.ensures k.posed.graph k.stand in
+    let size = i.size in
+    let low : c.args.node < length c.loop-child.met = omega (arith, h.1, h.2) in
+    let was = i.left k in
+    elim c.match-next.branch [
+      | in-None w ↦ whole k _ _ _ _ _ _ _ low held screened was.0 (ended i.going w.in-None.ensures.steps) was.1
+      | in-Some+then-is_empty w ↦
+          whole k _ _ _ _ _ _ _ low held screened (left-none k was.0 (w.is_empty.ensures.yes w.if-is_empty.true)) (le_refl _) was.1
+    ]
