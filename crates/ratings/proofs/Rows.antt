@@ -1,7 +1,7 @@
 -- From what was worked out for all items to one item's row: of an item in service the number over the scale in lowest terms is the call's answer, and
 -- the map drawn is its map; for a withdrawn one the call is refused, and its row says so.
 -- Assumes nothing.
-use mathlib.Core.Path.{◌≡◌, refl, sym, ap, ap₂, subst, ◌∙◌}
+use mathlib.Core.Path.{◌≡◌, sym, ap, ap₂, subst, ◌∙◌}
 use mathlib.Core.Bool.{Bool, true, false}
 use mathlib.Core.List.{List}
 use mathlib.Core.Option.{some}
@@ -33,10 +33,19 @@ use Rattle.lines.specs.Entries.{degree_row}
 use Rattle.lines.proofs.Begins.{front}
 use Rattle.lines.proofs.Entries.{degree-out}
 use Rattle.lines.proofs.Entries.{degree-in as degree-call}
+use Rattle.rows.specs.declared.Reduced.{Reduced}
+use Rattle.graph.specs.declared.Indexed.{Indexed}
+use Rattle.std.specs.Prelude.{Some}
+use Rattle.ratings.specs.declared.Ratings.{Ratings}
 use Rattle.ratings.specs.Rated.{Rated}
 
-module _ {image message : List ℕ} {items : ℕ} {index ends marks : List ℕ} {scale : ℕ} {notes numbers : List ℕ}
-    (w : Rated image message items index ends marks scale notes numbers) where
+module _ {on : Indexed} {of : Reduced} {message : List ℕ} {r : Ratings} (w : Rated on of message r) where
+  abbrev image : List ℕ
+  image = on.image.now
+
+  abbrev ends : List ℕ
+  ends = of.tree.ends
+
   abbrev pub g : Register
   g = w.posed.graph.register
 
@@ -46,15 +55,15 @@ module _ {image message : List ℕ} {items : ℕ} {index ends marks : List ℕ} 
   pub few : get_or ends 0 0 ≤ most_nodes
   few = w.posed.few
 
-  pub positive : 0 < scale
+  pub positive : 0 < r.scale
   positive = rw w.graded.scaled (scale-in-pos w.tree)
 
-  module _ (item : ℕ) (l : item < items) where
-    pub noted-at : (x : ℕ) → some item ≡ some x → Noted ends marks g notes w.tree 0 x
-    noted-at x e = let z : item ≡ x = cc in subst (Noted ends marks g notes w.tree 0) z (w.graded.noted item l)
+  module _ (item : ℕ) (l : item < on.items) where
+    pub noted-at : (x : ℕ) → Some item ≡ Some x → Noted ends of.marks g r.notes w.tree 0 x
+    noted-at x e = let z : item ≡ x = cc in subst (Noted ends of.marks g r.notes w.tree 0) z (w.graded.noted item l)
 
     -- what is to be drawn for the item
-    abbrev pub drawing : Drawing image items index ends marks notes 0 17 item
+    abbrev pub drawing : Drawing on of r.notes 0 17 (Some item)
     drawing = record {
       names = w.names;
       roles = w.roles;
@@ -62,14 +71,12 @@ module _ {image message : List ℕ} {items : ℕ} {index ends marks : List ℕ} 
       posed = w.posed;
       marked = w.marked;
       places = w.places;
-      to = some item;
       inside = l;
-      same = refl;
       noted = noted-at;
     }
 
     -- a withdrawn item's row, where the test for it holds
-    pub out-row : {b : Bool} → Image image (λ r. b ≡ withdrawn r item) → b ≡ true → degree_row item (degree_call image message item most_nodes) ≡ withdrawn_line item
+    pub out-row : {b : Bool} → Image image (λ z. b ≡ withdrawn z item) → b ≡ true → degree_row item (degree_call image message item most_nodes) ≡ withdrawn_line item
     out-row told h =
         ap (degree_row item) (degree-out image message g w.whole item w.tree w.wanted (omega (arith, w.posed.graph.items-are))
         (sym (told g w.posed.graph.read) ∙ h))
@@ -78,7 +85,7 @@ module _ {image message : List ℕ} {items : ℕ} {index ends marks : List ℕ} 
     map-long = length-map (shown (walked g) w.tree (some item)) mark_number ∙ shown-length (walked g) w.tree (some item) ∙ sym ended
 
     module _ (old new : List ℕ) (room : most_nodes ≤ length old)
-        (shows : (k : Drawing image items index ends marks notes 0 17 item) → new ≡ drawn k.posed.graph.register k.tree 0 k.to old)
+        (shows : (k : Drawing on of r.notes 0 17 (Some item)) → new ≡ drawn k.posed.graph.register k.tree 0 (Some item) old)
         (k : ℕ) (ek : k ≡ get_or ends 0 0) where
       -- the places at the front are the item's map
       map_is : take k new ≡ degree_map (walked g) w.tree item
@@ -91,13 +98,13 @@ module _ {image message : List ℕ} {items : ℕ} {index ends marks : List ℕ} 
           (omega (arith, ek, few, long), omega (arith, ek, few), ek ∙ sym (ap length map_is ∙ map-long))
 
       -- the row of an item in service: there the graph that is walked is the one that is judged
-      pub row_is : {b : Bool} → Image image (λ r. b ≡ withdrawn r item) → b ≡ false
-          → (n num den : ℕ) → n ≡ row_at numbers 512 item → (num ≡ (lowest (n ÷ scale)).num) × (den ≡ (lowest (n ÷ scale)).den)
+      pub row_is : {b : Bool} → Image image (λ z. b ≡ withdrawn z item) → b ≡ false
+          → (n num den : ℕ) → n ≡ row_at r.numbers 512 item → (num ≡ (lowest (n ÷ r.scale)).num) × (den ≡ (lowest (n ÷ r.scale)).den)
           → degree_row item (degree_call image message item most_nodes) ≡ degree_line item (num ÷ den) (take k new)
       row_is told h n num den en low =
           let serves : Serves g item = sym (told g w.posed.graph.read) ∙ h in
           let asks : Asks g item = record { inside = omega (arith, w.posed.graph.items-are); serves = serves } in
-          let same : lowest (n ÷ scale) ≡ answered (walked g) w.tree item =
+          let same : lowest (n ÷ r.scale) ≡ answered (walked g) w.tree item =
           ap₂ (λ (x y : ℕ). lowest (x ÷ y)) (en ∙ w.graded.numbered item l ∙ sym (degree-in (walked g) w.tree item)) (w.graded.scaled ∙ sym (scale_in_lem w.tree)) in
           let fraction : (num ÷ den) ≡ answered (judged g) w.tree item = ap₂ ◌÷◌ low.0 low.1 ∙ same ∙ answered-agrees (walked-judged g) w.tree item serves in
           let map : take k new ≡ degree_map (judged g) w.tree item = map_is ∙ degree_map-agrees (walked-judged g) w.tree item serves in

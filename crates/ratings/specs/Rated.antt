@@ -9,34 +9,29 @@ use Rattle.meaning.specs.Register.{Register, read_register}
 use Rattle.meaning.specs.InPlace.{scale_in, degree_in}
 use Rattle.meaning.specs.Rows.{Marked}
 use Rattle.meaning.specs.Calls.{read_plain}
-use Rattle.register.specs.Image.{OfSize}
-use Rattle.graph.specs.Judged.{Judged}
+use Rattle.rows.specs.declared.Reduced.{Reduced}
+use Rattle.graph.specs.declared.Indexed.{Indexed}
+use Rattle.graph.specs.On.{JudgedOn}
 use Rattle.graph.specs.Walked.{walked}
 use Rattle.graph.specs.Posed.{Posed}
 use Rattle.folds.specs.Folded.{row_at}
-use Rattle.degrees.specs.Gradable.{Gradable}
 use Rattle.degrees.specs.Notes.{Noted}
+use Rattle.ratings.specs.declared.Ratings.{Ratings}
 
 -- of each item: its number at the root, over the scale, and where the kept nodes go
-pub record Graded (g : Register) (t : Concept) (items : ℕ) (ends marks : List ℕ) (scale : ℕ) (notes numbers : List ℕ) : Type 0 where
-  pub scaled : scale ≡ scale_in t
-  pub numbered : (x : ℕ) → x < items → row_at numbers 512 x ≡ degree_in (walked g) t x
-  pub noted : (x : ℕ) → x < items → Noted ends marks g notes t 0 x
+pub record Graded (g : Register) (t : Concept) (items : ℕ) (of : Reduced) (r : Ratings) : Type 0 where
+  pub scaled : r.scale ≡ scale_in t
+  pub numbered : (x : ℕ) → x < items → row_at r.numbers 512 x ≡ degree_in (walked g) t x
+  pub noted : (x : ℕ) → x < items → Noted of.tree.ends of.marks g r.notes t 0 x
 
 -- an image and a plain requirement that were read, the image's index and the requirement's rows, and what was worked out for them
-pub record Rated (image message : List ℕ) (items : ℕ) (index ends marks : List ℕ) (scale : ℕ) (notes numbers : List ℕ) : Type 0 where
+pub record Rated (on : Indexed) (of : Reduced) (message : List ℕ) (r : Ratings) : Type 0 where
   pub tree : Concept
   pub wanted : read_plain message ≡ good tree
   pub names : List ℕ
   pub roles : List ℕ
-  pub posed : Posed (Judged image items index) names roles ends tree 0 most_levels
-  pub whole : read_register image ≡ good posed.graph.register
-  pub marked : Marked ends marks tree 0
-  pub places : length posed.graph.register.links ≤ length notes
-  pub graded : Graded posed.graph.register tree items ends marks scale notes numbers
-
--- an image and a plain requirement that were read into rows, before anything is worked out
-pub record Sought (image message : List ℕ) (items links : ℕ) (names roles ends marks : List ℕ) : Type 0 where
-  pub gradable : Gradable (OfSize image items links) names roles ends marks 0 17
-  pub wanted : read_plain message ≡ good gradable.tree
-  pub whole : read_register image ≡ good gradable.posed.graph.register
+  pub posed : Posed (JudgedOn on) names roles of.tree.ends tree 0 most_levels
+  pub whole : read_register on.image.now ≡ good posed.graph.register
+  pub marked : Marked of.tree.ends of.marks tree 0
+  pub places : length posed.graph.register.links ≤ length r.notes
+  pub graded : Graded posed.graph.register tree on.items of r

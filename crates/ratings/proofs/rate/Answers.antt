@@ -1,36 +1,23 @@
-use mathlib.Core.Path.{refl, ◌∙◌}
+use mathlib.Core.Path.{◌∙◌}
 use native.Mathlib.Omega.{arith}
-use Rattle.graph.proofs.All.{all_none, all_among}
+use lib.ListN.{length-replicate}
+use Prim.Native.Nat.{ℕ}
+use Rattle.graph.proofs.All.{all_among}
+use Rattle.graph.proofs.Empty.{zeros, zero-at}
 use Rattle.degrees.proofs.Room.{room-start, ones_low}
 use Rattle.shown.proofs.Alone.{clear-zeros}
 use Rattle.ratings.proofs.All.{graded-all}
 use Rattle.ratings.proofs.rate.Goals as goal
 
-pub include_all-requires : goal.include_all-requires
-include_all-requires c =
-    (c.requires.gradable.posed.graph.most, refl, all_none)
-
-pub work-requires : goal.work-requires
-work-requires c =
+pub work-scale-requires-clause-lent : goal.work-scale-requires-clause-lent
+work-scale-requires-clause-lent c =
     record {
-      gradable = c.requires.gradable;
-      lent = record {
-        members = (c.include_all.auto.set, all_among c.include_all.ensures);
-        clear = clear-zeros c.args.notes.now _ _ c.requires.by_index.0;
-        room = room-start _ _ (c.ones.auto.numbers ∙ c.requires.by_index.1) (omega (arith, c.requires.gradable.posed.few));
-        ones = ones_low
-            c.ones.new.numbers c.ones.ensures.by_index;
-      };
+      members = all_among c.first-set.ensures;
+      clear = clear-zeros (zeros 4096) _ _ (λ k. zero-at 4096 k);
+      room = room-start _ _ (c.ones.auto.numbers ∙ length-replicate {A = ℕ} 3584 0) (omega (arith, c.requires.posed.few));
+      ones = ones_low _ c.ones.ensures.by_index;
     }
-
-pub shape_of-notes : goal.shape_of-notes
-shape_of-notes c =
-    c.work.auto.notes
-
-pub shape_of-numbers : goal.shape_of-numbers
-shape_of-numbers c =
-    c.work.auto.numbers ∙ c.ones.auto.numbers
 
 pub returns : goal.returns
 returns c =
-    λ k. graded-all k c.include_all.ensures (c.work.ensures k)
+    λ k. graded-all c.args.on.now c.args.of.now k c.first-set.ensures _ (c.work-scale.ensures k)
