@@ -9,8 +9,7 @@ use native.Mathlib.Decide.{dec_lt}
 use lib.ListN.{get_or, replicate, length-replicate, get_or-replicate, get_or-eq_default}
 use Rattle.meaning.specs.Names.{has}
 use Rattle.meaning.proofs.SessionNames.{has-none}
-use Rattle.meaning.proofs.Tests.{true-false}
-use Rattle.graph.specs.Sets.{in_set, Among}
+use Rattle.graph.specs.Sets.{in_set}
 
 abbrev pub zeros : ℕ → List ℕ
 zeros n = replicate n 0
@@ -24,6 +23,3 @@ zero-at n k = go (dec_lt k n)
 
 pub none_in : (n x : ℕ) → in_set (zeros n) x ≡ false
 none_in n x = ap (λ (z : ℕ). has z (x % 64)) (zero-at n (x / 64)) ∙ has-none (x % 64)
-
-pub among_none : (items : ℕ) → Among items (zeros 8)
-among_none items x h = absurd (true-false h (none_in 8 x))

@@ -6,7 +6,7 @@ use mathlib.Core.List.Memᴰ
 use mathlib.Core.List.{List, [], ◌∷◌, Memᴰ}
 use mathlib.Core.Option.{Option, some}
 use mathlib.Core.Option.{none as nowhere}
-use Prim.Native.Nat.{ℕ, ◌≤◌, ◌<◌}
+use Prim.Native.Nat.{ℕ, ◌<◌}
 use native.Mathlib.Omega.{arith}
 use lib.Dec.{T}
 use lib.ListN.{length}
@@ -15,19 +15,9 @@ use Rattle.meaning.specs.Refusal.{good}
 use Rattle.meaning.specs.Register.{Link, Register, withdrawn, links_of, targets, read_buffer}
 use Rattle.meaning.proofs.Links.{targets-links, except-in, link}
 use Rattle.meaning.proofs.Image.{right, image-fits}
-use Rattle.register.specs.Image.{Asked, OfSize}
+use Rattle.register.specs.Image.{Asked}
 use Rattle.graph.specs.Walked.{walked}
 use Rattle.graph.specs.Judged.{Judged}
-
--- one of the links up to an end
-pub asked-one : {s : List ℕ} {items end k : ℕ} → Asked s (λ g. (items ≡ length g.names) × (end ≤ length g.links)) → k < end
-    → Asked s (λ g. (items ≡ length g.names) × (k < length g.links))
-asked-one a l = record { register = a.register; read = a.read; holds = (a.holds.0, omega (arith, l, a.holds.1)) }
-
--- one of so many links
-pub asked-link : {s : List ℕ} {items links : ℕ} → OfSize s items links → (k : ℕ) → k < links
-    → Asked s (λ g. (items ≡ length g.names) × (k < length g.links))
-asked-link a k l = record { register = a.register; read = a.read; holds = (a.holds.0, omega (arith, a.holds.1)) }
 
 -- a link of so many items leads to one of them
 pub link-inside : (n : ℕ) (before : Option Link) (ls : List Link) (l : Link) → T (links_of n before ls) → Memᴰ l ls → l.to < n
@@ -50,12 +40,6 @@ module _ {s : List ℕ} {items : ℕ} {index : List ℕ} (j : Judged s items ind
 
   pub asked-names : {item : ℕ} → item < items → Asked s (λ g. item < length g.names)
   asked-names l = record { register = j.register; read = j.read; holds = omega (arith, l, j.items-are) }
-
-  pub asked-end : {k : ℕ} → k < length j.register.links → Asked s (λ g. (items ≡ length g.names) × (k < length g.links))
-  asked-end l = record { register = j.register; read = j.read; holds = (j.items-are, l) }
-
-  pub asked-links : {end : ℕ} → end ≤ length j.register.links → Asked s (λ g. (items ≡ length g.names) × (end ≤ length g.links))
-  asked-links l = record { register = j.register; read = j.read; holds = (j.items-are, l) }
 
   pub next-inside : Bytes s → (x r y : ℕ) → Memᴰ y ((walked j.register).next x r) → y < items
   next-inside = successor-inside s items j.register j.read j.items-are

@@ -1,7 +1,6 @@
 -- A register that was read, and rows that hold a tree: what every question is put to.
 -- Assumes nothing.
 use Rattle.std.specs.Prelude.{List, ℕ, ◌≤◌, get_or}
-use Rattle.std.proofs.Math.Option.{Option, some, none as nowhere}
 use Rattle.meaning.specs.Bounds.{most_nodes}
 use Rattle.meaning.specs.Tree.{Concept}
 use Rattle.meaning.specs.Rows.{Holds}
@@ -11,8 +10,3 @@ pub record Posed (R : Type 0) (names roles ends : List ℕ) (t : Concept) (node 
   pub graph : R
   pub held : Holds names roles ends t left node (get_or ends node 0)
   pub few : get_or ends node 0 ≤ most_nodes
-
--- where a search among items ended: at one of them, or nowhere
-abbrev pub place_of : Option ℕ → ℕ
-place_of nowhere = 65535
-place_of (some x) = x
