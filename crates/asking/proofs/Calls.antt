@@ -7,14 +7,16 @@ use mathlib.Core.Option.{some}
 use Prim.Native.Nat.{ℕ, ◌≤◌, ◌<◌}
 use native.Mathlib.Omega.{arith}
 use lib.Dec.{ltb}
-use Rattle.std.specs.Prelude.{Option, Some, Result, Ok, Err}
+use Rattle.std.specs.Prelude.{Some, Result, Ok, Err, MatchResult, IsErrAnd}
 use lib.IntN.{ℤ}
 use mir.Syntax.{w64}
 use mir.Val.{SFits, to_z, of_z}
 use mir.Facts.{to_z-of_z}
 use lib.ListN.{length, get_or, length-map}
 use lib.Seq.{sets}
+use Rattle.meaning.specs.declared.Rule.{Rule}
 use Rattle.meaning.specs.declared.Refusal.{Refusal}
+use Rattle.meaning.specs.Rules.{number_of, told as told_by}
 use Rattle.meaning.specs.Refusal.{Answer, good, refused, on_call, refuse_if, ◌>>=◌, ◌>>◌}
 use Rattle.meaning.specs.Tree.{Concept, nodes}
 use Rattle.meaning.specs.Register.{Register, judged}
@@ -36,17 +38,18 @@ use Rattle.shown.specs.declared.Degree.{Degree}
 use Rattle.fractions.specs.declared.Fraction.{Fraction}
 use Rattle.fractions.specs.declared.Signed.{Signed}
 use Rattle.plain.specs.declared.Both.{Both}
-use Rattle.plain.specs.declared.Both.TheVariants.{Good as GoodBoth, Refused as RefusedBoth}
 use Rattle.asking.specs.declared.Answered.{Answered}
 use Rattle.asking.specs.declared.Margin.{Margin}
 use Rattle.register.specs.Image.{Asked, OfSize, Image}
+use Rattle.register.specs.Held.{IsRead}
+use Rattle.register.proofs.Holding.{is_read}
 use Rattle.graph.specs.Walked.{numbered}
 use Rattle.graph.proofs.Asked.{number-asks, number-halts}
 use Rattle.graph.proofs.Walked.{walked-judged}
 use Rattle.degrees.specs.Gradable.{Gradable}
 use Rattle.meaning.specs.Bounds.{most_scale, most_q}
 use Rattle.shown.specs.Given.{drawn, Graded}
-use Rattle.plain.specs.Reading.{Rows, read_both, BothDone}
+use Rattle.plain.specs.Reading.{read_both, BothDone}
 use Rattle.plain.proofs.Known.{both_first, both-no, Known, ended}
 use Rattle.asking.specs.Answers.{Told, paper_degree, told, paper_margin}
 use Rattle.asking.specs.Refusing.{DegreePromise, MarginPromise}
@@ -68,18 +71,39 @@ degree_next item room g t = asked_for g item >> degree_then item room g t
 abbrev margin_next : ℕ → ℕ → ℕ → Register → Concept → Answer Against
 margin_next item p q g t = asked_for g item >> margin_then item p q g t
 
-module _ {image message : List ℕ} {A : Rows} {b : Both} {done : BothDone image message A b} {n m k : ℕ} {e : b ≡ GoodBoth n m k} (w : Known image message A b done n m k e) where
-  abbrev pub gradable : Gradable (OfSize image n m) A.names A.roles A.ends A.marks 0 17
+-- ---- a test that answers a rule, which becomes a refusal on the call's side
+
+abbrev pub Mapped : Result (Unit {0}) Rule → Result (Unit {0}) Refusal → Type 0
+Mapped r z = MatchResult r (λ x. z ≡ Ok x) (λ e. IsErrAnd z (λ f. f ≡ on_call (number_of e)))
+
+number-some : (r : Rule) → number_of r ≡ 0 → ⊥
+number-some r e = grind arith
+
+pub told-no : (r : Result (Unit {0}) Rule) (f : Refusal) → Mapped r (Err f) → (told_by r ≡ 0 → ⊥) × (f ≡ on_call (told_by r))
+told-no (Ok u) f h = absurd (let y : ◌≡◌ {A = ℕ} 0 1 = cc in omega arith)
+told-no (Err e) f h = (number-some e, h)
+
+pub told-yes : (r : Result (Unit {0}) Rule) (u : Unit {0}) → Mapped r (Ok u) → told_by r ≡ 0
+told-yes (Ok v) u h = refl
+told-yes (Err e) u h = absurd h
+
+module _ {image message : List ℕ} {b : Both} (w : Known image message b) where
+  -- the tree is gradable over the register, and the image was read
+  abbrev pub gradable : Gradable (OfSize image b.size.items b.size.links) b.plain.reduced.tree.names b.plain.reduced.tree.roles b.plain.reduced.tree.ends
+      b.plain.reduced.marks 0 17
   gradable =
       let h = w.held.held in
-      gradable-of w.register w.tree (whole-buffer image w.register w.bytes h.posed.graph) w.items w.links
+      gradable-of w.register w.tree (whole-buffer image w.register w.bytes h.posed.graph) w.held.items w.held.links
       h.posed.held h.marked h.posed.few h.small
 
-  pub counted : Asked image (λ g. n ≡ length g.names)
-  counted = record { register = w.register; read = whole-buffer image w.register w.bytes w.held.held.posed.graph; holds = w.items }
+  pub was_read : IsRead image b.size.items b.size.links
+  was_read = is_read image b.size.items b.size.links w.bytes gradable.posed.graph
 
-  pub room : {long : ℕ} → k ≤ long → get_or A.ends 0 0 ≤ long
-  room l = omega (arith, ended w, w.written)
+  pub counted : Asked image (λ g. b.size.items ≡ length g.names)
+  counted = record { register = w.register; read = whole-buffer image w.register w.bytes w.held.held.posed.graph; holds = w.held.items }
+
+  pub room : {long : ℕ} → b.plain.nodes ≤ long → get_or b.plain.reduced.tree.ends 0 0 ≤ long
+  room l = omega (arith, ended w, w.held.written)
 
 module _ (image message : List ℕ) (item : ℕ) where
   -- the answer and the lent map afterwards
@@ -101,16 +125,15 @@ module _ (image message : List ℕ) (item : ℕ) where
   unfolding margin_call
   margin-both p q = both_first (margin_next item p q) image message
 
-  module _ (A : Rows) (b : Both) (done : BothDone image message A b) where
-    -- ---- refused by a reader
+  -- ---- refused by a reader
 
-    pub degree-stopped : (old : List ℕ) (f : Refusal) → b ≡ RefusedBoth f → DegreeDone (Err f) old old
-    degree-stopped old f e = degree-no old f _ (degree-both (length old) ∙ stopped (read_both image message) _ f (both-no image message A b done f e)) refl
+  pub degree-stopped : (old : List ℕ) (f : Refusal) → BothDone image message (Err f) → DegreeDone (Err f) old old
+  degree-stopped old f done = degree-no old f _ (degree-both (length old) ∙ stopped (read_both image message) _ f (both-no image message f done)) refl
 
-    pub margin-stopped : (p q : ℕ) (f : Refusal) → b ≡ RefusedBoth f → MarginDone p q (Err f)
-    margin-stopped p q f e = sym (margin-both p q ∙ stopped (read_both image message) _ f (both-no image message A b done f e))
+  pub margin-stopped : (p q : ℕ) (f : Refusal) → BothDone image message (Err f) → MarginDone p q (Err f)
+  margin-stopped p q f done = sym (margin-both p q ∙ stopped (read_both image message) _ f (both-no image message f done))
 
-  module _ {A : Rows} {b : Both} {done : BothDone image message A b} {n m k : ℕ} {e : b ≡ GoodBoth n m k} (w : Known image message A b done n m k e) where
+  module _ {b : Both} (w : Known image message b) where
     -- ---- the degree
 
     degree-then : (room : ℕ) → degree_call image message item room ≡ degree_next item room w.register w.tree
@@ -132,10 +155,10 @@ module _ (image message : List ℕ) (item : ℕ) where
         degree-no old _ r (degree-then (length old) ∙ asks-halts w.register item _ (number-halts w.register item number (told_of number e) d)) is
 
     -- 16
-    pub degree-no-room : Asks w.register item → (old : List ℕ) → length old < k → (r : Result Answered Refusal) → r ≡ Err (on_call 16) → DegreeDone r old old
+    pub degree-no-room : Asks w.register item → (old : List ℕ) → length old < b.plain.nodes → (r : Result Answered Refusal) → r ≡ Err (on_call 16) → DegreeDone r old old
     degree-no-room i old l r is =
         degree-no old _ r
-        (degree-then (length old) ∙ asks-goes w.register item _ i ∙ stop (ltb (length old) (nodes w.tree)) _ _ (below (length old) _ (omega (arith, w.written)))) is
+        (degree-then (length old) ∙ asks-goes w.register item _ i ∙ stop (ltb (length old) (nodes w.tree)) _ _ (below (length old) _ (omega (arith, w.held.written)))) is
 
     -- what was worked out, in lowest terms, is what is answered
     lowest-answer : Asks w.register item → (d : Degree) (f : Fraction) → Graded w.register w.tree item d
@@ -144,18 +167,18 @@ module _ (image message : List ℕ) (item : ℕ) where
     lowest-answer i d f h l =
         ap₂ ◌÷◌ l.0 l.1 ∙ graded-answer w.register w.tree item d h ∙ answered-agrees (walked-judged w.register) w.tree item i.serves
 
-    pub degree-answer : Asks w.register item → (old new : List ℕ) → k ≤ length old → (d : Degree) (f : Fraction) → Graded w.register w.tree item d
+    pub degree-answer : Asks w.register item → (old new : List ℕ) → b.plain.nodes ≤ length old → (d : Degree) (f : Fraction) → Graded w.register w.tree item d
         → (f.num ≡ (lowest (d.number ÷ d.scale)).num) × (f.den ≡ (lowest (d.number ÷ d.scale)).den)
-        → new ≡ drawn w.register w.tree 0 (Some item) old → DegreeDone (Ok (record { num = f.num; den = f.den; nodes = k })) old new
+        → new ≡ drawn w.register w.tree 0 (Some item) old → DegreeDone (Ok (record { num = f.num; den = f.den; nodes = b.plain.nodes })) old new
     unfolding told ◌>>=◌
     degree-answer i old new l d f h low is =
         let t = w.tree in
         let G = judged w.register in
         let found : Found = record { degree = answered G t item; map = degree_map G t item } in
         let c : degree_call image message item (length old) ≡ good found =
-        degree-then (length old) ∙ asks-goes w.register item _ i ∙ pass (ltb (length old) (nodes t)) _ _ (not-below (length old) _ (omega (arith, w.written))) in
-        let places : k ≡ length (degree_map G t item) = w.written ∙ sym (length-map (shown G t (some item)) mark_number ∙ shown-length G t (some item)) in
-        let answer : ◌≡◌ {A = Told} (record { degree = f.num ÷ f.den; places = k }) (record { degree = answered G t item; places = length (degree_map G t item) }) =
+        degree-then (length old) ∙ asks-goes w.register item _ i ∙ pass (ltb (length old) (nodes t)) _ _ (not-below (length old) _ (omega (arith, w.held.written))) in
+        let places : b.plain.nodes ≡ length (degree_map G t item) = w.held.written ∙ sym (length-map (shown G t (some item)) mark_number ∙ shown-length G t (some item)) in
+        let answer : ◌≡◌ {A = Told} (record { degree = f.num ÷ f.den; places = b.plain.nodes }) (record { degree = answered G t item; places = length (degree_map G t item) }) =
         ap₂ (λ (x : Frac) (y : ℕ). record { degree = x; places = y }) (lowest-answer i d f h low) places in
         let drawn-is : new ≡ sets old 0 (degree_map G t item) = is ∙ ap (sets old 0) (degree_map-agrees (walked-judged w.register) t item i.serves) in
         (ap good answer ∙ sym (ap told c), drawn-is ∙ sym (ap (after_degree old) c))

@@ -2,14 +2,12 @@
 // on the rows.
 #![tactic(auto)]
 
-ghost use Rattle.std.specs.Prelude.{◌≡◌};
-ghost use Rattle.meaning.specs.Refusal.{on_call};
 ghost use Rattle.asking.specs.Refusing.{DegreePromise, MarginPromise};
 
-use meaning::{Refusal, Side};
-use plain::Both;
+use meaning::{Refusal, Rule};
+use register::Reading;
 
-// The degree in lowest terms, and how many places of the map are written; or the refusal.
+// The degree in lowest terms, and how many places of the map are written.
 #[derive(Clone, Copy, Debug, PartialEq, Eq)]
 pub struct Answered {
     pub num: u64,
@@ -17,7 +15,7 @@ pub struct Answered {
     pub nodes: usize,
 }
 
-// The margin, and what it is over; or the refusal.
+// The margin, and what it is over.
 #[derive(Clone, Copy, Debug, PartialEq, Eq)]
 pub struct Margin {
     pub margin: i64,
@@ -25,107 +23,63 @@ pub struct Margin {
 }
 
 // The degree of an item in a plain requirement, and its map, one number for each written node.
-pub fn degree_of(image: &[u8], message: &[u8], item: usize, map: &mut [u16]) -> Result<Answered, Refusal>
+pub fn degree_of(
+    image: &[u8],
+    message: &[u8],
+    item: usize,
+    map: &mut [u16],
+) -> Result<Answered, Refusal>
     ensures { DegreePromise image.now message.now item map.old map.new result }
 {
-    let mut names = [0u64; 64];
-    let mut roles = [0u8; 64];
-    let mut ends = [0u8; 64];
-    let mut marks = [0u8; 64];
-    let b = plain::read_both(
-        image, message, &mut names, &mut roles, &mut ends, &mut marks,
-    );
-    match b {
-        Both::Good {
-            items,
-            links,
-            nodes,
-        } => {
-            let number = graph::refusal_of(image, items, item);
-            if number != 0 {
-                return Err(no(number));
-            }
-            if map.len() < nodes {
-                return Err(no(16));
-            }
-            let d = shown::shown_at(
-                image,
-                items,
-                links,
-                &names,
-                &roles,
-                &ends,
-                &marks,
-                0,
-                meaning::MOST_LEVELS,
-                item,
-                map,
-            );
-            let f = fractions::lowest(d.number, d.scale);
-            Ok(Answered {
-                num: f.num,
-                den: f.den,
-                nodes,
-            })
-        }
-        Both::Refused { refusal } => Err(refusal),
+    let both = plain::read_both(image, message)?;
+    graph::refusal_of(image, both.size.items, item).map_err(|rule| rule.of_call())?;
+    if map.len() < both.plain.nodes {
+        return Err(Rule::MapTooShort.of_call());
     }
+    let read = Reading {
+        bytes: image,
+        items: both.size.items,
+        links: both.size.links,
+    };
+    let degree = shown::shown_at(
+        &read,
+        &both.plain.reduced,
+        0,
+        meaning::MOST_LEVELS,
+        item,
+        map,
+    );
+    let low = fractions::lowest(degree.number, degree.scale);
+    Ok(Answered {
+        num: low.num,
+        den: low.den,
+        nodes: both.plain.nodes,
+    })
 }
 
 // The margin of an item's degree in a plain requirement against p/q.
-pub fn margin_of(image: &[u8], message: &[u8], item: usize, p: usize, q: usize) -> Result<Margin, Refusal>
+pub fn margin_of(
+    image: &[u8],
+    message: &[u8],
+    item: usize,
+    p: usize,
+    q: usize,
+) -> Result<Margin, Refusal>
     ensures { MarginPromise image.now message.now item p q result }
 {
-    let mut names = [0u64; 64];
-    let mut roles = [0u8; 64];
-    let mut ends = [0u8; 64];
-    let mut marks = [0u8; 64];
-    let b = plain::read_both(
-        image, message, &mut names, &mut roles, &mut ends, &mut marks,
-    );
-    match b {
-        Both::Good {
-            items,
-            links,
-            nodes: _,
-        } => {
-            let number = graph::refusal_of(image, items, item);
-            if number != 0 {
-                return Err(no(number));
-            }
-            let wrong = fractions::wrong(p, q);
-            if wrong != 0 {
-                return Err(no(wrong));
-            }
-            let d = shown::degree_at(
-                image,
-                items,
-                links,
-                &names,
-                &roles,
-                &ends,
-                &marks,
-                0,
-                meaning::MOST_LEVELS,
-                item,
-            );
-            let f = fractions::lowest(d.number, d.scale);
-            let m = fractions::against(f.num, f.den, p as u64, q as u64);
-            Ok(Margin {
-                margin: m.num,
-                over: m.den,
-            })
-        }
-        Both::Refused { refusal } => Err(refusal),
-    }
-}
-
-fn no(number: usize) -> Refusal
-    ensures { result ≡ on_call number }
-{
-    Refusal {
-        side: Side::Call,
-        number,
-        place: 0,
-    }
+    let both = plain::read_both(image, message)?;
+    graph::refusal_of(image, both.size.items, item).map_err(|refused| refused.of_call())?;
+    fractions::wrong(p, q).map_err(|wrong| wrong.of_call())?;
+    let read = Reading {
+        bytes: image,
+        items: both.size.items,
+        links: both.size.links,
+    };
+    let degree = shown::degree_at(&read, &both.plain.reduced, 0, meaning::MOST_LEVELS, item);
+    let low = fractions::lowest(degree.number, degree.scale);
+    let margin = fractions::against(low.num, low.den, p as u64, q as u64);
+    Ok(Margin {
+        margin: margin.num,
+        over: margin.den,
+    })
 }

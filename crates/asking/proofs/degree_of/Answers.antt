@@ -1,64 +1,55 @@
 -- `asking::degree_of` meets its contract: answer and map are those of the document's call, for every refusal too.
 -- Assumes nothing.
-use native.Mathlib.Omega.{arith}
 use mathlib.Core.Path.{ap}
+use native.Mathlib.Omega.{arith}
+use Rattle.std.proofs.Common.{rules}
 use Rattle.std.specs.Prelude.{Err}
+use Rattle.std.proofs.lemmas.Result.{err_from_is_err_and}
 use Rattle.fields.proofs.Known.{bytes-known}
 use Rattle.shown.proofs.Entry.{graded-fits}
-use Rattle.asking.proofs.Calls.{degree-stopped, gradable, counted, room, asks, degree-no-item, degree-no-room, degree-answer}
-use Rattle.plain.proofs.Known.{Known, known}
+use Rattle.plain.proofs.Known.{known}
+use Rattle.asking.proofs.Calls.{Mapped, told-no, told-yes, degree-stopped, gradable, was_read, counted, room, asks, degree-no-item, degree-no-room, degree-answer}
 use Rattle.asking.proofs.degree_of.Goals as goal
 
-pub refusal_of-number-requires : goal.refusal_of-number-requires
-refusal_of-number-requires c =
-    -- a register and a requirement that were read
-    let read : Known c.args.image.now c.args.message.now _ _ c.read_both-b.ensures _ _ _ c.in-Good.is =
-    known _ _ _ _ _ _ _ _ _ (bytes-known c.args.image.now c.type_inv.image) in
-    counted read
+pub returns-in_err-both : goal.returns-in_err-both
+returns-in_err-both c =
+    let p = err_from_is_err_and c.from_residual.result c.from_residual.ensures.1 in
+    rw (p.1, p.2) (degree-stopped _ _ _ _ _ c.in_err-both.ensures)
 
-pub returns-then-number-ne0 : goal.returns-then-number-ne0
-returns-then-number-ne0 c =
-    -- a register and a requirement that were read
-    let read : Known c.args.image.now c.args.message.now _ _ c.read_both-b.ensures _ _ _ c.in-Good.is =
-    known _ _ _ _ _ _ _ _ _ (bytes-known c.args.image.now c.type_inv.image) in
-    degree-no-item _ _ _ read _ c.refusal_of-number.ensures c.if-number-ne0.true _ _ (ap Err c.no.ensures)
+pub refusal_of-requires : goal.refusal_of-requires
+refusal_of-requires c = counted (known c.in_ok-both.ensures (bytes-known c.args.image.now c.type_inv.image))
 
-pub returns-then-map-nodes : goal.returns-then-map-nodes
-returns-then-map-nodes c =
-    -- a register and a requirement that were read
-    let read : Known c.args.image.now c.args.message.now _ _ c.read_both-b.ensures _ _ _ c.in-Good.is =
-    known _ _ _ _ _ _ _ _ _ (bytes-known c.args.image.now c.type_inv.image) in
-    let w = read in
-    degree-no-room _ _ _ w (asks _ _ _ w _ c.refusal_of-number.ensures c.if-number-ne0.false) _ (omega (arith, c.if-map-nodes.true))
-    _ (ap Err c.no-then-map-nodes.ensures)
+pub returns-in_err-map_err : goal.returns-in_err-map_err
+returns-in_err-map_err c =
+    let w = known c.in_ok-both.ensures (bytes-known c.args.image.now c.type_inv.image) in
+    let p = err_from_is_err_and c.from_residual-in_err-map_err.result c.from_residual-in_err-map_err.ensures.1 in
+    let m : Mapped c.refusal_of.result (Err c.in_err-map_err.field-0.0) = search (rules, c.in_err-map_err.ensures.cases) in
+    let q = told-no _ _ m in
+    rw (p.1, p.2) (degree-no-item _ _ _ w _ c.refusal_of.ensures q.0 _ _ (ap Err q.1))
 
-pub shown_at-d-requires : goal.shown_at-d-requires
-shown_at-d-requires c =
-    -- a register and a requirement that were read
-    let read : Known c.args.image.now c.args.message.now _ _ c.read_both-b.ensures _ _ _ c.in-Good.is =
-    known _ _ _ _ _ _ _ _ _ (bytes-known c.args.image.now c.type_inv.image) in
-    let w = read in record {
-      gradable = gradable w;
-      node_in_bounds = (room w (omega (arith, c.if-map-nodes.false)), (let a = asks _ _ c.args.item w _ c.refusal_of-number.ensures c.if-number-ne0.false in omega (arith, a.inside, w.items)));
-    }
+pub returns-then-map-both : goal.returns-then-map-both
+returns-then-map-both c =
+    let w = known c.in_ok-both.ensures (bytes-known c.args.image.now c.type_inv.image) in
+    let i = asks _ _ _ w _ c.refusal_of.ensures (told-yes c.refusal_of.result _ c.in_ok-map_err.ensures.cases) in
+    degree-no-room _ _ _ w i _ c.if-map-both.true _ (ap Err c.of_call.ensures)
 
-pub lowest-f-requires : goal.lowest-f-requires
-lowest-f-requires c =
-    -- a register and a requirement that were read
-    let read : Known c.args.image.now c.args.message.now _ _ c.read_both-b.ensures _ _ _ c.in-Good.is =
-    known _ _ _ _ _ _ _ _ _ (bytes-known c.args.image.now c.type_inv.image) in
-    let k = gradable read in
-    (graded-fits k.posed.graph.register k.tree _ _ (c.shown_at-d.ensures k).0).0
+pub invariant_of-read : goal.invariant_of-read
+invariant_of-read c = record { read = was_read (known c.in_ok-both.ensures (bytes-known c.args.image.now c.type_inv.image)) }
 
-pub returns-else-map-nodes : goal.returns-else-map-nodes
-returns-else-map-nodes c =
-    -- a register and a requirement that were read
-    let read : Known c.args.image.now c.args.message.now _ _ c.read_both-b.ensures _ _ _ c.in-Good.is =
-    known _ _ _ _ _ _ _ _ _ (bytes-known c.args.image.now c.type_inv.image) in
-    let w = read in
-    let d = c.shown_at-d.ensures (gradable w) in
-    degree-answer _ _ _ w (asks _ _ _ w _ c.refusal_of-number.ensures c.if-number-ne0.false) _ _ (omega (arith, c.if-map-nodes.false)) _ _ d.0 c.lowest-f.ensures d.1
+pub shown_at-degree-requires : goal.shown_at-degree-requires
+shown_at-degree-requires c =
+    let w = known c.in_ok-both.ensures (bytes-known c.args.image.now c.type_inv.image) in
+    let i = asks _ _ c.args.item w _ c.refusal_of.ensures (told-yes c.refusal_of.result _ c.in_ok-map_err.ensures.cases) in
+    record { gradable = gradable w; node_in_bounds = (room w c.if-map-both.false, omega (arith, i.inside, w.held.items)) }
 
-pub returns-in-Refused : goal.returns-in-Refused
-returns-in-Refused c =
-    degree-stopped _ _ _ _ _ c.read_both-b.ensures _ _ c.in-Refused.is
+pub lowest-low-requires : goal.lowest-low-requires
+lowest-low-requires c =
+    let k = gradable (known c.in_ok-both.ensures (bytes-known c.args.image.now c.type_inv.image)) in
+    (graded-fits k.posed.graph.register k.tree _ _ (c.shown_at-degree.ensures k).0).0
+
+pub returns : goal.returns
+returns c =
+    let w = known c.in_ok-both.ensures (bytes-known c.args.image.now c.type_inv.image) in
+    let i = asks _ _ _ w _ c.refusal_of.ensures (told-yes c.refusal_of.result _ c.in_ok-map_err.ensures.cases) in
+    let d = c.shown_at-degree.ensures (gradable w) in
+    degree-answer _ _ _ w i _ _ c.if-map-both.false _ _ d.0 c.lowest-low.ensures d.1

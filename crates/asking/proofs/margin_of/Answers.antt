@@ -1,74 +1,66 @@
 -- `asking::margin_of` meets its contract: the answer is that of the document's call, for every refusal too.
 -- Assumes nothing.
-use native.Mathlib.Omega.{arith}
 use mathlib.Core.Path.{ap}
+use native.Mathlib.Omega.{arith}
+use Rattle.std.proofs.Common.{rules}
 use Rattle.std.specs.Prelude.{Err}
+use Rattle.std.proofs.lemmas.Result.{err_from_is_err_and}
 use Rattle.fields.proofs.Known.{bytes-known}
 use Rattle.shown.proofs.Entry.{graded-fits}
-use Rattle.asking.proofs.Calls.{margin-stopped, gradable, counted, asks, margin-no-item, margin-no-threshold, margin-small, margin-answer}
-use Rattle.plain.proofs.Known.{Known, known}
+use Rattle.plain.proofs.Known.{known}
+use Rattle.asking.proofs.Calls.{Mapped, told-no, told-yes, margin-stopped, gradable, was_read, counted, asks, margin-no-item, margin-no-threshold, margin-small, margin-answer}
 use Rattle.asking.proofs.margin_of.Goals as goal
 
-pub refusal_of-number-requires : goal.refusal_of-number-requires
-refusal_of-number-requires c =
-    -- a register and a requirement that were read
-    let read : Known c.args.image.now c.args.message.now _ _ c.read_both-b.ensures _ _ _ c.in-Good.is =
-    known _ _ _ _ _ _ _ _ _ (bytes-known c.args.image.now c.type_inv.image) in
-    counted read
+pub returns-in_err-both : goal.returns-in_err-both
+returns-in_err-both c =
+    let p = err_from_is_err_and c.from_residual.result c.from_residual.ensures.1 in
+    rw (p.1, p.2) (margin-stopped _ _ _ _ _ _ c.in_err-both.ensures)
 
-pub returns-then-number-ne0 : goal.returns-then-number-ne0
-returns-then-number-ne0 c =
-    -- a register and a requirement that were read
-    let read : Known c.args.image.now c.args.message.now _ _ c.read_both-b.ensures _ _ _ c.in-Good.is =
-    known _ _ _ _ _ _ _ _ _ (bytes-known c.args.image.now c.type_inv.image) in
-    margin-no-item _ _ _ read _ c.refusal_of-number.ensures c.if-number-ne0.true _ _ _ (ap Err c.no.ensures)
+pub refusal_of-requires : goal.refusal_of-requires
+refusal_of-requires c = counted (known c.in_ok-both.ensures (bytes-known c.args.image.now c.type_inv.image))
 
-pub returns-then-wrong-ne0 : goal.returns-then-wrong-ne0
-returns-then-wrong-ne0 c =
-    -- a register and a requirement that were read
-    let read : Known c.args.image.now c.args.message.now _ _ c.read_both-b.ensures _ _ _ c.in-Good.is =
-    known _ _ _ _ _ _ _ _ _ (bytes-known c.args.image.now c.type_inv.image) in
-    let w = read in
-    margin-no-threshold _ _ _ w (asks _ _ _ w _ c.refusal_of-number.ensures c.if-number-ne0.false) _ _ _ c.wrong-wrong.ensures c.if-wrong-ne0.true
-    _ (ap Err c.no-then-wrong-ne0.ensures)
+pub returns-in_err-map_err : goal.returns-in_err-map_err
+returns-in_err-map_err c =
+    let w = known c.in_ok-both.ensures (bytes-known c.args.image.now c.type_inv.image) in
+    let p = err_from_is_err_and c.from_residual-in_err-map_err.result c.from_residual-in_err-map_err.ensures.1 in
+    let m : Mapped c.refusal_of.result (Err c.in_err-map_err.field-0.0) = search (rules, c.in_err-map_err.ensures.cases) in
+    let q = told-no _ _ m in
+    rw (p.1, p.2) (margin-no-item _ _ _ w _ c.refusal_of.ensures q.0 _ _ _ (ap Err q.1))
 
-pub degree_at-d-requires : goal.degree_at-d-requires
-degree_at-d-requires c =
-    -- a register and a requirement that were read
-    let read : Known c.args.image.now c.args.message.now _ _ c.read_both-b.ensures _ _ _ c.in-Good.is =
-    known _ _ _ _ _ _ _ _ _ (bytes-known c.args.image.now c.type_inv.image) in
-    let w = read in record {
-      gradable = gradable w;
-      item_lt = (let a = asks _ _ c.args.item w _ c.refusal_of-number.ensures c.if-number-ne0.false in omega (arith, a.inside, w.items));
-    }
+pub returns-in_err-map_err-2 : goal.returns-in_err-map_err-2
+returns-in_err-map_err-2 c =
+    let w = known c.in_ok-both.ensures (bytes-known c.args.image.now c.type_inv.image) in
+    let i = asks _ _ _ w _ c.refusal_of.ensures (told-yes c.refusal_of.result _ c.in_ok-map_err.ensures.cases) in
+    let p = err_from_is_err_and c.from_residual-in_err-map_err-2.result c.from_residual-in_err-map_err-2.ensures.1 in
+    let m : Mapped c.wrong.result (Err c.in_err-map_err-2.field-0.0) = search (rules, c.in_err-map_err-2.ensures.cases) in
+    let q = told-no _ _ m in
+    rw (p.1, p.2) (margin-no-threshold _ _ _ w i _ _ _ c.wrong.ensures q.0 _ (ap Err q.1))
 
-pub lowest-f-requires : goal.lowest-f-requires
-lowest-f-requires c =
-    -- a register and a requirement that were read
-    let read : Known c.args.image.now c.args.message.now _ _ c.read_both-b.ensures _ _ _ c.in-Good.is =
-    known _ _ _ _ _ _ _ _ _ (bytes-known c.args.image.now c.type_inv.image) in
-    let k = gradable read in
-    (graded-fits k.posed.graph.register k.tree _ _ (c.degree_at-d.ensures k)).0
+pub invariant_of-read : goal.invariant_of-read
+invariant_of-read c = record { read = was_read (known c.in_ok-both.ensures (bytes-known c.args.image.now c.type_inv.image)) }
 
-pub against-m-requires : goal.against-m-requires
-against-m-requires c =
-    -- a register and a requirement that were read
-    let read : Known c.args.image.now c.args.message.now _ _ c.read_both-b.ensures _ _ _ c.in-Good.is =
-    known _ _ _ _ _ _ _ _ _ (bytes-known c.args.image.now c.type_inv.image) in
-    let w = read in
-    margin-small _ _ _ w _ _ _ c.wrong-wrong.ensures c.if-wrong-ne0.false (asks _ _ _ w _ c.refusal_of-number.ensures c.if-number-ne0.false) _ _
-    (c.degree_at-d.ensures (gradable w)) c.lowest-f.ensures
+pub degree_at-degree-requires : goal.degree_at-degree-requires
+degree_at-degree-requires c =
+    let w = known c.in_ok-both.ensures (bytes-known c.args.image.now c.type_inv.image) in
+    let i = asks _ _ c.args.item w _ c.refusal_of.ensures (told-yes c.refusal_of.result _ c.in_ok-map_err.ensures.cases) in
+    record { gradable = gradable w; item_lt = omega (arith, i.inside, w.held.items) }
 
-pub returns-else-wrong-ne0 : goal.returns-else-wrong-ne0
-returns-else-wrong-ne0 c =
-    -- a register and a requirement that were read
-    let read : Known c.args.image.now c.args.message.now _ _ c.read_both-b.ensures _ _ _ c.in-Good.is =
-    known _ _ _ _ _ _ _ _ _ (bytes-known c.args.image.now c.type_inv.image) in
-    let w = read in
-    margin-answer _ _ _ w _ _ _ c.wrong-wrong.ensures c.if-wrong-ne0.false (asks _ _ _ w _ c.refusal_of-number.ensures c.if-number-ne0.false) _ _
-    (c.degree_at-d.ensures (gradable w)) c.lowest-f.ensures
-    _ c.against-m.ensures.num_value c.against-m.ensures.sfits
+pub lowest-low-requires : goal.lowest-low-requires
+lowest-low-requires c =
+    let k = gradable (known c.in_ok-both.ensures (bytes-known c.args.image.now c.type_inv.image)) in
+    (graded-fits k.posed.graph.register k.tree _ _ (c.degree_at-degree.ensures k)).0
 
-pub returns-in-Refused : goal.returns-in-Refused
-returns-in-Refused c =
-    margin-stopped _ _ _ _ _ c.read_both-b.ensures _ _ _ c.in-Refused.is
+pub against-margin-requires : goal.against-margin-requires
+against-margin-requires c =
+    let w = known c.in_ok-both.ensures (bytes-known c.args.image.now c.type_inv.image) in
+    let i = asks _ _ _ w _ c.refusal_of.ensures (told-yes c.refusal_of.result _ c.in_ok-map_err.ensures.cases) in
+    let z = told-yes c.wrong.result _ c.in_ok-map_err-2.ensures.cases in
+    margin-small _ _ _ w _ _ _ c.wrong.ensures z i _ _ (c.degree_at-degree.ensures (gradable w)) c.lowest-low.ensures
+
+pub returns : goal.returns
+returns c =
+    let w = known c.in_ok-both.ensures (bytes-known c.args.image.now c.type_inv.image) in
+    let i = asks _ _ _ w _ c.refusal_of.ensures (told-yes c.refusal_of.result _ c.in_ok-map_err.ensures.cases) in
+    let z = told-yes c.wrong.result _ c.in_ok-map_err-2.ensures.cases in
+    margin-answer _ _ _ w _ _ _ c.wrong.ensures z i _ _ (c.degree_at-degree.ensures (gradable w)) c.lowest-low.ensures
+    _ c.against-margin.ensures.num_value c.against-margin.ensures.sfits
