@@ -3,35 +3,28 @@
 use mathlib.Core.Path.{◌≡◌, refl, sym, ap, ap₂, ◌∙◌}
 use mathlib.Core.Bool.{false}
 use mathlib.Core.List.{List, [], ◌∷◌, ◌++◌}
-use Prim.Native.Nat.{ℕ, zero, suc, ◌+◌, ◌-◌, min, ◌≤◌, ◌<◌}
+use Prim.Native.Nat.{ℕ, zero, suc, ◌+◌, min, ◌≤◌, ◌<◌}
 use native.Mathlib.Omega.{arith}
-use lib.ListN.{length, take, drop, length-drop}
-use lib.Seq.{take_all}
+use lib.ListN.{length, take, drop}
 use borrow.Author.Tests.{lt-ltb, le-ltb}
 use Rattle.meaning.specs.declared.Refusal.{Refusal}
 use Rattle.meaning.specs.Refusal.{Answer, good, refused, ◌>>=◌}
 use Rattle.meaning.specs.Bounds.{most_items}
 use Rattle.meaning.specs.Bytes.{Bytes, number}
-use Rattle.meaning.specs.Tree.{Concept, nodes}
-use Rattle.meaning.specs.Register.{read_register, read_register_by}
+use Rattle.meaning.specs.Tree.{Concept}
+use Rattle.meaning.specs.Register.{Register, read_register}
 use Rattle.meaning.specs.Requirement.{Requirement}
 use Rattle.meaning.specs.Message.{Part, read_requirement}
 use Rattle.meaning.specs.Calls.{read_plain}
-use Rattle.meaning.proofs.Reading.{good-inj, not_good, took, stopped}
+use Rattle.meaning.proofs.Reading.{good-inj, not_good, took, taken, stopped}
 use Rattle.meaning.proofs.Image.{image-fits, whole-buffer}
-use Rattle.fields.specs.Head.{wrong_in}
-use Rattle.register.specs.declared.Reading.{Reading}
-use Rattle.register.specs.declared.Reading.TheVariants.{Good as GoodReading, Refused as RefusedReading}
-use Rattle.register.specs.Reading.{counted, paper_reading}
+use Rattle.std.specs.Prelude.{Ok, Err}
+use Rattle.register.specs.declared.Size.{Size}
+use Rattle.register.specs.Reading.{counted, sizes, ReadPromise}
 use Rattle.requirement.specs.declared.Message.{Message}
-use Rattle.requirement.specs.declared.Message.TheVariants.{Good as GoodMessage, Refused as RefusedMessage}
-use Rattle.requirement.specs.Message.{paper_message}
 use Rattle.requirement.specs.Message.{counted as counted_message}
-use Rattle.deciding.proofs.Answered.{imaged, image-refused}
 use Rattle.plain.specs.declared.Plain.{Plain}
-use Rattle.plain.specs.declared.Plain.TheVariants.{Good as GoodPlain, Refused as RefusedPlain}
-use Rattle.plain.specs.Reading.{Rows, PlainOutcome, PlainDone}
-use Rattle.lines.specs.Lines.{refusal_line}
+use Rattle.plain.specs.Reading.{PlainOutcome, PlainDone}
 use Rattle.listing.specs.Listing.{lines, degree_head, member_head}
 use Rattle.listing.specs.Listing.{degree_rows, member_rows, listed, listed_items, listing_of, printed, register_end, too_long, most_input, listing}
 
@@ -46,29 +39,6 @@ unfolding lines
 same_lines f h zero all = refl
 same_lines f h (suc n) all = ap₂ (λ (x y : List ℕ). x ++ y) (same_lines f h n (λ i l. all i (omega arith))) (all n (omega arith))
 
--- ---- the listing, by what was read
-
-module _ (image message : List ℕ) (n : ℕ) (A : Rows) (r : Plain) (done : PlainDone message A r) where
-  pub listed-degrees : (k : ℕ) → r ≡ GoodPlain k → printed (listed image message n []) ≡ degree_head ++ degree_rows image message n
-  unfolding listed ◌>>=◌
-  listed-degrees k e = go (read_plain message) done
-    where
-      go : (a : Answer Concept) → PlainOutcome A a r → printed (a >>= λ _. good (degree_head ++ degree_rows image message n)) ≡ degree_head ++ degree_rows image message n
-      go (good t) o = refl
-      go (refused f) o = let z : RefusedPlain f ≡ GoodPlain k = sym o ∙ e in let y : ◌≡◌ {A = ℕ} 0 1 = cc in absurd (omega arith)
-
-  pub listed-refused : (f : Refusal) → r ≡ RefusedPlain f → printed (listed image message n []) ≡ refusal_line f
-  unfolding listed ◌>>=◌
-  listed-refused f e = go (read_plain message) done
-    where
-      go : (a : Answer Concept) → PlainOutcome A a r → printed (a >>= λ _. good (degree_head ++ degree_rows image message n)) ≡ refusal_line f
-      go (good t) o = let z : GoodPlain (nodes t) ≡ RefusedPlain f = sym o.answer ∙ e in let y : ◌≡◌ {A = ℕ} 0 1 = cc in absurd (omega arith)
-      go (refused q) o = let z : RefusedPlain q ≡ RefusedPlain f = sym o ∙ e in let y : q ≡ f = cc in ap refusal_line y
-
-pub listed-members : (image message : List ℕ) (n : ℕ) (p : Part) (ps : List Part) → printed (listed image message n (p ∷ ps)) ≡ member_head ++ member_rows image message n
-unfolding listed
-listed-members image message n p ps = refl
-
 -- where the register ends
 pub end_short : (s : List ℕ) → length s < 3 → register_end s ≡ length s
 unfolding register_end
@@ -78,52 +48,70 @@ pub end-long : (s : List ℕ) → 3 ≤ length s → register_end s ≡ min (len
 unfolding register_end
 end-long s l = rw (le-ltb (length s) 3 l)
 
--- ---- what was read
+-- ---- the listing, by what was read
 
-module _ (image s : List ℕ) (n : ℕ) (r : Message) (h : paper_message r ≡ counted_message (read_requirement s)) where
-  pub items-plain : (k m : ℕ) → r ≡ GoodMessage k m → m ≡ 0 → printed (listed_items image s n) ≡ printed (listed image s n [])
+module _ (image message : List ℕ) (n : ℕ) where
+  pub listed-degrees : (p : Plain) → PlainDone message (Ok p) → listed image message n [] ≡ good (degree_head ++ degree_rows image message n)
+  unfolding listed ◌>>=◌
+  listed-degrees p done = go (read_plain message) done
+    where
+      go : (a : Answer Concept) → PlainOutcome a (Ok p) → (a >>= λ _. good (degree_head ++ degree_rows image message n)) ≡ good (degree_head ++ degree_rows image message n)
+      go (good t) o = refl
+      go (refused f) o = absurd o
+
+  pub listed-refused : (f : Refusal) → PlainDone message (Err f) → listed image message n [] ≡ refused f
+  unfolding listed ◌>>=◌
+  listed-refused f done = go (read_plain message) done
+    where
+      go : (a : Answer Concept) → PlainOutcome a (Err f) → (a >>= λ _. good (degree_head ++ degree_rows image message n)) ≡ refused f
+      go (good t) o = absurd o
+      go (refused q) o = ap refused (sym o)
+
+  module _ (m : Message) (h : good (m.nodes, m.parts) ≡ counted_message (read_requirement message)) where
+    pub items-plain : m.parts ≤ 0 → listed_items image message n ≡ listed image message n []
+    unfolding listed_items ◌>>=◌
+    items-plain z = go (read_requirement message) h
+      where
+        go : (a : Answer (Requirement × List Part)) → good (m.nodes, m.parts) ≡ counted_message a → (a >>= λ x. listed image message n x.1) ≡ listed image message n []
+        go (good (q, [])) o = refl
+        go (good (q, p ∷ ps)) o = let w : m.parts ≡ suc (length ps) = ap (λ (x : ℕ × ℕ). x.1) (good-inj o) in absurd (omega arith)
+        go (refused f) o = absurd (not_good (sym o))
+
+    pub items-ruled : 0 < m.parts → listed_items image message n ≡ good (member_head ++ member_rows image message n)
+    unfolding listed_items listed ◌>>=◌
+    items-ruled z = go (read_requirement message) h
+      where
+        go : (a : Answer (Requirement × List Part)) → good (m.nodes, m.parts) ≡ counted_message a
+            → (a >>= λ x. listed image message n x.1) ≡ good (member_head ++ member_rows image message n)
+        go (good (q, [])) o = let w : m.parts ≡ 0 = ap (λ (x : ℕ × ℕ). x.1) (good-inj o) in absurd (omega arith)
+        go (good (q, p ∷ ps)) o = refl
+        go (refused f) o = absurd (not_good (sym o))
+
+  pub items_refused : (f : Refusal) → refused f ≡ counted_message (read_requirement message) → listed_items image message n ≡ refused f
   unfolding listed_items ◌>>=◌
-  items-plain k m e z = go (read_requirement s) (sym (ap paper_message e) ∙ h)
+  items_refused f h = go (read_requirement message) h
     where
-      go : (a : Answer (Requirement × List Part)) → good (k, m) ≡ counted_message a → printed (a >>= λ x. listed image s n x.1) ≡ printed (listed image s n [])
-      go (good (q, [])) o = refl
-      go (good (q, p ∷ ps)) o = let w : m ≡ suc (length ps) = ap (λ (x : ℕ × ℕ). x.1) (good-inj o) in absurd (omega arith)
-      go (refused f) o = absurd (not_good (sym o))
-
-  pub items-ruled : (k m : ℕ) → r ≡ GoodMessage k m → (m ≡ 0 → ⊥) → printed (listed_items image s n) ≡ member_head ++ member_rows image s n
-  unfolding listed_items listed ◌>>=◌
-  items-ruled k m e z = go (read_requirement s) (sym (ap paper_message e) ∙ h)
-    where
-      go : (a : Answer (Requirement × List Part)) → good (k, m) ≡ counted_message a → printed (a >>= λ x. listed image s n x.1) ≡ member_head ++ member_rows image s n
-      go (good (q, [])) o = absurd (z (ap (λ (x : ℕ × ℕ). x.1) (good-inj o)))
-      go (good (q, p ∷ ps)) o = refl
-      go (refused f) o = absurd (not_good (sym o))
-
-  pub items_refused : (f : Refusal) → r ≡ RefusedMessage f → printed (listed_items image s n) ≡ refusal_line f
-  unfolding listed_items ◌>>=◌
-  items_refused f e = go (read_requirement s) (sym (ap paper_message e) ∙ h)
-    where
-      go : (a : Answer (Requirement × List Part)) → refused f ≡ counted_message a → printed (a >>= λ x. listed image s n x.1) ≡ refusal_line f
+      go : (a : Answer (Requirement × List Part)) → refused f ≡ counted_message a → (a >>= λ x. listed image message n x.1) ≡ refused f
       go (good x) o = absurd (not_good o)
-      go (refused g) o =
-          let y : ◌≡◌ {A = Answer (ℕ × ℕ)} (refused f) (refused g) = o in
-          let same : f ≡ g = cc in
-          ap refusal_line (sym same)
+      go (refused g) o = let y : ◌≡◌ {A = Answer (ℕ × ℕ)} (refused f) (refused g) = o in cc
 
-module _ (image message : List ℕ) (r : Reading) (d : paper_reading r ≡ counted (read_register_by (wrong_in false) image)) where
-  pub register-good : (items links : ℕ) → Bytes image → r ≡ GoodReading items links
-      → (items ≤ most_items) × (printed (listing_of image message) ≡ printed (listed_items image message items))
-  unfolding listing_of
-  register-good items links b e =
-      let i = imaged image items links r e d in
-      let most = (image-fits image i.register b (whole-buffer image i.register b i.read)).0.items in (
-        omega (arith, i.items-are, most),
-        ap printed (took (read_register image) _ i.register i.read) ∙ ap (λ (n : ℕ). printed (listed_items image message n)) (sym i.items-are),
-      )
+module _ (image message : List ℕ) where
+  pub register-good : (size : Size) → Bytes image → ReadPromise image false (Ok size)
+      → (size.items ≤ most_items) × (listing_of image message ≡ listed_items image message size.items)
+  unfolding listing_of counted
+  register-good size b h =
+      let q = taken (read_register image) sizes (sym h) in
+      let n : size.items ≡ length q.0.names = sym (ap (λ (z : Size). z.items) (good-inj q.2)) in
+      let most = (image-fits image q.0 b (whole-buffer image q.0 b q.1)).0.items in
+      (omega (arith, n, most), took (read_register image) _ q.0 q.1 ∙ ap (listed_items image message) (sym n))
 
-  pub register-refused : (f : Refusal) → r ≡ RefusedReading f → printed (listing_of image message) ≡ refusal_line f
-  unfolding listing_of
-  register-refused f e = ap printed (stopped (read_register image) _ f (image-refused image f r e d))
+  pub register-refused : (f : Refusal) → ReadPromise image false (Err f) → listing_of image message ≡ refused f
+  unfolding listing_of counted ◌>>=◌
+  register-refused f h = stopped (read_register image) _ f (go (read_register image) h)
+    where
+      go : (a : Answer Register) → refused f ≡ (a >>= sizes) → a ≡ refused f
+      go (good g) o = absurd (not_good o)
+      go (refused g) o = let y : ◌≡◌ {A = Answer Size} (refused f) (refused g) = o in cc
 
 -- ---- the whole listing
 
@@ -131,8 +119,7 @@ pub too_long_lem : (s : List ℕ) → most_input < length s → listing s ≡ to
 unfolding listing
 too_long_lem s l = rw (lt-ltb most_input (length s) l)
 
-pub not-too-long : (s : List ℕ) (k : ℕ) → length s ≤ most_input → k ≡ register_end s → listing s ≡ printed (listing_of (take k s) (take (length s - k) (drop k s)))
+pub not-too-long : (s image message : List ℕ) → length s ≤ most_input → image ≡ take (register_end s) s → message ≡ drop (register_end s) s
+    → listing s ≡ printed (listing_of image message)
 unfolding listing
-not-too-long s k l e =
-    let whole : take (length s - k) (drop k s) ≡ drop k s = take_all (length s - k) (drop k s) (omega (arith, length-drop k s)) in
-    rw (le-ltb most_input (length s) l, whole, e)
+not-too-long s image message l e d = rw (le-ltb most_input (length s) l, e, d)

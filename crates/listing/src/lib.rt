@@ -1,103 +1,85 @@
 // The listing of a register against a requirement, piece by piece: what comes first, planned here, and then a row for each item that is to be listed
-// (the crates `ratings` and `verdicts`). Each piece is text at the front of a lent buffer. Put one after the other they are the listing (specs/Pieces.antt).
+// (the crates `ratings` and `verdicts`). Each piece is a text of its own. Put one after the other they are the listing (specs/Pieces.antt).
 #![tactic(auto)]
 
-ghost use Rattle.std.specs.Prelude.{◌≡◌, [], ◌+◌, ◌≤◌, length, take};
-ghost use Rattle.meaning.specs.Bounds.{most_items};
+ghost use Rattle.std.specs.Prelude.{◌≡◌, ◌≤◌, length};
 ghost use Rattle.lines.specs.Lines.{line_room, refusal_line};
-ghost use Rattle.listing.specs.Listing.{listed, listed_items, listing_of, printed, register_end, most_input};
-ghost use Rattle.listing.specs.Pieces.{Begins, Opens, Planned};
+ghost use Rattle.listing.specs.Listing.{listing_of, printed, register_end};
+ghost use Rattle.listing.specs.Pieces.{Opens, Planning, Planned};
 
-use fields;
-use lines;
-use lines::text::put_word;
+use lines::Line;
 use meaning::Refusal;
-use plain::Plain;
-use register::Reading;
-use requirement::Message;
 
 // The longest input that is taken.
 pub const MOST_INPUT: usize = 65536;
 
-// What is to be printed: the first bytes of the buffer, and then so many rows, of degrees or of yes and no; and where the register ends.
+// The rows of all items of a register, each of what its bytes and a message say of it.
+#[derive(Clone, Copy)]
+pub struct Sheet<'a> {
+    pub image: &'a [u8],
+    pub message: &'a [u8],
+    pub items: usize,
+}
+
+// What comes behind the first line: nothing more, rows of degrees, or rows of yes and no.
+#[derive(Clone, Copy)]
+pub enum Rest<'a> {
+    Nothing,
+    Degrees(Sheet<'a>),
+    Members(Sheet<'a>),
+}
+
+// What is to be printed: a line, and then the rest.
 #[derive(Drop)]
-pub struct Outline {
-    pub first: usize,
-    pub rows: usize,
-    pub end: usize,
-    pub degrees: bool,
+pub struct Outline<'a> {
+    pub first: Line,
+    pub rest: Rest<'a>,
 }
 
-// A refusal is all that is printed.
-fn only(line: &mut [u8], end: usize, refusal: Refusal) -> Outline
-    requires { line_room ≤ length line.old }
-    ensures { Begins line.new (refusal_line refusal) result.first × (result.rows ≡ 0) × (result.end ≡ end) }
+// A line of these words.
+fn line_of(words: &[u8]) -> Line
+    requires { length words.now ≤ line_room }
+    ensures { result ≡ words.now }
 {
-    let first = lines::put_refusal(line, refusal);
-    Outline {
-        first,
-        rows: 0,
-        end,
-        degrees: false,
+    let mut line = Line::new();
+    line.push_word(words);
+    line
+}
+
+// The head of a register and a requirement that can be read, and their rows: of degrees where it has no threshold, unless it is too large for them, so it is
+// read once more for its reduced size.
+fn plan_read<'a>(image: &'a [u8], message: &'a [u8]) -> Result<Outline<'a>, Refusal>
+    ensures { Planning image.now message.now (listing_of image.now message.now) result }
+{
+    let items = register::read(image, false)?.items;
+    let sheet = Sheet {
+        image,
+        message,
+        items,
+    };
+    if 0 < requirement::read(message)?.parts {
+        return Ok(Outline {
+            first: line_of(b"item member map\n"),
+            rest: Rest::Members(sheet),
+        });
     }
+    plain::read_plain(message)?;
+    Ok(Outline {
+        first: line_of(b"item degree map\n"),
+        rest: Rest::Degrees(sheet),
+    })
 }
 
-// The degrees, unless the requirement is too large for them: so it is read once more, into the rows that its reduced size is worked out of.
-fn plan_degrees(line: &mut [u8], image: &[u8], message: &[u8], items: usize) -> Outline
-    requires { (line_room ≤ length line.old) × (items ≤ most_items) }
-    ensures { Opens image.now message.now (printed (listed image.now message.now items [])) line.new result }
+// An image and a message. A refusal is all that is printed.
+fn plan_of<'a>(image: &'a [u8], message: &'a [u8]) -> Outline<'a>
+    ensures { Opens image.now message.now (printed (listing_of image.now message.now)) result }
 {
-    let mut names = [0u64; 64];
-    let mut roles = [0u8; 64];
-    let mut ends = [0u8; 64];
-    let mut marks = [0u8; 64];
-    let p = plain::read_plain(message, &mut names, &mut roles, &mut ends, &mut marks);
-    match p {
-        Plain::Good { nodes: _ } => {
-            let first = put_word(line, 0, b"item degree map\n");
-            Outline {
-                first,
-                rows: items,
-                end: image.len(),
-                degrees: true,
-            }
-        }
-        Plain::Refused { refusal } => only(line, image.len(), refusal),
-    }
-}
-
-// A register of so many items that was read.
-fn plan_items(line: &mut [u8], image: &[u8], message: &[u8], items: usize) -> Outline
-    requires { (line_room ≤ length line.old) × (items ≤ most_items) }
-    ensures { Opens image.now message.now (printed (listed_items image.now message.now items)) line.new result }
-{
-    let m = requirement::read(message);
-    match m {
-        Message::Good { nodes: _, parts } => {
-            if parts == 0 {
-                return plan_degrees(line, image, message, items);
-            }
-            let first = put_word(line, 0, b"item member map\n");
-            Outline {
-                first,
-                rows: items,
-                end: image.len(),
-                degrees: false,
-            }
-        }
-        Message::Refused { refusal } => only(line, image.len(), refusal),
-    }
-}
-
-// An image and a message.
-fn plan_of(line: &mut [u8], image: &[u8], message: &[u8]) -> Outline
-    requires { line_room ≤ length line.old }
-    ensures { Opens image.now message.now (printed (listing_of image.now message.now)) line.new result }
-{
-    let r = register::read(image, false);
-    match r {
-        Reading::Good { items, links: _ } => plan_items(line, image, message, items),
-        Reading::Refused { refusal } => only(line, image.len(), refusal),
+    match plan_read(image, message) {
+        Ok(outline) => outline,
+        Err(refusal) => Outline {
+            first: lines::refusal_line(refusal),
+            rest: Rest::Nothing,
+        },
     }
 }
 
@@ -110,36 +92,19 @@ fn register_end(input: &[u8]) -> usize
     if n < 3 {
         return n;
     }
-    let end = 3 + fields::two(input, 1);
-    if n <= end {
-        return n;
-    }
-    end
+    n.min(3 + fields::two(input, 1))
 }
 
-// An input that is not too long.
-fn plan_split(line: &mut [u8], input: &[u8]) -> Outline
-    requires { (line_room ≤ length line.old) × (length input.now ≤ most_input) }
-    ensures { Planned input.now line.new result }
+// What is printed for an input.
+pub fn plan(input: &[u8]) -> Outline<'_>
+    ensures { Planned input.now result }
 {
-    let k = register_end(input);
-    plan_of(line, &input[..k], &input[k..])
-}
-
-// What is printed for an input of so many bytes at the front of a buffer. The buffer has room for one byte more than is taken: so an input that is
-// too long shows.
-pub fn plan(line: &mut [u8], buffer: &[u8], count: usize) -> Outline
-    requires { (line_room ≤ length line.old) × (length buffer.now ≡ most_input + 1) × (count ≤ most_input + 1) }
-    ensures { Planned (take count buffer.now) line.new result }
-{
-    if MOST_INPUT < count {
-        let first = put_word(line, 0, b"input too long\n");
+    if MOST_INPUT < input.len() {
         return Outline {
-            first,
-            rows: 0,
-            end: 0,
-            degrees: false,
+            first: line_of(b"input too long\n"),
+            rest: Rest::Nothing,
         };
     }
-    plan_split(line, &buffer[..count])
+    let (image, message) = input.split_at(register_end(input));
+    plan_of(image, message)
 }
