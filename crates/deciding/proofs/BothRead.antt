@@ -17,9 +17,14 @@ use Rattle.meaning.proofs.Tests.{and_both}
 use Rattle.meaning.proofs.Reading.{number-one}
 use Rattle.meaning.proofs.MessageLabel.{PartAt, decoded, lawful-open, inner-read, sound-inner}
 use Rattle.meaning.proofs.Message.{Accepted, read_back, accepted-length, parts-stand, parts_in}
+use Rattle.std.specs.Borrow.{Bor}
+use Rattle.rows.specs.declared.Tree.{Tree}
+use Rattle.rows.specs.declared.Parts.{Parts}
 use Rattle.rows.specs.Packed.{names_in, roles_in, ends_in, owners_in, firsts_in}
 use Rattle.readers.specs.Reading.{no_part}
-use Rattle.graph.specs.Judged.{Judged}
+use Rattle.graph.specs.declared.Indexed.{Indexed}
+use Rattle.graph.specs.On.{JudgedOn}
+use Rattle.screening.specs.declared.Wanted.{Wanted}
 use Rattle.screening.specs.Standing.{no_threshold, StandsAt, Ruled}
 use Rattle.graph.proofs.Use.{one-register}
 use Rattle.meeting.specs.Required.{Required, Settled}
@@ -51,6 +56,33 @@ pair-at a b Forall₂.nil k l = absurd (omega arith)
 pair-at a b (Forall₂.cons r f) zero l = r
 pair-at a b (Forall₂.cons r f) (suc k) l = pair-at a b f k (omega arith)
 
+-- an image with its index and a requirement, as code holds them, are this image and what stands in these rows
+pub record Stands (image message B : List ℕ) (parts : ℕ) (on : Indexed) (wanted : Wanted) : Type 0 where
+  pub image-is : on.image.now ≡ image
+  pub message-is : wanted.message.now ≡ message
+  pub names : wanted.tree.names ≡ names_in B
+  pub roles : wanted.tree.roles ≡ roles_in B
+  pub ends : wanted.tree.ends ≡ ends_in B
+  pub owners : wanted.parts.owners ≡ owners_in B
+  pub firsts : wanted.parts.firsts ≡ firsts_in B
+  pub count : wanted.parts.count ≡ parts
+
+-- made of the image's index, and of the rows taken apart
+abbrev pub stands : {image B : List ℕ} {message : Bor (List ℕ)} {parts : ℕ} {on : Indexed} {tree : Tree} {part : Parts} → on.image.now ≡ image
+    → record { names : tree.names ≡ names_in B; roles : tree.roles ≡ roles_in B; ends : tree.ends ≡ ends_in B }
+    → record { owners : part.owners ≡ owners_in B; firsts : part.firsts ≡ firsts_in B; count : part.count ≡ parts }
+    → Stands image message.now B parts on (record { message = message; tree = tree; parts = part })
+stands e t p = record {
+  image-is = e;
+  message-is = refl;
+  names = t.names;
+  roles = t.roles;
+  ends = t.ends;
+  owners = p.owners;
+  firsts = p.firsts;
+  count = p.count;
+}
+
 module _ {image : List ℕ} {items links : ℕ} {message B : List ℕ} {parts : ℕ} (k : BothRead image items links message B parts) where
   read-accepted : Bytes message → Accepted message (k.requirement, k.places)
   read-accepted b = read_back message (k.requirement, k.places) b k.wanted
@@ -72,19 +104,19 @@ module _ {image : List ℕ} {items links : ℕ} {message B : List ℕ} {parts : 
       (k.parts_are ∙ same)
       (λ j l. k.parted.owner j (omega (arith, same)) ∙ ap (λ (ps : List Part). (get_or ps j no_part).owner) c.parts) refl
 
-  -- with the arrays that stand in the rows and the image's index it is what the core asks for
-  abbrev pub required : Bytes message → {index names roles ends owners firsts : List ℕ} → names ≡ names_in B → roles ≡ roles_in B → ends ≡ ends_in B
-      → owners ≡ owners_in B → firsts ≡ firsts_in B → Judged image items index → Required image items index message names roles ends owners firsts parts 0 17
-  required b en er ee eo ef j = record {
-    tree = k.requirement;
-    posed = record { graph = j; held = rw (en, er, ee) k.posed.held; few = rw ee k.posed.few };
-    stand = record { thresholds = thresholds_of k.requirement; each = rw ef (each_stands b) };
-    most = k.most;
-    ruled = rw (eo, ee) (read-ruled b (walked j.register));
-  }
+  module _ {on : Indexed} {wanted : Wanted} (s : Stands image message B parts on wanted) where
+    -- it is what the core asks for
+    abbrev pub required : Bytes message → JudgedOn on → Required on wanted 0 17
+    required b j = record {
+      tree = k.requirement;
+      posed = record { graph = j; held = rw (s.names, s.roles, s.ends) k.posed.held; few = rw s.ends k.posed.few };
+      stand = record { thresholds = thresholds_of k.requirement; each = rw (s.message-is, s.firsts, s.count) (each_stands b) };
+      most = rw s.count k.most;
+      ruled = rw (s.owners, s.ends, s.count) (read-ruled b (walked j.register));
+    }
 
-  -- the index is of the register that was read
-  pub settled-by : {index : List ℕ} (j : Judged image items index) (t : Requirement) (item : ℕ) (old new : List ℕ) (r : Bool) → Settled j.register t item old new r
-      → Settled k.posed.graph.register t item old new r
-  settled-by j t item old new r s =
-      subst (λ (g : Register). Settled g t item old new r) (one-register j k.posed.graph.register k.posed.graph.read) s
+    -- the index is of the register that was read
+    pub settled-by : (j : JudgedOn on) (t : Requirement) (item : ℕ) (old new : List ℕ) (r : Bool) → Settled j.register t item old new r
+        → Settled k.posed.graph.register t item old new r
+    settled-by j t item old new r d =
+        subst (λ (g : Register). Settled g t item old new r) (one-register j k.posed.graph.register (rw s.image-is k.posed.graph.read)) d

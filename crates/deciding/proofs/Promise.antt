@@ -14,6 +14,7 @@ use native.Mathlib.Omega.{arith}
 use lib.Dec.{T}
 use lib.ListN.{length}
 use lib.Seq.{sets}
+use Rattle.std.specs.Prelude.{Option, Some, None, Result, Ok, Err}
 use Rattle.meaning.specs.declared.Refusal.{Refusal}
 use Rattle.meaning.specs.Bytes.{Bytes}
 use Rattle.meaning.specs.Refusal.{Answer, good, refused, on_call, Exactly}
@@ -39,8 +40,6 @@ use Rattle.meaning.proofs.Rising.{LowestOf}
 use Rattle.meaning.proofs.Member.{member-map}
 use Rattle.meaning.proofs.YesShown.{YesShows, yes-shows, yes-lowest}
 use Rattle.fields.proofs.Once.{Apart, told_back, once-left}
-use Rattle.deciding.specs.declared.Verdict.{Verdict}
-use Rattle.deciding.specs.declared.Verdict.TheVariants.{Yes, No, Refused}
 use Rattle.deciding.specs.Answers.{Said, says, said, paper_verdict}
 use Rattle.deciding.specs.Answers.{yes as said_yes, no as said_no}
 use Rattle.deciding.specs.Refusing.{DecidePromise, DecideRow, bad_image, bad_message, no_item, is_withdrawn, no_room}
@@ -48,22 +47,22 @@ use Rattle.deciding.proofs.Decided.{refuses-answer, member-answer, plain-one}
 
 -- ---- one result
 
-abbrev back : Answer Said → Verdict
-back (good (said_yes n)) = Yes n
-back (good said_no) = No
-back (refused x) = Refused x
+abbrev back : Answer Said → Result (Option ℕ) Refusal
+back (good (said_yes n)) = Ok (Some n)
+back (good said_no) = Ok None
+back (refused x) = Err x
 
 -- the document's words tell all results apart
 verdict-told : Apart paper_verdict
 verdict-told = told_back paper_verdict back go
   where
-    go : (r : Verdict) → back (paper_verdict r) ≡ r
-    go (Yes n) = refl
-    go No = refl
-    go (Refused x) = refl
+    go : (r : Result (Option ℕ) Refusal) → back (paper_verdict r) ≡ r
+    go (Ok (Some n)) = refl
+    go (Ok None) = refl
+    go (Err x) = refl
 
 -- "any two results allowed by it are equal"
-pub decide-one : (image message : List ℕ) (item : ℕ) (old new new' : List ℕ) (r r' : Verdict) → DecidePromise image message item old new r
+pub decide-one : (image message : List ℕ) (item : ℕ) (old new new' : List ℕ) (r r' : Result (Option ℕ) Refusal) → DecidePromise image message item old new r
     → DecidePromise image message item old new' r' → (r ≡ r') × (new ≡ new')
 decide-one image message item old new new' r r' = once-left paper_verdict verdict-told _ _ r r' new new'
 
@@ -98,19 +97,19 @@ module _ (image message : List ℕ) (item room : ℕ) where
   said-exactly = carried said says (λ d. refl) (λ x. refl) _ Row Takes (exactly _ Row Takes (refuses-answer image message item room) (λ d. d) either)
 
 -- "A number is given exactly when its row holds and nothing earlier in the order below applies."
-pub decide-refused : (image message : List ℕ) (item : ℕ) (old new : List ℕ) (r : Verdict) → DecidePromise image message item old new r → (x : Refusal)
-    → (r ≡ Refused x) ↔ DecideRow image message item (length old) x
+pub decide-refused : (image message : List ℕ) (item : ℕ) (old new : List ℕ) (r : Result (Option ℕ) Refusal) → DecidePromise image message item old new r → (x : Refusal)
+    → (r ≡ Err x) ↔ DecideRow image message item (length old) x
 decide-refused image message item old new r p x =
     let same = (said-exactly image message item (length old)).refuses x in
-    ((λ e. same.0 (sym p.0 ∙ ap paper_verdict e)), (λ h. verdict-told r (Refused x) (p.0 ∙ same.1 h)))
+    ((λ e. same.0 (sym p.0 ∙ ap paper_verdict e)), (λ h. verdict-told r (Err x) (p.0 ∙ same.1 h)))
 
 -- a refusal and a no write nothing
-pub decide-kept : (image message : List ℕ) (item : ℕ) (old new : List ℕ) (r : Verdict) → DecidePromise image message item old new r
-    → ((n : ℕ) → r ≡ Yes n → ⊥) → new ≡ old
+pub decide-kept : (image message : List ℕ) (item : ℕ) (old new : List ℕ) (r : Result (Option ℕ) Refusal) → DecidePromise image message item old new r
+    → ((n : ℕ) → r ≡ Ok (Some n) → ⊥) → new ≡ old
 decide-kept image message item old new r p other = p.1 ∙ go (member_call image message item (length old)) p.0
   where
     go : (a : Answer Decision) → paper_verdict r ≡ said a → after_member old a ≡ old
-    go (good (met m)) e = absurd (other (length m) (verdict-told r (Yes (length m)) e))
+    go (good (met m)) e = absurd (other (length m) (verdict-told r (Ok (Some (length m))) e))
     go (good unmet) e = refl
     go (refused x) e = refl
 
@@ -124,7 +123,7 @@ pub record Shows (g : Register) (q : Requirement) (item : ℕ) (old new : List �
   pub lowest : (p : List ℕ) (k role : ℕ) (t : Tree Label) → role_at q p k ≡ some role → subtree q (p ++ k ∷ []) ≡ some t
       → LowestOf (λ y. T (meets_by (fulfils (judged g)) (judged g) t y)) ((judged g).next (map.whole.map p) role) (map.whole.map (p ++ k ∷ []))
 
-module _ (image message : List ℕ) (item : ℕ) (old new : List ℕ) (r : Verdict) (promised : DecidePromise image message item old new r) (g : Register)
+module _ (image message : List ℕ) (item : ℕ) (old new : List ℕ) (r : Result (Option ℕ) Refusal) (promised : DecidePromise image message item old new r) (g : Register)
     (q : Requirement) (ps : List Part) (eg : read_register image ≡ good g) (em : read_requirement message ≡ good (q, ps)) (asks : Asks g item)
     (fits : nodes q ≤ length old) where
   abbrev G : Graph ℕ
@@ -137,18 +136,18 @@ module _ (image message : List ℕ) (item : ℕ) (old new : List ℕ) (r : Verdi
   when : (b : Bool) → member G q item ≡ b → member_call image message item (length old) ≡ good (decision b (yes_map G q item))
   when b e = member-answer image message item (length old) g q ps eg em asks fits ∙ ap (λ (z : Bool). good (decision z (yes_map G q item))) e
 
-  met-yes : T (member G q item) → r ≡ Yes (nodes q)
+  met-yes : T (member G q item) → r ≡ Ok (Some (nodes q))
   met-yes t =
       let long = (yes-shows (fulfils G) G q item t).long in
-      verdict-told r (Yes (nodes q)) (promised.0 ∙ ap said (when true (is_true _ t)) ∙ ap (λ (n : ℕ). good (said_yes n)) long)
+      verdict-told r (Ok (Some (nodes q))) (promised.0 ∙ ap said (when true (is_true _ t)) ∙ ap (λ (n : ℕ). good (said_yes n)) long)
 
-  unmet-no : (T (member G q item) → ⊥) → r ≡ No
-  unmet-no f = verdict-told r No (promised.0 ∙ ap said (when false (is_false _ f)))
+  unmet-no : (T (member G q item) → ⊥) → r ≡ Ok None
+  unmet-no f = verdict-told r (Ok None) (promised.0 ∙ ap said (when false (is_false _ f)))
 
-  apart : r ≡ Yes (nodes q) → r ≡ No → ⊥
-  apart e d = let z : ◌≡◌ {A = Verdict} (Yes (nodes q)) No = sym e ∙ d in let y : ◌≡◌ {A = ℕ} 0 1 = cc in omega arith
+  apart : r ≡ Ok (Some (nodes q)) → r ≡ Ok None → ⊥
+  apart e d = let z : ◌≡◌ {A = Result (Option ℕ) Refusal} (Ok (Some (nodes q))) (Ok None) = sym e ∙ d in cc
 
-  yes-met : r ≡ Yes (nodes q) → T (member G q item)
+  yes-met : r ≡ Ok (Some (nodes q)) → T (member G q item)
   yes-met e = go (member G q item) refl
     where
       go : (b : Bool) → member G q item ≡ b → T b
@@ -156,13 +155,13 @@ module _ (image message : List ℕ) (item : ℕ) (old new : List ℕ) (r : Verdi
       go false d = absurd (apart e (unmet-no (λ t. subst T d t)))
 
   -- "yes exactly when a threshold-respecting map of the whole tree exists"
-  pub decide-yes : (r ≡ Yes (nodes q)) ↔ RespectingMap G q item
+  pub decide-yes : (r ≡ Ok (Some (nodes q))) ↔ RespectingMap G q item
   decide-yes = ((λ e. (member-map G q item).0 (yes-met e)), (λ m. met-yes ((member-map G q item).1 m)))
 
-  pub decide-no : (r ≡ No) ↔ (RespectingMap G q item → ⊥)
+  pub decide-no : (r ≡ Ok None) ↔ (RespectingMap G q item → ⊥)
   decide-no = ((λ e m. apart (decide-yes.1 m) e), (λ f. unmet-no (λ t. f ((member-map G q item).0 t))))
 
-  pub decide-shows : Bytes image → r ≡ Yes (nodes q) → Shows g q item old new
+  pub decide-shows : Bytes image → r ≡ Ok (Some (nodes q)) → Shows g q item old new
   decide-shows b e =
       let t = yes-met e in
       let shows = yes-shows (fulfils G) G q item t in
@@ -173,7 +172,7 @@ module _ (image message : List ℕ) (item : ℕ) (old new : List ℕ) (r : Verdi
       }
 
   -- "for a plain requirement yes exactly when the degree is 1/1"
-  pub decide-plain : thresholds_of q ≡ [] → (r ≡ Yes (nodes q)) ↔ (answered G (bare q) item ≡ 1 ÷ 1)
+  pub decide-plain : thresholds_of q ≡ [] → (r ≡ Ok (Some (nodes q))) ↔ (answered G (bare q) item ≡ 1 ÷ 1)
   decide-plain plain =
       let one = plain-one G q item plain in (
         (λ e. whole (answered-lowest G (bare q) item) (one.0 (yes-met e))),

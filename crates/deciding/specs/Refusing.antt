@@ -1,6 +1,6 @@
 -- What the yes/no call promises of its result and of the lent map, and the rows of the document's table that refuse it.
 -- Assumes nothing.
-use Rattle.std.specs.Prelude.{◌≡◌, true, false, List, ℕ, ◌≤◌, ◌<◌, length}
+use Rattle.std.specs.Prelude.{◌≡◌, true, false, List, ℕ, ◌≤◌, ◌<◌, length, Option, Result}
 use Rattle.meaning.specs.declared.Refusal.{Refusal}
 use Rattle.meaning.specs.Refusal.{good, refused, on_call}
 use Rattle.meaning.specs.Tree.{nodes}
@@ -8,11 +8,10 @@ use Rattle.meaning.specs.Register.{Register, withdrawn, read_register}
 use Rattle.meaning.specs.Requirement.{Requirement}
 use Rattle.meaning.specs.Message.{Part, read_requirement}
 use Rattle.meaning.specs.Calls.{member_call, after_member}
-use Rattle.deciding.specs.declared.Verdict.{Verdict}
 use Rattle.deciding.specs.Answers.{paper_verdict, said}
 
 -- what the call promises of its result and of the lent map afterwards
-abbrev pub DecidePromise : List ℕ → List ℕ → ℕ → List ℕ → List ℕ → Verdict → Type 0
+abbrev pub DecidePromise : List ℕ → List ℕ → ℕ → List ℕ → List ℕ → Result (Option ℕ) Refusal → Type 0
 DecidePromise image message item old new r =
     (paper_verdict r ≡ said (member_call image message item (length old))) × (new ≡ after_member old (member_call image message item (length old)))
 
