@@ -1,10 +1,9 @@
 -- Reading a node and its children: each end, as the code comes to it.
 -- Assumes nothing.
 use mathlib.Core.Path.{◌≡◌, refl, sym, ap, ◌∙◌}
-use mathlib.Core.Bool.{Bool, true, false, ◌&&◌, cond}
+use mathlib.Core.Bool.{Bool, true, false, ◌&&◌}
 use mathlib.Core.List.{List, [], ◌∷◌}
 use Prim.Native.Nat.{ℕ, zero, suc, ◌+◌, ◌-◌, ◌≤◌, ◌<◌}
-use native.Mathlib.Decide.{dec_lt}
 use native.Mathlib.Omega.{arith}
 use lib.Dec.{ltb, leb}
 use Rattle.meaning.specs.declared.Side.TheVariants.{Requirement as requirement}
@@ -22,24 +21,6 @@ suc-of k h = omega arith
 
 -- ---- the fixed fields
 
--- what stands at a node starts with its 10 bytes
-cut-fields : (end p : ℕ) → p ≤ end → end - p < 10 → fields requirement end (8 ∷ 1 ∷ 1 ∷ []) p ≡ refused (at requirement 1 (cond (ltb (end - p) 8) p (p + (end - p))))
-unfolding fields
-cut-fields end p l h = go (dec_lt (end - p) 8) (dec_lt (end - p) 9)
-  where
-    go : Dec (end - p < 8) → Dec (end - p < 9)
-        → fields requirement end (8 ∷ 1 ∷ 1 ∷ []) p ≡ refused (at requirement 1 (cond (ltb (end - p) 8) p (p + (end - p))))
-    go (yes a) d = stop (ltb end (p + 8)) _ _ (below end (p + 8) (omega arith)) ∙ rw (below (end - p) 8 a) refl
-    go (no a) (yes b) =
-        let e : p + 8 ≡ p + (end - p) = omega arith in
-        pass (ltb end (p + 8)) _ _ (not-below end (p + 8) (omega arith)) ∙ stop (ltb end (p + 8 + 1)) _ _ (below end (p + 8 + 1) (omega arith))
-        ∙ rw (not-below (end - p) 8 (omega arith)) (ap (λ (z : ℕ). refused (at requirement 1 z)) e)
-    go (no a) (no b) =
-        let e : p + 8 + 1 ≡ p + (end - p) = omega arith in
-        pass (ltb end (p + 8)) _ _ (not-below end (p + 8) (omega arith)) ∙ pass (ltb end (p + 8 + 1)) _ _ (not-below end (p + 8 + 1) (omega arith))
-        ∙ stop (ltb end (p + 8 + 1 + 1)) _ _ (below end (p + 8 + 1 + 1) (omega arith))
-        ∙ rw (not-below (end - p) 8 (omega arith)) (ap (λ (z : ℕ). refused (at requirement 1 z)) e)
-
 module _ (inner : Bool) (s : List ℕ) (end p n : ℕ) (ps : List Part) where
   abbrev w : Spot
   w = spot p n ps
@@ -47,10 +28,10 @@ module _ (inner : Bool) (s : List ℕ) (end p n : ℕ) (ps : List Part) where
   abbrev count : ℕ
   count = number s (p + 8) 1
 
-  pub node-cut-end : (left : ℕ) → p ≤ end → end - p < 10 → node_in inner s end left w ≡ refused (at requirement 1 (cond (ltb (end - p) 8) p (p + (end - p))))
+  pub node-cut-end : (left : ℕ) (r : Refusal) → fields requirement end (8 ∷ 1 ∷ 1 ∷ []) p ≡ refused r → node_in inner s end left w ≡ refused r
   unfolding read_node
-  node-cut-end zero l h = halted (fields requirement end (8 ∷ 1 ∷ 1 ∷ []) p) _ _ (cut-fields end p l h)
-  node-cut-end (suc left) l h = halted (fields requirement end (8 ∷ 1 ∷ 1 ∷ []) p) _ _ (cut-fields end p l h)
+  node-cut-end zero r h = halted (fields requirement end (8 ∷ 1 ∷ 1 ∷ []) p) _ _ h
+  node-cut-end (suc left) r h = halted (fields requirement end (8 ∷ 1 ∷ 1 ∷ []) p) _ _ h
 
   module _ (fits : p + 10 ≤ end) where
     whole : {B : Type 0} (k : Answer B) → (fields requirement end (8 ∷ 1 ∷ 1 ∷ []) p >> k) ≡ k

@@ -1,10 +1,9 @@
 -- Reading thresholds and their inner concepts: each end, as the code comes to it.
 -- Assumes nothing.
 use mathlib.Core.Path.{◌≡◌, refl, sym, ap, ◌∙◌}
-use mathlib.Core.Bool.{Bool, true, false, ◌&&◌, not, cond}
+use mathlib.Core.Bool.{Bool, true, false, ◌&&◌, not}
 use mathlib.Core.List.{List, [], ◌∷◌, ◌++◌}
 use Prim.Native.Nat.{ℕ, zero, suc, ◌+◌, ◌-◌, ◌≤◌, ◌<◌}
-use native.Mathlib.Decide.{dec_lt}
 use native.Mathlib.Omega.{arith}
 use lib.Dec.{ltb, leb, leb→le}
 use lib.ListN.{length}
@@ -103,27 +102,9 @@ module _ (s : List ℕ) (end owner p n : ℕ) (ps : List Part) where
     open-room : {B : Type 0} (k : Answer B) → (refuse_if (leb 16 (length ps)) (at requirement 12 p) >> k) ≡ k
     open-room k = pass (leb 16 (length ps)) _ k (not-le 16 (length ps) room)
 
-    cut-fields : p ≤ end → end - p < 5 → fields requirement end (1 ∷ 2 ∷ 2 ∷ []) p
-        ≡ refused (at requirement 1 (cond (ltb (end - p) 1) p (cond (ltb (end - p) 3) (p + 1) (p + 3))))
-    unfolding fields
-    cut-fields l h = go (dec_lt (end - p) 1) (dec_lt (end - p) 3)
-      where
-        go : Dec (end - p < 1) → Dec (end - p < 3) → fields requirement end (1 ∷ 2 ∷ 2 ∷ []) p
-            ≡ refused (at requirement 1 (cond (ltb (end - p) 1) p (cond (ltb (end - p) 3) (p + 1) (p + 3))))
-        go (yes a) d = stop (ltb end (p + 1)) _ _ (below end (p + 1) (omega arith)) ∙ rw (below (end - p) 1 a) refl
-        go (no a) (yes b) =
-            pass (ltb end (p + 1)) _ _ (not-below end (p + 1) (omega arith)) ∙ stop (ltb end (p + 1 + 2)) _ _ (below end (p + 1 + 2) (omega arith))
-            ∙ rw (not-below (end - p) 1 (omega arith), below (end - p) 3 b) refl
-        go (no a) (no b) =
-            let e : p + 1 + 2 ≡ p + 3 = omega arith in
-            pass (ltb end (p + 1)) _ _ (not-below end (p + 1) (omega arith)) ∙ pass (ltb end (p + 1 + 2)) _ _ (not-below end (p + 1 + 2) (omega arith))
-            ∙ stop (ltb end (p + 1 + 2 + 2)) _ _ (below end (p + 1 + 2 + 2) (omega arith))
-            ∙ rw (not-below (end - p) 1 (omega arith), not-below (end - p) 3 (omega arith)) (ap (λ (z : ℕ). refused (at requirement 1 z)) e)
-
-    pub threshold-cut-end : p ≤ end → end - p < 5 → read_threshold s end owner w
-        ≡ refused (at requirement 1 (cond (ltb (end - p) 1) p (cond (ltb (end - p) 3) (p + 1) (p + 3))))
+    pub threshold-cut-end : (r : Refusal) → fields requirement end (1 ∷ 2 ∷ 2 ∷ []) p ≡ refused r → read_threshold s end owner w ≡ refused r
     unfolding read_threshold
-    threshold-cut-end l h = open-room _ ∙ halted (fields requirement end (1 ∷ 2 ∷ 2 ∷ []) p) _ _ (cut-fields l h)
+    threshold-cut-end r h = open-room _ ∙ halted (fields requirement end (1 ∷ 2 ∷ 2 ∷ []) p) _ _ h
 
     module _ (fits : p + 5 ≤ end) where
       whole : {B : Type 0} (k : Answer B) → (fields requirement end (1 ∷ 2 ∷ 2 ∷ []) p >> k) ≡ k

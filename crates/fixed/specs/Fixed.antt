@@ -1,6 +1,6 @@
 -- What the fixed fields of a node, an edge and a threshold say: that what is behind them may be read, or what reading answers.
 -- Assumes nothing.
-use Rattle.std.specs.Prelude.{◌≡◌, ◌≢◌, Bool, false, true, ◌&&◌, cond, List, ℕ, ◌+◌, ◌≤◌, ◌<◌, ltb, leb, length, Result, Ok, Err}
+use Rattle.std.specs.Prelude.{◌≡◌, ◌≢◌, Bool, false, true, ◌&&◌, List, ℕ, ◌+◌, ◌≤◌, ◌<◌, ltb, leb, length, Result, Ok, Err}
 use Rattle.meaning.specs.declared.Side.TheVariants.{Requirement as requirement}
 use Rattle.meaning.specs.declared.Fault.{Fault}
 use Rattle.meaning.specs.Refusal.{refused}
@@ -11,13 +11,6 @@ use Rattle.meaning.specs.Fraction.{wrong_with}
 use Rattle.meaning.specs.Message.{Part, lawful, fault_at, read_threshold}
 use Rattle.fixed.specs.declared.NodeFields.{NodeFields}
 use Rattle.fixed.specs.Spots.{spot, node_in, children_in}
-
--- the first field that does not fit whole, where only so many bytes stand before the end
-abbrev pub node_cut : ℕ → ℕ → ℕ
-node_cut room p = cond (ltb room 8) p (p + room)
-
-abbrev pub threshold_cut : ℕ → ℕ → ℕ
-threshold_cut room p = cond (ltb room 1) p (cond (ltb room 3) (p + 1) (p + 3))
 
 -- a node of names a, with so many thresholds and children
 pub record NodeOpen (inner : Bool) (s : List ℕ) (end left p n a thresholds' children' : ℕ) : Type 0 where

@@ -13,6 +13,10 @@ use Rattle.meaning.specs.Message.{Part, Spot, read_children, read_node, no_thres
 abbrev pub spot : ℕ → ℕ → List Part → Spot
 spot p n parts = record { next = p; nodes = n; parts = parts }
 
+-- an end within the bytes of a message
+abbrev pub Within : List ℕ → ℕ → Type 0
+Within s end = (end ≤ length s) × (end ≤ 65538)
+
 -- the bytes from p up to end are of a message
 pub record Here (s : List ℕ) (end p : ℕ) : Type 0 where
   pub before : p ≤ end

@@ -7,6 +7,7 @@ ghost use Rattle.rows.specs.Packed.{names_in, roles_in, ends_in};
 ghost use Rattle.readers.specs.Reading.{Here};
 ghost use Rattle.parts.specs.Inner.{inner_place, ConceptDone};
 
+use fixed::Stretch;
 use readers::Reached;
 use rows::Parts;
 
@@ -57,5 +58,9 @@ pub fn read_concept(s: &[u8], at: usize, stop: usize, rows: &mut [u64])
         nodes: 0,
         parts: 0,
     };
-    let _ = readers::read_node(s, stop, from, meaning::MOST_LEVELS, true, 0, rows);
+    let stretch = Stretch {
+        bytes: s,
+        end: stop,
+    };
+    let _ = readers::read_node(&stretch, from, meaning::MOST_LEVELS, true, 0, rows);
 }

@@ -10,9 +10,14 @@ use lib.ListN.{length}
 use Rattle.readers.specs.declared.Reached.{Reached}
 use Rattle.std.specs.Prelude.{Result}
 use Rattle.meaning.specs.declared.Fault.{Fault}
-use Rattle.readers.specs.Reading.{reached, Start, NodeDone, ChildrenDone, ThresholdDone, ThresholdsDone}
+use Rattle.readers.specs.Reading.{reached, Begins, Start, NodeDone, ChildrenDone, ThresholdDone, ThresholdsDone}
+use Rattle.fixed.specs.Spots.{Within}
 use Rattle.fixed.specs.Fixed.{EdgeOpen}
 use Rattle.readers.proofs.Cycle.{child-here, children-then, others-here, thresholds-then}
+
+-- a reader begins in a stretch of a message
+pub start : {s : List ℕ} {end p n parts : ℕ} {A : List ℕ} → Within s end → Begins end p n parts (length A) → Start s end p n parts A
+start w b = record { here = record { before = b.before; inside = w.0; short = w.1 }; few = b.few; room = b.room; long = b.rows }
 
 -- ---- children
 

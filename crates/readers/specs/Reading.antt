@@ -18,6 +18,13 @@ use Rattle.rows.specs.Packed.{names_in, roles_in, ends_in, owners_in, firsts_in}
 
 -- ---- where a reader starts, and the rows
 
+-- what a reader is asked: it begins before the end of its stretch, and there is room for all rows
+pub record Begins (end p n parts long : ℕ) : Type 0 where
+  pub before : p ≤ end
+  pub few : n ≤ most_nodes
+  pub room : parts ≤ most_thresholds
+  pub rows : 144 ≤ long
+
 -- a reader starts where bytes of a message stand, and there is room for all rows
 pub record Start (s : List ℕ) (end p n parts : ℕ) (A : List ℕ) : Type 0 where
   pub here : Here s end p

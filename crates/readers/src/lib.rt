@@ -7,8 +7,9 @@ ghost use Rattle.std.specs.Prelude.{◌≡◌, ◌≤◌, ◌<◌, length};
 ghost use Rattle.meaning.specs.Reduce.{reduce, size};
 ghost use Rattle.reduction.specs.Held.{Held, ForTree};
 ghost use Rattle.rows.specs.Packed.{names_in, roles_in, ends_in};
-ghost use Rattle.readers.specs.Reading.{Here, Start, NodeDone, ChildrenDone, ThresholdsDone, ThresholdDone, InnerDone};
+ghost use Rattle.readers.specs.Reading.{Begins, NodeDone, ChildrenDone, ThresholdsDone, ThresholdDone, InnerDone};
 
+use fixed::Stretch;
 use meaning::{Fault, Rule};
 use rows::Tree;
 
@@ -23,28 +24,27 @@ pub struct Reached {
 // A node and all that is below it, into the rows from as many on as there are nodes so far.
 #[cycle(reading)]
 pub fn read_node(
-    s: &[u8],
-    end: usize,
+    stretch: &Stretch<'_>,
     from: Reached,
     left: usize,
     inner: bool,
     role: usize,
     rows: &mut [u64],
 ) -> Result<Reached, Fault>
-    requires start { Start s.now end from.next from.nodes from.parts rows.old }
+    requires start { Begins stretch.now.end from.next from.nodes from.parts (length rows.old) }
     requires role_bound { role < 256 }
-    ensures { NodeDone inner s.now end left role from.next from.nodes from.parts rows.old rows.new result }
+    ensures { NodeDone inner stretch.now.bytes.now stretch.now.end left role from.next from.nodes from.parts rows.old rows.new result }
 {
     let n = from.nodes;
-    let head = fixed::node(s, end, from.next, left, inner, n)?;
+    let head = stretch.node(from.next, left, inner, n)?;
     rows[n] = head.names;
     let entered = Reached {
         next: from.next + 10,
         nodes: n + 1,
         parts: from.parts,
     };
-    let behind = read_thresholds(s, end, entered, n, head.thresholds, rows)?;
-    let reached = read_children(s, end, behind, left - 1, inner, head.children, rows)?;
+    let behind = read_thresholds(stretch, entered, n, head.thresholds, rows)?;
+    let reached = read_children(stretch, behind, left - 1, inner, head.children, rows)?;
     rows[rows::EDGES + n] = rows::packed(role, reached.nodes);
     Ok(reached)
 }
@@ -52,26 +52,25 @@ pub fn read_node(
 // So many children, one after the other.
 #[cycle(reading)]
 fn read_children(
-    s: &[u8],
-    end: usize,
+    stretch: &Stretch<'_>,
     from: Reached,
     left: usize,
     inner: bool,
     count: usize,
     rows: &mut [u64],
 ) -> Result<Reached, Fault>
-    requires { Start s.now end from.next from.nodes from.parts rows.old }
-    ensures { ChildrenDone inner s.now end left count from.next from.nodes from.parts rows.old rows.new result }
+    requires { Begins stretch.now.end from.next from.nodes from.parts (length rows.old) }
+    ensures { ChildrenDone inner stretch.now.bytes.now stretch.now.end left count from.next from.nodes from.parts rows.old rows.new result }
 {
     let mut here = from;
     for _ in 0..count {
-        let role = fixed::edge(s, end, here.next)?;
+        let role = stretch.edge(here.next)?;
         let child = Reached {
             next: here.next + 1,
             nodes: here.nodes,
             parts: here.parts,
         };
-        here = read_node(s, end, child, left, inner, role, rows)?;
+        here = read_node(stretch, child, left, inner, role, rows)?;
     }
     Ok(here)
 }
@@ -79,19 +78,18 @@ fn read_children(
 // So many thresholds of the written node `owner`.
 #[cycle(reading)]
 fn read_thresholds(
-    s: &[u8],
-    end: usize,
+    stretch: &Stretch<'_>,
     from: Reached,
     owner: usize,
     count: usize,
     rows: &mut [u64],
 ) -> Result<Reached, Fault>
-    requires { Start s.now end from.next owner from.parts rows.old }
-    ensures { ThresholdsDone s.now end owner count from.next from.nodes from.parts rows.old rows.new result }
+    requires { Begins stretch.now.end from.next owner from.parts (length rows.old) }
+    ensures { ThresholdsDone stretch.now.bytes.now stretch.now.end owner count from.next from.nodes from.parts rows.old rows.new result }
 {
     let mut here = from;
     for _ in 0..count {
-        here = read_threshold(s, end, here, owner, rows)?;
+        here = read_threshold(stretch, here, owner, rows)?;
     }
     Ok(here)
 }
@@ -99,17 +97,20 @@ fn read_thresholds(
 // One threshold of the written node `owner`. Its inner concept is read into rows of its own, for its reduced size.
 #[cycle(reading)]
 fn read_threshold(
-    s: &[u8],
-    end: usize,
+    stretch: &Stretch<'_>,
     from: Reached,
     owner: usize,
     rows: &mut [u64],
 ) -> Result<Reached, Fault>
-    requires { Start s.now end from.next owner from.parts rows.old }
-    ensures { ThresholdDone s.now end owner from.next from.nodes from.parts rows.old rows.new result }
+    requires { Begins stretch.now.end from.next owner from.parts (length rows.old) }
+    ensures { ThresholdDone stretch.now.bytes.now stretch.now.end owner from.next from.nodes from.parts rows.old rows.new result }
 {
-    let stop = fixed::threshold(s, end, from.next, from.parts)?;
-    read_inner(s, stop, from.next + 7)?;
+    let stop = stretch.threshold(from.next, from.parts)?;
+    let inside = Stretch {
+        bytes: stretch.bytes,
+        end: stop,
+    };
+    read_inner(&inside, from.next + 7)?;
     rows[rows::PARTS + from.parts] = rows::packed(owner, from.next);
     Ok(Reached {
         next: stop,
@@ -118,11 +119,11 @@ fn read_threshold(
     })
 }
 
-// The inner concept that is to fill the bytes from `at` up to `stop`.
+// The inner concept that is to fill the stretch from `at` on.
 #[cycle(reading)]
-fn read_inner(s: &[u8], stop: usize, at: usize) -> Result<(), Fault>
-    requires { Here s.now stop at }
-    ensures { InnerDone s.now stop at result }
+fn read_inner(stretch: &Stretch<'_>, at: usize) -> Result<(), Fault>
+    requires { at ≤ stretch.now.end }
+    ensures { InnerDone stretch.now.bytes.now stretch.now.end at result }
 {
     let mut rows = [0u64; rows::LEN];
     let from = Reached {
@@ -130,8 +131,8 @@ fn read_inner(s: &[u8], stop: usize, at: usize) -> Result<(), Fault>
         nodes: 0,
         parts: 0,
     };
-    let reached = read_node(s, stop, from, meaning::MOST_LEVELS, true, 0, &mut rows)?;
-    if reached.next < stop {
+    let reached = read_node(stretch, from, meaning::MOST_LEVELS, true, 0, &mut rows)?;
+    if reached.next < stretch.end {
         return Err(Rule::LeftOver.at(reached.next));
     }
     if meaning::MOST_SIZE < size_in(&rows) {

@@ -73,6 +73,7 @@ fn subsumes_like(tree: &Tree, c: usize, d: usize, left: usize) -> bool
 }
 
 // Whether the child at c is dropped for one of its siblings that stand later.
+// Kept: a loop as in `subsumes_one`, and no test handed to it, since calls in a cycle get no proof through a closure.
 fn yields_one(tree: &Tree, c: usize, later: Siblings<'_>, left: usize) -> bool
     requires siblings { later.ends.now ≡ tree.now.ends }
     requires among { Among tree.now.names tree.now.roles tree.now.ends left c later.at later.end }

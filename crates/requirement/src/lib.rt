@@ -5,6 +5,7 @@ ghost use Rattle.std.specs.Prelude.{◌≡◌, ◌≤◌, length};
 ghost use Rattle.meaning.specs.Message.{read_requirement};
 ghost use Rattle.requirement.specs.Message.{on_requirement, MessageDone, paper_message, counted};
 
+use fixed::Stretch;
 use meaning::{Fault, Refusal, Rule, Side};
 use readers::Reached;
 
@@ -24,6 +25,7 @@ pub fn read(s: &[u8]) -> Result<Message, Refusal>
 }
 
 // Reads a message into rows.
+// Kept: a slice with its length asked for, since an array of 144 would ask more of who lends it.
 pub fn read_message(s: &[u8], rows: &mut [u64]) -> Result<Message, Refusal>
     requires { 144 ≤ length rows.old }
     ensures { MessageDone s.now rows.new result }
@@ -42,7 +44,8 @@ fn read_whole(s: &[u8], rows: &mut [u64]) -> Result<Message, Fault>
         nodes: 0,
         parts: 0,
     };
-    let reached = readers::read_node(s, end, from, meaning::MOST_LEVELS, false, 0, rows)?;
+    let stretch = Stretch { bytes: s, end };
+    let reached = readers::read_node(&stretch, from, meaning::MOST_LEVELS, false, 0, rows)?;
     if reached.next < end {
         return Err(Rule::LeftOver.at(reached.next));
     }

@@ -21,6 +21,7 @@ pub struct Tree {
 }
 
 // A tree with the marks of the drop rule: of each written node 1 where it is kept, 0 where it is dropped.
+// Kept: a mark is a number, as the promises have it (`Marked`, `MarkedWhole`).
 #[derive(Drop)]
 pub struct Reduced {
     pub tree: Tree,
@@ -35,6 +36,8 @@ pub struct Parts {
     pub count: usize,
 }
 
+// Kept: two numbers in one, in a lent slice: `requirement::read_message` promises what stands in the slice that it is lent (`MessageDone`), and its
+// readers, which call each other in a cycle, hand that one slice on.
 pub const LEN: usize = 144;
 
 pub const EDGES: usize = 64;

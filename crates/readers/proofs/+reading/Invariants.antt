@@ -6,23 +6,23 @@ use Rattle.readers.proofs.+reading.Given as goal
 
 abbrev pub invariant-read_children-loop : goal.invariant-read_children-loop
 invariant-read_children-loop l =
-    Children l.inner l.s l.end l.left l.count l.fn.from.next l.fn.from.nodes l.fn.from.parts l.initial.rows (l.count - l.counter) l.here.next l.here.nodes l.here.parts l.rows
+    Children l.inner l.stretch.bytes.now l.stretch.end l.left l.count l.fn.from.next l.fn.from.nodes l.fn.from.parts l.initial.rows (l.count - l.counter) l.here.next l.here.nodes l.here.parts l.rows
 
 abbrev pub decreases-read_children : goal.decreases-read_children
-decreases-read_children l = 4 * (l.end - l.from.next)
+decreases-read_children l = 4 * (l.stretch.now.end - l.from.next)
 
 abbrev pub decreases-read_inner : goal.decreases-read_inner
-decreases-read_inner l = 4 * (l.stop - l.at) + 1
+decreases-read_inner l = 4 * (l.stretch.now.end - l.at) + 1
 
 abbrev pub decreases-read_node : goal.decreases-read_node
-decreases-read_node l = 4 * (l.end - l.from.next)
+decreases-read_node l = 4 * (l.stretch.now.end - l.from.next)
 
 abbrev pub decreases-read_threshold : goal.decreases-read_threshold
-decreases-read_threshold l = 4 * (l.end - l.from.next) + 2
+decreases-read_threshold l = 4 * (l.stretch.now.end - l.from.next) + 2
 
 abbrev pub invariant-read_thresholds-loop : goal.invariant-read_thresholds-loop
 invariant-read_thresholds-loop l =
-    Thresholds l.s l.end l.owner l.count l.fn.from.next l.fn.from.nodes l.fn.from.parts l.initial.rows (l.count - l.counter) l.here.next l.here.nodes l.here.parts l.rows
+    Thresholds l.stretch.bytes.now l.stretch.end l.owner l.count l.fn.from.next l.fn.from.nodes l.fn.from.parts l.initial.rows (l.count - l.counter) l.here.next l.here.nodes l.here.parts l.rows
 
 abbrev pub decreases-read_thresholds : goal.decreases-read_thresholds
-decreases-read_thresholds l = 4 * (l.end - l.from.next) + 3
+decreases-read_thresholds l = 4 * (l.stretch.now.end - l.from.next) + 3

@@ -13,13 +13,6 @@ returns-in_err-end c =
     let p = err_from_is_err_and c.from_residual.result c.from_residual.ensures.1 in
     rw (p.1, p.2) (head-refused c.args.s.now _ _ (sym (c.in_err-end.ensures.result_value requirement)))
 
-pub read_node-requires-clause-start : goal.read_node-requires-clause-start
-read_node-requires-clause-start c =
-    let s = c.args.s.now in
-    let w = c.in_ok-end.ensures.ends_within in
-    let n = head-short s _ (bytes-known s c.type_inv.s) (sym (c.in_ok-end.ensures.result_value requirement)) in
-    record { here = record { before = w.0; inside = w.1; short = n }; few = omega arith; room = omega arith; long = c.requires }
-
 pub returns-in_err-reached : goal.returns-in_err-reached
 returns-in_err-reached c =
     let p = err_from_is_err_and c.from_residual-in_err-reached.result c.from_residual-in_err-reached.ensures.1 in
@@ -34,3 +27,9 @@ pub returns : goal.returns
 returns c =
     let z = c.if-reached-end.false in
     whole-good c.args.s.now _ _ _ (sym (c.in_ok-end.ensures.result_value requirement)) _ c.in_ok-reached.ensures _ _ _ refl (omega (arith, z))
+
+pub invariant_of-stretch : goal.invariant_of-stretch
+invariant_of-stretch c =
+    let s = c.args.s.now in
+    let w = c.in_ok-end.ensures.ends_within in
+    record { within = (w.1, head-short s _ (bytes-known s c.type_inv.s) (sym (c.in_ok-end.ensures.result_value requirement))) }
