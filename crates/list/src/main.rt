@@ -6,27 +6,37 @@
 
 mod standard;
 
-ghost use Rattle.std.specs.Prelude.{◌≡◌, ◌+◌, ◌≤◌, length};
+ghost use Rattle.std.specs.Prelude.{◌≤◌, ◌<◌, length, IfOk};
+ghost use Rattle.std.specs.Io.KnownBytes.{IsAtEnd};
 ghost use Rattle.listing.specs.Listing.{most_input};
 
+use listing::Rest;
+use standard::Broken;
 use std::io;
-use std::io::Write;
+use std::io::{Read, Write};
 
-// Prints the listing of the input, of which so many bytes stand at the front of the buffer.
-fn print<W: Write>(output: &mut W, buffer: &[u8], count: usize) -> io::Result<()>
-    requires { (length buffer.now ≡ most_input + 1) × (count ≤ most_input + 1) }
+// Reads the input into a buffer that has room for one byte more than is taken: so an input that is too long shows.
+fn read_all<R: Read>(input: &mut R, buffer: &mut [u8]) -> Result<usize, Broken>
+    requires { most_input < length buffer.old }
+    ensures count { IfOk result (λ n. n ≤ length buffer.new) }
+    ensures all { IfOk result (λ n. n ≤ most_input → IsAtEnd (R.remaining input.new)) }
 {
-    let mut line = [0u8; lines::ROOM];
-    let p = listing::plan(&mut line, buffer, count);
-    let first = p.first;
-    output.write_all(&line[..first])?;
-    if p.rows == 0 {
-        return Ok(());
+    standard::read_input(input, buffer)
+}
+
+// Prints the listing of an input.
+fn print<W: Write>(output: &mut W, input: &[u8]) -> io::Result<()> {
+    let plan = listing::plan(input);
+    output.write_all(plan.first.text())?;
+    match plan.rest {
+        Rest::Nothing => Ok(()),
+        Rest::Degrees(sheet) => {
+            degree_rows::print(output, sheet.image, sheet.message, sheet.items)
+        }
+        Rest::Members(sheet) => {
+            member_rows::print(output, sheet.image, sheet.message, sheet.items)
+        }
     }
-    if p.degrees {
-        return degree_rows::print(output, &buffer[..count], p.end, p.rows);
-    }
-    member_rows::print(output, &buffer[..count], p.end, p.rows)
 }
 
 // The system's words for what went wrong, without its number.
@@ -47,13 +57,15 @@ fn say(rt: &HostRuntime, what: &str, error: io::Error) -> io::Result<()> {
 fn main(rt: HostRuntime) {
     let mut buffer = [0u8; 65537];
     let mut input = rt.stdin();
-    let got = standard::read_input(&mut input, &mut buffer);
-    if let Err(error) = got.whole {
-        let _said = say(&rt, "standard input", error);
-        return;
-    }
+    let count = match read_all(&mut input, &mut buffer) {
+        Ok(count) => count,
+        Err(broken) => {
+            let _said = say(&rt, "standard input", broken.error);
+            return;
+        }
+    };
     let mut output = rt.stdout();
-    if let Err(error) = print(&mut output, &buffer, got.count) {
+    if let Err(error) = print(&mut output, &buffer[..count]) {
         let _said = say(&rt, "standard output", error);
     }
 }

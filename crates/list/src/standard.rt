@@ -1,54 +1,31 @@
-// Standard input, or what else is read, to its end or until the buffer is full; and whether a read failed.
-ghost use Rattle.std.specs.Prelude.{◌≡◌, ◌≤◌, ◌<◌, length, take, OnOk};
+// Standard input, or what else is read, to its end or until the buffer is full.
+ghost use Rattle.std.specs.Prelude.{◌≡◌, ◌≤◌, ◌<◌, length, take, IfOk};
 ghost use Rattle.std.specs.Io.KnownBytes.{Consumes, IsAtEnd};
+ghost use Rattle.list.specs.Count.{count_of};
 
 use std::io;
 use std::io::Read;
 
-// How many bytes were read, and whether these are all there is, or all that there is room for; or why a read failed.
+// Why a read failed, and how many bytes had been read before.
 #[derive(Drop)]
-pub struct Got {
+pub struct Broken {
     pub count: usize,
-    pub whole: io::Result<()>,
+    pub error: io::Error,
 }
 
-// One read into a part of the buffer.
-fn read_some<R: Read>(input: &mut R, part: &mut [u8]) -> Got
-    ensures count { result.count ≤ length part.new }
-    ensures bytes { Consumes (R.remaining input.old) (R.remaining input.new) (take result.count part.new) }
-    ensures end { OnOk result.whole (result.count ≡ 0 → 0 < length part.new → IsAtEnd (R.remaining input.new)) }
-{
-    match input.read(part) {
-        Ok(count) => Got {
-            count,
-            whole: Ok(()),
-        },
-        Err(error) => Got {
-            count: 0,
-            whole: Err(error),
-        },
-    }
-}
-
-// Reads until the buffer is full, the input ends or a read fails.
-pub fn read_input<R: Read>(input: &mut R, buffer: &mut [u8]) -> Got
-    ensures count { result.count ≤ length buffer.new }
-    ensures bytes { Consumes (R.remaining input.old) (R.remaining input.new) (take result.count buffer.new) }
-    ensures end { OnOk result.whole (result.count < length buffer.new → IsAtEnd (R.remaining input.new)) }
+// Reads until the buffer is full, the input ends or a read fails. How many bytes were read is answered.
+pub fn read_input<R: Read>(input: &mut R, buffer: &mut [u8]) -> Result<usize, Broken>
+    ensures count { count_of result ≤ length buffer.new }
+    ensures bytes { Consumes (R.remaining input.old) (R.remaining input.new) (take (count_of result) buffer.new) }
+    ensures end { IfOk result (λ n. n < length buffer.new → IsAtEnd (R.remaining input.new)) }
 {
     let mut count = 0;
     while count < buffer.len() {
-        let more = read_some(input, &mut buffer[count..]);
-        if more.count == 0 {
-            return Got {
-                count,
-                whole: more.whole,
-            };
+        match input.read(&mut buffer[count..]) {
+            Ok(0) => return Ok(count),
+            Ok(more) => count += more,
+            Err(error) => return Err(Broken { count, error }),
         }
-        count += more.count;
     }
-    Got {
-        count,
-        whole: Ok(()),
-    }
+    Ok(count)
 }

@@ -23,9 +23,9 @@ loop-count-preserved g c =
     let from = c.loop-count.count in
     let buffer = c.loop-count.buffer in
     let room = length buffer - from in
-    let part' = c.read_some-more.new.part in
-    let n = c.read_some-more.result.count in
+    let part' = c.read.new.buf in
+    let n = c.in-Ok.more in
     let within = c.loop-count.invariant.1 in
-    let part = slice_range-put_mid from room n buffer part' within c.read_some-more.ensures.count in
+    let part = slice_range-put_mid from room n buffer part' within c.in-Ok.ensures.bound.0 in
     let joined = take-split from (from + n) buffer (put_mid from room buffer part') (omega arith) (take-put_mid_below _ _ _ _ _ (le_refl _) within) in
-    (search rules, search rules, subst (Consumes _ _) (ap (λ l. take from buffer ++ l) (sym part) ∙ joined) (Consumes-trans _ _ _ _ _ c.loop-count.invariant.2 c.read_some-more.ensures.bytes))
+    (search rules, search rules, subst (Consumes _ _) (ap (λ l. take from buffer ++ l) (sym part) ∙ joined) (Consumes-trans _ _ _ _ _ c.loop-count.invariant.2 c.in-Ok.ensures.bytes.0))
