@@ -1,1 +1,1 @@
-pub mod Sought
+mod Read

@@ -2,8 +2,8 @@
 // row of the listing is then read off the numbers and the notes; of a withdrawn one it says so.
 #![tactic(auto)]
 
-ghost use Rattle.std.specs.Prelude.{◌≡◌, List, ℕ, ◌<◌};
-ghost use Rattle.meaning.specs.Bounds.{most_nodes};
+ghost use Rattle.std.specs.Prelude.{◌≡◌, List, ℕ, ◌<◌, length};
+ghost use Rattle.meaning.specs.Bounds.{most_links, most_nodes};
 ghost use Rattle.meaning.specs.Calls.{degree_call};
 ghost use Rattle.degrees.specs.Gradable.{GradableOn};
 ghost use Rattle.lines.specs.Entries.{degree_row};
@@ -25,7 +25,8 @@ pub struct Ratings {
 // Works out all items.
 pub fn rate(on: &Indexed, of: &Reduced) -> Ratings
     requires { GradableOn on.now of.now 0 17 }
-    ensures { (k : GradableOn on.now of.now 0 17) → Graded k.posed.graph.register k.tree on.now.items of.now result }
+    ensures graded { (k : GradableOn on.now of.now 0 17) → Graded k.posed.graph.register k.tree on.now.items of.now result }
+    ensures room { length result.notes ≡ most_links }
 {
     let set = Items::first(on.items);
     let mut notes = [0; meaning::MOST_LINKS];

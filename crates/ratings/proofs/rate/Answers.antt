@@ -20,4 +20,7 @@ work-scale-requires-clause-lent c =
 
 pub returns : goal.returns
 returns c =
-    λ k. graded-all c.args.on.now c.args.of.now k c.first-set.ensures _ (c.work-scale.ensures k)
+    record {
+      graded = λ k. graded-all c.args.on.now c.args.of.now k c.first-set.ensures _ (c.work-scale.ensures k);
+      room = c.work-scale.auto.notes ∙ length-replicate {A = ℕ} 4096 0;
+    }
