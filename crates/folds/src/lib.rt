@@ -8,14 +8,14 @@ ghost use Rattle.meaning.specs.Register.{withdrawn};
 ghost use Rattle.meaning.specs.Session.{with_name};
 ghost use Rattle.meaning.specs.Degree.{or_one};
 ghost use Rattle.graph.specs.Walked.{walked};
-ghost use Rattle.graph.specs.On.{JudgedOn};
+ghost use Rattle.graph.specs.On.{JudgedOn, JudgedAlong};
 ghost use Rattle.graph.specs.Sets.{Among};
 ghost use Rattle.folds.specs.Members.{Member};
 ghost use Rattle.folds.specs.Folded.{row_at, Kept, Chosen, Folding, Folded};
 
 use fields::bits;
-use graph::Indexed;
 use graph::sets::Items;
+use graph::{Indexed, Walk};
 use std::ops::Range;
 
 // A row of numbers has a place for each item that there may be.
@@ -31,16 +31,16 @@ pub struct Best {
 // One pass over a run of links, up to the first of a higher role; the values of their ends stand from `at` on. `SERVED`: all items are in service, so no
 // end is looked at; the compiler makes that loop free of branches.
 fn best_of<const SERVED: bool>(
-    on: &Indexed,
+    walk: &Walk,
     role: usize,
     run: Range<usize>,
     numbers: &[u32],
     at: usize,
 ) -> Best
-    requires run { (j : JudgedOn on.now) → (run.start ≤ run.end) × (run.end ≤ length j.register.links) }
+    requires run { (j : JudgedAlong walk.now) → (run.start ≤ run.end) × (run.end ≤ length j.register.links) }
     requires row { at + 512 ≤ length numbers.now }
-    requires served { SERVED ≡ true → (j : JudgedOn on.now) (x : ℕ) → withdrawn j.register x ≡ false }
-    ensures { (j : JudgedOn on.now) → Chosen j.register role run.start run.end (row_at numbers.now at) result }
+    requires served { SERVED ≡ true → (j : JudgedAlong walk.now) (x : ℕ) → withdrawn j.register x ≡ false }
+    ensures { (j : JudgedAlong walk.now) → Chosen j.register role run.start run.end (row_at numbers.now at) result }
 {
     let Range { start, end } = run;
     let mut best = Best {
@@ -48,15 +48,15 @@ fn best_of<const SERVED: bool>(
         link: None,
     };
     for k in start..end {
-        if role < on.role_of(k) {
+        if role < walk.role_of(k) {
             break;
         }
-        let to = on.end_of(k);
+        let to = walk.end_of(k);
         let value = numbers[at + to];
         if value <= best.value && best.link.is_some() {
             continue;
         }
-        if !SERVED && graph::is_out(on.image, to) {
+        if !SERVED && graph::is_out(walk.image, to) {
             continue;
         }
         best = Best {
@@ -69,22 +69,22 @@ fn best_of<const SERVED: bool>(
 
 // The best of the ends in service. `served`: all items are, so none is looked at.
 fn chosen(
-    on: &Indexed,
+    walk: &Walk,
     served: bool,
     role: usize,
     run: Range<usize>,
     numbers: &[u32],
     at: usize,
 ) -> Best
-    requires run { (j : JudgedOn on.now) → (run.start ≤ run.end) × (run.end ≤ length j.register.links) }
+    requires run { (j : JudgedAlong walk.now) → (run.start ≤ run.end) × (run.end ≤ length j.register.links) }
     requires row { at + 512 ≤ length numbers.now }
-    requires served { served ≡ true → (j : JudgedOn on.now) (x : ℕ) → withdrawn j.register x ≡ false }
-    ensures { (j : JudgedOn on.now) → Chosen j.register role run.start run.end (row_at numbers.now at) result }
+    requires served { served ≡ true → (j : JudgedAlong walk.now) (x : ℕ) → withdrawn j.register x ≡ false }
+    ensures { (j : JudgedAlong walk.now) → Chosen j.register role run.start run.end (row_at numbers.now at) result }
 {
     if served {
-        return best_of::<true>(on, role, run, numbers, at);
+        return best_of::<true>(walk, role, run, numbers, at);
     }
-    best_of::<false>(on, role, run, numbers, at)
+    best_of::<false>(walk, role, run, numbers, at)
 }
 
 // A number so far over the scale of the children so far, and a child's number over its own scale: their sum over the product.
@@ -126,9 +126,10 @@ pub fn fold(
         → Folded j.register set.now.words notes.old notes.new numbers.old numbers.new role node from to scale product }
 {
     let served = graph::all_serve(&on.index);
+    let walk = on.walk();
     for x in set.members() {
-        let run = on.from_role(x, role);
-        let best = chosen(on, served, role, run, numbers, from);
+        let run = walk.from_role(x, role);
+        let best = chosen(&walk, served, role, run, numbers, from);
         numbers[to + x] = folded(numbers[to + x], scale, best.value, product);
         if let Some(link) = best.link {
             note(notes, link, node);

@@ -1,5 +1,6 @@
 -- An image with its index: what code holds of it says what `Judged` says.
 -- Assumes nothing.
+use mathlib.Core.Path.{◌≡◌, subst}
 use mathlib.Core.List.{List}
 use Prim.Native.Nat.{ℕ, ◌≤◌, ◌<◌}
 use native.Mathlib.Omega.{arith}
@@ -33,3 +34,11 @@ module _ {s : List ℕ} {items links : ℕ} {index : List ℕ} (w : IsJudged s i
 -- what holds of the register that the bytes begin with holds of the one that is read from them
 pub judged-held : {s : List ℕ} {items : ℕ} {index : List ℕ} (P : Register → Type 0) (j : Judged s items index) → P (held s) → P j.register
 judged-held {s} P j p = held-said s P p j.register j.read
+
+-- what is said of the register of an image holds where that is named otherwise
+pub along : {s s' : List ℕ} {items items' : ℕ} {index index' : List ℕ} (P : Register → Type 0) → s ≡ s' → items ≡ items' → index ≡ index'
+    → ((j : Judged s items index) → P j.register) → (j : Judged s' items' index') → P j.register
+along {s} {s'} {items} {items'} {index} {index'} P e f g h =
+    subst (λ (z : List ℕ). (j : Judged z items' index') → P j.register) e
+    (subst (λ (z : ℕ). (j : Judged s z index') → P j.register) f
+    (subst (λ (z : List ℕ). (j : Judged s items z) → P j.register) g h))

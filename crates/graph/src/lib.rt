@@ -32,6 +32,17 @@ pub struct Indexed<'a> {
     ghost judged: { IsJudged image.now items links index },
 }
 
+// The same image and index as a value of a few words. A loop that writes takes it before it begins: what stands behind a reference it would read anew in
+// each turn.
+#[derive(Clone, Copy)]
+pub struct Walk<'a> {
+    pub image: &'a [u8],
+    pub items: usize,
+    pub links: usize,
+    pub index: &'a [u16; INDEX],
+    ghost judged: { IsJudged image.now items links index.now },
+}
+
 // Whether an item is withdrawn: the one test of document 02, §5.
 pub fn is_out(s: &[u8], item: usize) -> bool
     requires { Asked s.now (λ g. item < length g.names) }
@@ -116,14 +127,17 @@ impl<'a> Indexed<'a> {
         }
     }
 
-    // The image that was read.
-    pub fn reading(&self) -> Reading<'a>
-        ensures { (result.bytes ≡ self.now.image) × (result.items ≡ self.now.items) × (result.links ≡ self.now.links) }
+    // The same as a value of a few words.
+    pub fn walk(&self) -> Walk<'_>
+        ensures image { result.image.now ≡ self.now.image.now }
+        ensures items { result.items ≡ self.now.items }
+        ensures index { result.index.now ≡ self.now.index }
     {
-        Reading {
-            bytes: self.image,
+        Walk {
+            image: self.image,
             items: self.items,
             links: self.links,
+            index: &self.index,
         }
     }
 
@@ -135,18 +149,58 @@ impl<'a> Indexed<'a> {
         register::names_of(self.image, item)
     }
 
+    // Where the k-th link leads to.
+    pub fn end_of(&self, k: usize) -> usize
+        requires { (j : JudgedOn self.now) → k < length j.register.links }
+        ensures image { (j : JudgedOn self.now) → result ≡ end_no j.register k }
+        ensures upper_bound { result < self.now.items }
+    {
+        self.walk().end_of(k)
+    }
+
+    // The links of an item under a role.
+    pub fn run(&self, item: usize, role: usize) -> Range<usize>
+        requires { item < self.now.items }
+        ensures { (j : JudgedOn self.now) → Runs j.register item role result.start result.end }
+    {
+        self.walk().run(item, role)
+    }
+
+    // Puts every successor under a role of the items of a set into another.
+    pub fn spread(&self, set: &Items, role: usize, below: &mut Items)
+        requires { Among self.now.items set.now.words × Among self.now.items below.old.words }
+        ensures { (j : JudgedOn self.now) → Spread (walked j.register) self.now.items set.now.words role below.new.words }
+    {
+        self.walk().spread(set, role, below);
+    }
+}
+
+impl<'a> Walk<'a> {
+    ghost use Rattle.graph.specs.On.{JudgedAlong};
+
+    // The image that was read.
+    pub fn reading(&self) -> Reading<'a>
+        ensures { (result.bytes ≡ self.now.image) × (result.items ≡ self.now.items) × (result.links ≡ self.now.links) }
+    {
+        Reading {
+            bytes: self.image,
+            items: self.items,
+            links: self.links,
+        }
+    }
+
     // The role of the k-th link.
     pub fn role_of(&self, k: usize) -> usize
-        requires { (j : JudgedOn self.now) → k < length j.register.links }
-        ensures { (j : JudgedOn self.now) → result ≡ role_no j.register k }
+        requires { (j : JudgedAlong self.now) → k < length j.register.links }
+        ensures { (j : JudgedAlong self.now) → result ≡ role_no j.register k }
     {
         self.reading().role_of(k)
     }
 
     // Where the k-th link leads to.
     pub fn end_of(&self, k: usize) -> usize
-        requires { (j : JudgedOn self.now) → k < length j.register.links }
-        ensures image { (j : JudgedOn self.now) → result ≡ end_no j.register k }
+        requires { (j : JudgedAlong self.now) → k < length j.register.links }
+        ensures image { (j : JudgedAlong self.now) → result ≡ end_no j.register k }
         ensures upper_bound { result < self.now.items }
     {
         self.reading().to_of(k)
@@ -156,7 +210,7 @@ impl<'a> Indexed<'a> {
     // itself come first.
     pub fn from_role(&self, item: usize, role: usize) -> Range<usize>
         requires { item < self.now.items }
-        ensures { (j : JudgedOn self.now) → Opens j.register item role result.start result.end }
+        ensures { (j : JudgedAlong self.now) → Opens j.register item role result.start result.end }
     {
         let begin = usize::from(self.index[item]);
         let end = usize::from(self.index[item + 1]);
@@ -171,7 +225,7 @@ impl<'a> Indexed<'a> {
     // The links of an item under a role.
     pub fn run(&self, item: usize, role: usize) -> Range<usize>
         requires { item < self.now.items }
-        ensures { (j : JudgedOn self.now) → Runs j.register item role result.start result.end }
+        ensures { (j : JudgedAlong self.now) → Runs j.register item role result.start result.end }
     {
         let Range { start, end } = self.from_role(item, role);
         for k in start..end {
@@ -186,7 +240,7 @@ impl<'a> Indexed<'a> {
     // `full` they are.
     pub fn spread(&self, set: &Items, role: usize, below: &mut Items)
         requires { Among self.now.items set.now.words × Among self.now.items below.old.words }
-        ensures { (j : JudgedOn self.now) → Spread (walked j.register) self.now.items set.now.words role below.new.words }
+        ensures { (j : JudgedAlong self.now) → Spread (walked j.register) self.now.items set.now.words role below.new.words }
     {
         let mut full = 0;
         for x in set.members() {
@@ -201,7 +255,7 @@ impl<'a> Indexed<'a> {
     // Puts the successors of an item under a role into a set.
     fn gather(&self, item: usize, role: usize, set: &mut Items)
         requires { (item < self.now.items) × Among self.now.items set.old.words }
-        ensures { (j : JudgedOn self.now)
+        ensures { (j : JudgedAlong self.now)
             → Gathered ((walked j.register).next item role) self.now.items set.old.words set.new.words }
     {
         let Range { start, end } = self.from_role(item, role);

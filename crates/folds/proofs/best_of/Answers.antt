@@ -20,7 +20,7 @@ loop-k-init g c =
 
 pub is_out-requires : goal.is_out-requires
 is_out-requires g c =
-    asked-names (judged c.args.on.now.judged) c.end_of-to.ensures.upper_bound
+    asked-names (judged c.args.walk.now.judged) c.end_of-to.ensures.upper_bound
 
 pub loop-k-preserved-then-is_some : goal.loop-k-preserved-then-is_some
 loop-k-preserved-then-is_some g c =

@@ -1,6 +1,9 @@
 use native.Mathlib.Omega.{arith}
 use native.Mathlib.Nat.{le_refl}
 use mathlib.Core.Path.{ap, refl}
+use Rattle.graph.specs.Judged.{Opens}
+use Rattle.graph.proofs.Judging.{along}
+use Rattle.folds.specs.Folded.{row_at, Chosen}
 use Rattle.folds.proofs.Fill.{sum_fits}
 use Rattle.folds.proofs.Step.{step-none, step-on, step_value, step-more, step_end}
 use Rattle.folds.proofs.fold.Goals as goal
@@ -15,46 +18,55 @@ pub from_role-run-requires : goal.from_role-run-requires
 from_role-run-requires c =
     let s = c.in-Some.ensures.steps in
     let n = rw c.loop-x.invariant.same at s.1.0 in
-    c.requires.members _ (n.member s.1.1)
+    rw c.walk-walk.ensures.items (c.requires.members _ (n.member s.1.1))
 
 pub chosen-best-requires : goal.chosen-best-requires
 chosen-best-requires c =
     record {
       run = λ j. let o = c.from_role-run.ensures j in (o.order, o.within);
       row = omega (arith, (c.loop-x.invariant.stepped c.requires.folding.graph).filled.size, c.requires.folding.from-fits);
-      served = λ e j. j.serving (c.all_serve-served.ensures e);
+      served = λ e j. j.serving (rw c.walk-walk.ensures.index (c.all_serve-served.ensures e));
     }
 
 pub folded-requires : goal.folded-requires
 folded-requires c =
+    let e = c.walk-walk.ensures in
     let s = c.in-Some.ensures.steps in
     let n = rw c.loop-x.invariant.same at s.1.0 in
     let j = c.requires.folding.graph in
     let w = step-on j _ _ _ _ _ _ _ _ _ _ _ _ _ (c.loop-x.invariant.stepped j) n in
     sum_fits _ _ _ _ _ _ _ (w.filled.ahead _ (le_refl _))
-    (step_value j _ _ _ _ _ _ _ _ _ c.args.on.now.judged.read.3 _ _ _ w c.requires.folding.apart _ _ _ (c.from_role-run.ensures j) (c.chosen-best.ensures j))
+    (step_value j _ _ _ _ _ _ _ _ _ c.args.on.now.judged.read.3 _ _ _ w c.requires.folding.apart _ _ _ (along (λ g. Opens g c.in-Some.x c.args.role c.from_role-run.result.start c.from_role-run.result.end) e.image e.items e.index c.from_role-run.ensures j)
+    (along (λ g. Chosen g c.args.role c.from_role-run.result.start c.from_role-run.result.end (row_at c.loop-x.numbers c.args.from) c.chosen-best.result) e.image e.items e.index
+    c.chosen-best.ensures j))
     (c.requires.folding.fits _ (n.member s.1.1))
 
 pub loop-x-preserved-in-Some-link : goal.loop-x-preserved-in-Some-link
 loop-x-preserved-in-Some-link c =
+    let e = c.walk-walk.ensures in
     let s = c.in-Some.ensures.steps in
     let n = rw c.loop-x.invariant.same at s.1.0 in
     record {
       same = rw s.0 c.loop-x.invariant.same;
       stepped = λ j. rw s.1.2
           (step-more j _ _ _ _ _ _ _ _ _ c.args.on.now.judged.read.3 _ _ _ (step-on j _ _ _ _ _ _ _ _ _ _ _ _ _ (c.loop-x.invariant.stepped j) n) c.requires.folding.apart _ _ _
-          (c.from_role-run.ensures j) (c.chosen-best.ensures j) _ _ s.1.1 c.requires.folding.to-fits c.folded.ensures (rw c.in-Some-link.is c.note.ensures));
+          (along (λ g. Opens g c.in-Some.x c.args.role c.from_role-run.result.start c.from_role-run.result.end) e.image e.items e.index c.from_role-run.ensures j)
+          (along (λ g. Chosen g c.args.role c.from_role-run.result.start c.from_role-run.result.end (row_at c.loop-x.numbers c.args.from) c.chosen-best.result) e.image e.items e.index
+          c.chosen-best.ensures j) _ _ s.1.1 c.requires.folding.to-fits c.folded.ensures (rw c.in-Some-link.is c.note.ensures));
     }
 
 pub loop-x-preserved : goal.loop-x-preserved
 loop-x-preserved c =
+    let e = c.walk-walk.ensures in
     let s = c.in-Some.ensures.steps in
     let n = rw c.loop-x.invariant.same at s.1.0 in
     record {
       same = rw s.0 c.loop-x.invariant.same;
       stepped = λ j. rw s.1.2
           (step-more j _ _ _ _ _ _ _ _ _ c.args.on.now.judged.read.3 _ _ _ (step-on j _ _ _ _ _ _ _ _ _ _ _ _ _ (c.loop-x.invariant.stepped j) n) c.requires.folding.apart _ _ _
-          (c.from_role-run.ensures j) (c.chosen-best.ensures j) _ _ s.1.1 c.requires.folding.to-fits c.folded.ensures (rw c.in_default.is refl));
+          (along (λ g. Opens g c.in-Some.x c.args.role c.from_role-run.result.start c.from_role-run.result.end) e.image e.items e.index c.from_role-run.ensures j)
+          (along (λ g. Chosen g c.args.role c.from_role-run.result.start c.from_role-run.result.end (row_at c.loop-x.numbers c.args.from) c.chosen-best.result) e.image e.items e.index
+          c.chosen-best.ensures j) _ _ s.1.1 c.requires.folding.to-fits c.folded.ensures (rw c.in_default.is refl));
     }
 
 pub returns : goal.returns

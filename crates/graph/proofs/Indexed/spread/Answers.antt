@@ -1,35 +1,14 @@
--- `spread` meets its contract: item by item, or until all items are there.
--- Assumes nothing.
-use mathlib.Core.Path.{ap}
-use Rattle.std.proofs.Common.{rules}
-use Rattle.graph.proofs.Judging.{judged}
-use Rattle.graph.proofs.Members.{member-few}
-use Rattle.graph.proofs.Spreading.{spreading-start, spreading-step, spreading-end, spreading-full}
+use Rattle.graph.specs.Walked.{walked}
+use Rattle.graph.specs.Sets.{Spread}
+use Rattle.graph.proofs.Judging.{along}
 use Rattle.graph.proofs.Indexed.spread.Goals as goal
 
-pub loop-x-init : goal.loop-x-init
-loop-x-init c =
-    let m = c.members-x-items.ensures in
-    rw c.into_iter-x-iterator.ensures.into_iter_gives (ap (λ s. s.words) m.0, rw m.1 (spreading-start _ _ _ _ _ _ c.requires.1))
-
-pub returns-then-self-full : goal.returns-then-self-full
-returns-then-self-full c =
-    spreading-full _ _ _ _ _ _ _ _ c.loop-x.invariant.1 c.if-self-full.true c.args.self.now.judged.read.3
-
-pub gather-requires : goal.gather-requires
-gather-requires c =
-    let s = c.in-Some.ensures.steps.1 in
-    let n = rw c.loop-x.invariant.0 at s.0 in
-    (c.requires.0 _ (n.member s.1), c.loop-x.invariant.1.among)
-
-pub loop-x-preserved : goal.loop-x-preserved
-loop-x-preserved c =
-    let s = c.in-Some.ensures.steps in
-    let n = rw c.loop-x.invariant.0 at s.1.0 in (
-      rw s.0 c.loop-x.invariant.0,
-      rw s.1.2 (spreading-step _ _ _ _ _ _ _ _ _ _ _ c.loop-x.invariant.1 n (judged c.args.self.now.judged) c.gather.ensures c.full_from-full.ensures),
-    )
+pub spread-requires : goal.spread-requires
+spread-requires c =
+    rw c.walk.ensures.items c.requires
 
 pub returns : goal.returns
 returns c =
-    spreading-end _ _ _ _ _ _ _ _ c.loop-x.invariant.1 (rw c.loop-x.invariant.0 at c.in-None.ensures.steps.1.0) (member-few _ (search rules))
+    let e = c.walk.ensures in
+    λ j. rw e.items at
+    (along (λ g. Spread (walked g) c.walk.result.items c.args.set.now.words c.args.role c.spread.new.below.words) e.image e.items e.index c.spread.ensures j)

@@ -1,7 +1,7 @@
 use mathlib.Core.Path.{◌≡◌}
 use Rattle.graph.specs.Judged.{role_no}
 use Rattle.graph.proofs.Judging.{link-held, judged-held}
-use Rattle.graph.proofs.Indexed.role_of.Goals as goal
+use Rattle.graph.proofs.Walk.role_of.Goals as goal
 
 pub role_of-requires : goal.role_of-requires
 role_of-requires c =

@@ -4,7 +4,7 @@ use mathlib.Core.Path.{◌≡◌}
 use native.Mathlib.Omega.{arith}
 use Rattle.graph.proofs.Members.{gathered_none, gathered-more, gathered-run}
 use Rattle.graph.proofs.Rising.{one_on}
-use Rattle.graph.proofs.Indexed.gather.Goals as goal
+use Rattle.graph.proofs.Walk.gather.Goals as goal
 
 pub loop-k-init : goal.loop-k-init
 loop-k-init c =

@@ -1,7 +1,7 @@
 use mathlib.Core.Path.{◌≡◌}
 use native.Mathlib.Omega.{arith}
 use Rattle.graph.proofs.Runs.{opens-found, ends-within}
-use Rattle.graph.proofs.Indexed.from_role.Goals as goal
+use Rattle.graph.proofs.Walk.from_role.Goals as goal
 
 pub returns-then-role-role_of : goal.returns-then-role-role_of
 returns-then-role-role_of c =
