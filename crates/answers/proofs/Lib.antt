@@ -1,3 +1,3 @@
 pub mod Numbers
-pub mod Margins
+pub mod Told
 pub mod Messages

@@ -9,7 +9,7 @@ use Rattle.meaning.specs.declared.Side.{Side}
 use Rattle.meaning.specs.declared.Side.TheVariants.{Register, Requirement, Call}
 use Rattle.meaning.specs.declared.Refusal.{Refusal}
 use Rattle.meaning.specs.Refusal.{Answer, good, refused, at}
-use Rattle.register.specs.Reading.{Counts}
+use Rattle.register.specs.declared.Size.{Size}
 use Rattle.meaning.specs.Requirement.{Requirement as RequirementTree}
 use Rattle.meaning.specs.Message.{Part}
 use Rattle.meaning.specs.Tree.{nodes}
@@ -42,10 +42,6 @@ same-refusal a b c = cc
 refusals-apart : (q r : Refusal) → refusal_numbers q ≡ refusal_numbers r → q ≡ r
 refusals-apart q r e = same-refusal (sides_apart q.side r.side (nth 1 e)) (nth 2 e) (nth 3 e)
 
--- four numbers are the same, each by itself
-pub four_same : {k a b c k' a' b' c' : ℕ} → k ≡ k' → a ≡ a' → b ≡ b' → c ≡ c' → four k a b c ≡ four k' a' b' c'
-four_same e f g h = cc
-
 -- `says` gives a good answer's numbers: they tell these apart, and their kind is not 0
 module _ {A : Type 0} (says : A → List ℕ) (tells : (a b : A) → says a ≡ says b → a ≡ b) (kind : (a : A) → get_or (says a) 0 0 ≡ 0 → ⊥) where
   pub answers-apart : (x y : Answer A) → numbers says x ≡ numbers says y → x ≡ y
@@ -54,10 +50,10 @@ module _ {A : Type 0} (says : A → List ℕ) (tells : (a b : A) → says a ≡ 
   answers-apart (refused r) (good b) e = absurd (kind b (sym (nth 0 e)))
   answers-apart (refused q) (refused r) e = ap refused (refusals-apart q r e)
 
-pub readings-apart : (x y : Answer Counts) → numbers counts x ≡ numbers counts y → x ≡ y
+pub readings-apart : (x y : Answer Size) → numbers counts x ≡ numbers counts y → x ≡ y
 readings-apart = answers-apart counts (λ a b e. same-counts (nth 1 e) (nth 2 e)) (λ a e. omega arith)
   where
-    same-counts : {a b m n : ℕ} → a ≡ b → m ≡ n → ◌≡◌ {A = Counts} (record { items = a; links = m }) (record { items = b; links = n })
+    same-counts : {a b m n : ℕ} → a ≡ b → m ≡ n → ◌≡◌ {A = Size} (record { items = a; links = m }) (record { items = b; links = n })
     same-counts e f = cc
 
 -- the calls of a session: so any two results that the promise of one of them allows are equal
@@ -69,16 +65,16 @@ abbrev pub sized : Answer (RequirementTree × List Part) → Answer (ℕ × ℕ)
 sized (good x) = good (nodes x.0, length x.1)
 sized (refused r) = refused r
 
-abbrev pub sizes : ℕ × ℕ → List ℕ
-sizes n = four 1 n.0 n.1 0
+abbrev pub pair : ℕ × ℕ → List ℕ
+pair n = four 1 n.0 n.1 0
 
-sizes-written : (x : Answer (RequirementTree × List Part)) → numbers sizes (sized x) ≡ numbers written x
+sizes-written : (x : Answer (RequirementTree × List Part)) → numbers pair (sized x) ≡ numbers written x
 sizes-written (good x) = refl
 sizes-written (refused r) = refl
 
 pub requirements-apart : (x y : Answer (RequirementTree × List Part)) → numbers written x ≡ numbers written y → sized x ≡ sized y
 requirements-apart x y e =
-    answers-apart sizes (λ a b h. same-sizes (nth 1 h) (nth 2 h)) (λ a h. omega arith) (sized x) (sized y)
+    answers-apart pair (λ a b h. same-sizes (nth 1 h) (nth 2 h)) (λ a h. omega arith) (sized x) (sized y)
     (sizes-written x ∙ e ∙ sym (sizes-written y))
   where
     same-sizes : {a b m n : ℕ} → a ≡ b → m ≡ n → ◌≡◌ {A = ℕ × ℕ} (a, m) (b, n)

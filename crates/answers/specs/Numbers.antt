@@ -1,6 +1,6 @@
 -- The four numbers in which a call answers: the kind, then three numbers that go with the kind. A refusal is of kind 0, and no other answer is.
 -- Assumes nothing.
-use Rattle.std.specs.Prelude.{Bool, not, cond, List, [], ◌∷◌, ℕ, ◌≤◌, eqb, length, ℤ, pos, negsuc, nat_abs}
+use Rattle.std.specs.Prelude.{Bool, not, List, [], ◌∷◌, ℕ, eqb, length, ℤ, pos, negsuc, nat_abs, Option, Some, None}
 use Rattle.meaning.specs.declared.Side.{Side}
 use Rattle.meaning.specs.declared.Side.TheVariants.{Register, Requirement, Call}
 use Rattle.meaning.specs.declared.Refusal.{Refusal}
@@ -8,15 +8,14 @@ use Rattle.meaning.specs.Refusal.{Answer, good, refused}
 use Rattle.meaning.specs.Tree.{nodes}
 use Rattle.meaning.specs.Requirement.{Requirement as RequirementTree}
 use Rattle.meaning.specs.Message.{Part}
-use Rattle.register.specs.Reading.{Counts}
+use Rattle.register.specs.declared.Size.{Size}
 use Rattle.requirement.specs.declared.Message.{Message}
-use Rattle.requirement.specs.declared.Message.TheVariants.{Good as GoodMessage, Refused as RefusedMessage}
 use Rattle.parts.specs.declared.Place.{Place}
 use Rattle.deciding.specs.Answers.{Said, yes, no}
 use Rattle.meaning.specs.Calls.{Against}
-use Rattle.meaning.specs.Bounds.{most_margin}
+use Rattle.asking.specs.declared.Answered.{Answered}
 use Rattle.asking.specs.declared.Margin.{Margin}
-use Rattle.asking.specs.declared.Margin.TheVariants.{Good as GoodMargin, Refused as RefusedMargin}
+use Rattle.tabling.specs.declared.Listed.{Listed}
 use Rattle.asking.specs.Answers.{Told}
 use Rattle.tabling.specs.Answers.{Told as ListTold}
 
@@ -44,7 +43,7 @@ is_session n = not (eqb n 0)
 -- ---- the good answers, call by call
 
 -- a register that was read: 1, items, links, 0
-abbrev pub counts : Counts → List ℕ
+abbrev pub counts : Size → List ℕ
 counts n = four 1 n.items n.links 0
 
 -- a requirement that was read: 1, written nodes, thresholds, 0
@@ -52,13 +51,13 @@ abbrev pub written : RequirementTree × List Part → List ℕ
 written x = four 1 (nodes x.0) (length x.1) 0
 
 -- the same, of what the reader hands back
-abbrev pub message_numbers : Message → List ℕ
-message_numbers (GoodMessage n m) = four 1 n m 0
-message_numbers (RefusedMessage r) = refusal_numbers r
+abbrev pub sizes : Message → List ℕ
+sizes m = four 1 m.nodes m.parts 0
 
--- where an inner concept stands: 1, place, length, 0; without bytes it is refused: 0, 0, 0, 0
-abbrev pub place_numbers : Place → List ℕ
-place_numbers p = cond (eqb p.len 0) (four 0 0 0 0) (four 1 p.start p.len 0)
+-- where an inner concept stands: 1, place, length, 0; where there is none it is refused: 0, 0, 0, 0
+abbrev pub place_numbers : Option Place → List ℕ
+place_numbers (Some p) = four 1 p.start p.len 0
+place_numbers None = four 0 0 0 0
 
 -- a session's call: 1, the count of steps in use, 0, 0; opening and keep hand back count 0. A message that was written: 1, its length, 0, 0
 abbrev pub in_use : ℕ → List ℕ
@@ -89,7 +88,17 @@ below_zero (negsuc n) = 1
 abbrev pub margin_numbers : Against → List ℕ
 margin_numbers a = four 1 (nat_abs a.margin) a.over (below_zero a.margin)
 
--- "never beyond 3,486,784,401,000 either way": so its magnitude fits
-abbrev pub Small : Margin → Type 0
-Small (GoodMargin z o) = nat_abs z ≤ most_margin
-Small (RefusedMargin r) = Unit {0}
+-- ---- the same, as the calls hand them back
+
+abbrev pub answered_numbers : Answered → List ℕ
+answered_numbers a = four 1 a.num a.den a.nodes
+
+abbrev pub signed_numbers : Margin → List ℕ
+signed_numbers m = four 1 (nat_abs m.margin) m.over (below_zero m.margin)
+
+abbrev pub listed_numbers : Listed → List ℕ
+listed_numbers l = four 1 l.items l.nodes l.scale
+
+abbrev pub verdict_numbers : Option ℕ → List ℕ
+verdict_numbers (Some n) = four 1 n 0 0
+verdict_numbers None = four 2 0 0 0

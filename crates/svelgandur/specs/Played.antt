@@ -1,15 +1,13 @@
 -- The calls of a session from C, one after another: what the promise of each says of the numbers that it wrote, from what the last one left.
 -- proofs/Played.antt shows that such numbers, whatever they are, follow meaning's history, so that demand 3 holds of the calls from C.
 -- Assumes nothing.
-use Rattle.std.specs.Prelude.{◌≡◌, cond, List, [], ◌∷◌, ℕ, eqb, get_or}
+use Rattle.std.specs.Prelude.{◌≡◌, cond, List, [], ◌∷◌, ℕ, eqb, get_or, Ok, Err}
 use Rattle.meaning.specs.declared.Side.{Side}
 use Rattle.meaning.specs.declared.Side.TheVariants.{Register as register, Requirement as requirement, Call as call}
 use Rattle.meaning.specs.Refusal.{at}
 use Rattle.meaning.specs.Bytes.{Bytes}
 use Rattle.meaning.specs.Session.{Call, opens, edits, undoes, keeps, count_after}
-use Rattle.session.specs.declared.Counted.{Counted}
-use Rattle.session.specs.declared.Counted.TheVariants.{Good, Refused}
-use Rattle.session.specs.Calls.{paper_count}
+use Rattle.session.specs.Calls.{Counted, paper_count}
 use Rattle.numbered.specs.Played.{Lent, Result}
 use Rattle.svelgandur.specs.Promises.{OpenPromise, EditPromise, UndoPromise, KeepPromise}
 
@@ -18,7 +16,7 @@ abbrev pub side_of : ℕ → Side
 side_of n = cond (eqb n 0) register (cond (eqb n 1) requirement call)
 
 abbrev pub heard : List ℕ → Counted
-heard l = cond (eqb (get_or l 0 0) 0) (Refused (at (side_of (get_or l 1 0)) (get_or l 2 0) (get_or l 3 0))) (Good (get_or l 1 0))
+heard l = cond (eqb (get_or l 0 0) 0) (Err (at (side_of (get_or l 1 0)) (get_or l 2 0) (get_or l 3 0))) (Ok (get_or l 1 0))
 
 -- the promise of each call, over all that is lent; what is lent for reading, or not at all, stays
 abbrev pub Promised : Lent → Call → List ℕ → Lent → Type 0

@@ -14,8 +14,10 @@ pub fn svelgandur_degree(
 )
     ensures { DegreePromise image.now message.now item map.old map.new answer.new }
 {
-    let r = asking::degree_of(image, message, item as usize, map);
-    answers::of_degree(answer, r);
+    answers::of(
+        answer,
+        asking::degree_of(image, message, item as usize, map),
+    );
 }
 
 // The margin of an item's degree in a plain requirement against p/q.
@@ -31,5 +33,5 @@ pub fn svelgandur_margin(
     ensures { MarginPromise image.now message.now item p q answer.new }
 {
     let r = asking::margin_of(image, message, item as usize, p as usize, q as usize);
-    answers::of_margin(answer, r);
+    answers::of(answer, r);
 }

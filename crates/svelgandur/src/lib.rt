@@ -3,7 +3,7 @@
 // bytes or numbers, so no bit pattern that a caller hands in is undefined.
 #![tactic(auto)]
 
-use answers;
+use answers::Tells;
 
 pub mod asks;
 pub mod trial;
@@ -18,8 +18,7 @@ ghost use Rattle.svelgandur.specs.Promises.{RegisterPromise, RequirementPromise,
 pub fn svelgandur_read_register(image: &[u8], session: u64, answer: &mut [u64; 4])
     ensures { RegisterPromise image.now session answer.new }
 {
-    let r = register::read(image, session != 0);
-    answers::of_reading(answer, r);
+    answers::of(answer, register::read(image, session != 0));
 }
 
 // Reads a requirement message.
@@ -27,8 +26,7 @@ pub fn svelgandur_read_register(image: &[u8], session: u64, answer: &mut [u64; 4
 pub fn svelgandur_read_requirement(message: &[u8], answer: &mut [u64; 4])
     ensures { RequirementPromise message.now answer.new }
 {
-    let r = requirement::read(message);
-    answers::of_message(answer, r);
+    answers::of(answer, requirement::read(message));
 }
 
 // Where the bytes of the k-th inner concept stand in the message.
@@ -36,6 +34,5 @@ pub fn svelgandur_read_requirement(message: &[u8], answer: &mut [u64; 4])
 pub fn svelgandur_inner_part(message: &[u8], k: u64, answer: &mut [u64; 4])
     ensures { InnerPromise message.now k answer.new }
 {
-    let p = parts::find_inner(message, k as usize);
-    answers::of_place(answer, p);
+    *answer = parts::find_inner(message, k as usize).numbers();
 }

@@ -11,8 +11,7 @@ use meaning::Fact;
 pub fn svelgandur_open(buffer: &mut [u8], answer: &mut [u64; 4])
     ensures { OpenPromise buffer.old buffer.new answer.new }
 {
-    let r = session::open(buffer);
-    answers::of_count(answer, r);
+    answers::of(answer, session::open(buffer));
 }
 
 // Adds a name to an item, or takes it away where `adds` is 0.
@@ -32,8 +31,10 @@ pub fn svelgandur_edit_name(
         item: item as usize,
         name: name as usize,
     };
-    let r = numbered::edit(buffer, log, count as usize, named, adds != 0);
-    answers::of_count(answer, r);
+    answers::of(
+        answer,
+        numbered::edit(buffer, log, count as usize, named, adds != 0),
+    );
 }
 
 // Adds a link, or takes it away where `adds` is 0.
@@ -55,22 +56,22 @@ pub fn svelgandur_edit_link(
         role: role as usize,
         to: to as usize,
     };
-    let r = numbered::edit(buffer, log, count as usize, linked, adds != 0);
-    answers::of_count(answer, r);
+    answers::of(
+        answer,
+        numbered::edit(buffer, log, count as usize, linked, adds != 0),
+    );
 }
 
 // Takes the last step in use back.
 pub fn svelgandur_undo(buffer: &mut [u8], log: &[u64], count: u64, answer: &mut [u64; 4])
     ensures { UndoPromise buffer.old log.now count buffer.new answer.new }
 {
-    let r = numbered::undo(buffer, log, count as usize);
-    answers::of_count(answer, r);
+    answers::of(answer, numbered::undo(buffer, log, count as usize));
 }
 
 // Keeps all edits: none can be taken back any more. The count is 0.
 pub fn svelgandur_keep(buffer: &[u8], log: &[u64], count: u64, answer: &mut [u64; 4])
     ensures { KeepPromise buffer.now log.now count answer.new }
 {
-    let r = numbered::keep(buffer, log, count as usize);
-    answers::of_count(answer, r);
+    answers::of(answer, numbered::keep(buffer, log, count as usize));
 }

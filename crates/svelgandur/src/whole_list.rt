@@ -8,6 +8,5 @@ use answers;
 pub fn svelgandur_list(image: &[u8], message: &[u8], table: &mut [u32], answer: &mut [u64; 4])
     ensures { ListPromise image.now message.now table.old table.new answer.new }
 {
-    let r = tabling::list_of(image, message, table);
-    answers::of_list(answer, r);
+    answers::of(answer, tabling::list_of(image, message, table));
 }

@@ -14,6 +14,5 @@ pub fn svelgandur_write_requirement(
 )
     ensures { WritePromise nodes.now thresholds.now inner.now message.old message.new answer.new }
 {
-    let r = writer::write(nodes, thresholds, inner, message);
-    answers::of_written(answer, r);
+    answers::of(answer, writer::write(nodes, thresholds, inner, message));
 }

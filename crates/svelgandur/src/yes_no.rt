@@ -14,6 +14,5 @@ pub fn svelgandur_member(
 )
     ensures { MemberPromise image.now message.now item map.old map.new answer.new }
 {
-    let r = deciding::decide(image, message, item as usize, map);
-    answers::of_verdict(answer, r);
+    answers::of(answer, deciding::decide(image, message, item as usize, map));
 }

@@ -6,4 +6,4 @@ use Rattle.svelgandur.proofs.svelgandur_inner_part.Goals as goal
 
 pub returns : goal.returns
 returns c =
-    c.of_place.ensures ∙ ap place_numbers c.find_inner-p.ensures.value
+    c.numbers.ensures ∙ ap place_numbers c.find_inner.ensures.value

@@ -6,4 +6,4 @@ use Rattle.svelgandur.proofs.svelgandur_read_register.Goals as goal
 
 pub returns : goal.returns
 returns c =
-    c.of_reading.ensures ∙ ap (numbers counts) c.read-r.ensures
+    c.of.ensures ∙ ap (numbers counts) c.read.ensures

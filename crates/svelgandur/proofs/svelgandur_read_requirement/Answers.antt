@@ -6,4 +6,4 @@ use Rattle.svelgandur.proofs.svelgandur_read_requirement.Goals as goal
 
 pub returns : goal.returns
 returns c =
-    c.of_message.ensures ∙ message-told _ c.read-r.result c.read-r.ensures
+    c.of.ensures ∙ message-told _ c.read.result c.read.ensures

@@ -2,8 +2,9 @@
 -- Assumes nothing.
 use mathlib.Core.Path.{◌∙◌, ap}
 use Rattle.answers.specs.Numbers.{numbers, degree_numbers}
+use Rattle.answers.proofs.Told.{degree-told}
 use Rattle.svelgandur.proofs.asks.svelgandur_degree.Goals as goal
 
 pub returns : goal.returns
 returns c =
-    (c.of_degree.ensures ∙ ap (numbers degree_numbers) c.degree_of-r.ensures.0, c.degree_of-r.ensures.1)
+    (c.of.ensures ∙ degree-told c.degree_of.result ∙ ap (numbers degree_numbers) c.degree_of.ensures.0, c.degree_of.ensures.1)

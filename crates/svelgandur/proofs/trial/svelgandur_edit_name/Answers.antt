@@ -6,5 +6,5 @@ use Rattle.svelgandur.proofs.trial.svelgandur_edit_name.Goals as goal
 
 pub returns : goal.returns
 returns c =
-    let edited = c.edit-r.ensures.promised in
-    (c.of_count.ensures ∙ ap (numbers in_use) edited.0, edited.1, edited.2)
+    let edited = c.edit.ensures.promised in
+    (c.of.ensures ∙ ap (numbers in_use) edited.0, edited.1, edited.2)

@@ -6,4 +6,4 @@ use Rattle.svelgandur.proofs.trial.svelgandur_keep.Goals as goal
 
 pub returns : goal.returns
 returns c =
-    c.of_count.ensures ∙ ap (numbers in_use) c.keep-r.ensures.promised.0
+    c.of.ensures ∙ ap (numbers in_use) c.keep.ensures.promised.0

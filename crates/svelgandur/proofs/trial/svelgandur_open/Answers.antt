@@ -6,4 +6,4 @@ use Rattle.svelgandur.proofs.trial.svelgandur_open.Goals as goal
 
 pub returns : goal.returns
 returns c =
-    (c.of_count.ensures ∙ ap (numbers in_use) c.open-r.ensures.0, c.open-r.ensures.1)
+    (c.of.ensures ∙ ap (numbers in_use) c.open.ensures.0, c.open.ensures.1)

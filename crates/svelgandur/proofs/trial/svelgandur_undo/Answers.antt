@@ -6,4 +6,4 @@ use Rattle.svelgandur.proofs.trial.svelgandur_undo.Goals as goal
 
 pub returns : goal.returns
 returns c =
-    (c.of_count.ensures ∙ ap (numbers in_use) c.undo-r.ensures.promised.0, c.undo-r.ensures.promised.1)
+    (c.of.ensures ∙ ap (numbers in_use) c.undo.ensures.promised.0, c.undo.ensures.promised.1)

@@ -2,8 +2,9 @@
 -- Assumes nothing.
 use mathlib.Core.Path.{◌∙◌, ap}
 use Rattle.answers.specs.Numbers.{numbers, list_numbers}
+use Rattle.answers.proofs.Told.{list-told}
 use Rattle.svelgandur.proofs.whole_list.svelgandur_list.Goals as goal
 
 pub returns : goal.returns
 returns c =
-    (c.of_list.ensures ∙ ap (numbers list_numbers) c.list_of-r.ensures.0, c.list_of-r.ensures.1)
+    (c.of.ensures ∙ list-told c.list_of.result ∙ ap (numbers list_numbers) c.list_of.ensures.0, c.list_of.ensures.1)

@@ -6,4 +6,4 @@ use Rattle.svelgandur.proofs.writes.svelgandur_write_requirement.Goals as goal
 
 pub returns : goal.returns
 returns c =
-    (c.of_written.ensures ∙ ap (numbers in_use) c.write-r.ensures.0, c.write-r.ensures.1)
+    (c.of.ensures ∙ ap (numbers in_use) c.write.ensures.0, c.write.ensures.1)

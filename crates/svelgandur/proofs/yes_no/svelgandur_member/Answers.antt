@@ -2,8 +2,9 @@
 -- Assumes nothing.
 use mathlib.Core.Path.{◌∙◌, ap}
 use Rattle.answers.specs.Numbers.{numbers, verdicts}
+use Rattle.answers.proofs.Told.{verdict-told}
 use Rattle.svelgandur.proofs.yes_no.svelgandur_member.Goals as goal
 
 pub returns : goal.returns
 returns c =
-    (c.of_verdict.ensures ∙ ap (numbers verdicts) c.decide-r.ensures.0, c.decide-r.ensures.1)
+    (c.of.ensures ∙ verdict-told c.decide.result ∙ ap (numbers verdicts) c.decide.ensures.0, c.decide.ensures.1)
