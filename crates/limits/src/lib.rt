@@ -1,5 +1,7 @@
 // The thresholds of a requirement that is handed over as lists (the crate `lists` says how), and its nodes, put as bytes: the fixed fields of a node, an inner
 // list, one threshold, and those of one node.
+// Kept: a lent output and a place in it (`out`, `at`): `writer::write` promises `sets` of the whole output, bytes behind the message as they were, and each
+// place follows from the counts; a struct round the two would only hold `at`.
 #![tactic(auto)]
 
 ghost use Rattle.std.specs.Prelude.{◌≡◌, ◌+◌, ◌*◌, ◌-◌, ◌/◌, ◌≤◌, ◌<◌, length, get_or};

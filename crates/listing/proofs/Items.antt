@@ -25,6 +25,7 @@ use Rattle.requirement.specs.declared.Message.{Message}
 use Rattle.requirement.specs.Message.{counted as counted_message}
 use Rattle.plain.specs.declared.Plain.{Plain}
 use Rattle.plain.specs.Reading.{PlainOutcome, PlainDone}
+use Rattle.listing.specs.Pieces.{Registered}
 use Rattle.listing.specs.Listing.{lines, degree_head, member_head}
 use Rattle.listing.specs.Listing.{degree_rows, member_rows, listed, listed_items, listing_of, printed, register_end, too_long, most_input, listing}
 
@@ -59,6 +60,13 @@ module _ (image message : List ℕ) (n : ℕ) where
       go (good t) o = refl
       go (refused f) o = absurd o
 
+  pub plain-read : (p : Plain) → PlainDone message (Ok p) → (t : Concept) × (read_plain message ≡ good t)
+  plain-read p done = go (read_plain message) done
+    where
+      go : (a : Answer Concept) → PlainOutcome a (Ok p) → (t : Concept) × (a ≡ good t)
+      go (good t) o = (t, refl)
+      go (refused f) o = absurd o
+
   pub listed-refused : (f : Refusal) → PlainDone message (Err f) → listed image message n [] ≡ refused f
   unfolding listed ◌>>=◌
   listed-refused f done = go (read_plain message) done
@@ -75,6 +83,13 @@ module _ (image message : List ℕ) (n : ℕ) where
         go : (a : Answer (Requirement × List Part)) → good (m.nodes, m.parts) ≡ counted_message a → (a >>= λ x. listed image message n x.1) ≡ listed image message n []
         go (good (q, [])) o = refl
         go (good (q, p ∷ ps)) o = let w : m.parts ≡ suc (length ps) = ap (λ (x : ℕ × ℕ). x.1) (good-inj o) in absurd (omega arith)
+        go (refused f) o = absurd (not_good (sym o))
+
+    pub message-read : (q : Requirement × List Part) × (read_requirement message ≡ good q)
+    message-read = go (read_requirement message) h
+      where
+        go : (a : Answer (Requirement × List Part)) → good (m.nodes, m.parts) ≡ counted_message a → (q : Requirement × List Part) × (a ≡ good q)
+        go (good q) o = (q, refl)
         go (refused f) o = absurd (not_good (sym o))
 
     pub items-ruled : 0 < m.parts → listed_items image message n ≡ good (member_head ++ member_rows image message n)
@@ -97,13 +112,16 @@ module _ (image message : List ℕ) (n : ℕ) where
 
 module _ (image message : List ℕ) where
   pub register-good : (size : Size) → Bytes image → ReadPromise image false (Ok size)
-      → (size.items ≤ most_items) × (listing_of image message ≡ listed_items image message size.items)
+      → (size.items ≤ most_items) × (listing_of image message ≡ listed_items image message size.items) × Registered image size.items
   unfolding listing_of counted
   register-good size b h =
       let q = taken (read_register image) sizes (sym h) in
       let n : size.items ≡ length q.0.names = sym (ap (λ (z : Size). z.items) (good-inj q.2)) in
-      let most = (image-fits image q.0 b (whole-buffer image q.0 b q.1)).0.items in
-      (omega (arith, n, most), took (read_register image) _ q.0 q.1 ∙ ap (listed_items image message) (sym n))
+      let most = (image-fits image q.0 b (whole-buffer image q.0 b q.1)).0.items in (
+        omega (arith, n, most),
+        took (read_register image) _ q.0 q.1 ∙ ap (listed_items image message) (sym n),
+        record { register = q.0; read = q.1; items-are = n },
+      )
 
   pub register-refused : (f : Refusal) → ReadPromise image false (Err f) → listing_of image message ≡ refused f
   unfolding listing_of counted ◌>>=◌

@@ -21,6 +21,7 @@ pub opens-line : (image message : List ℕ) {line text : List ℕ} → line ≡ 
 opens-line image message {line} {text} e = record {
   few = omega arith;
   of = tt;
+  readable = tt;
   whole = sym e ∙ sym (append-nil line) ∙ ap (λ (z : List ℕ). line ++ z) (sym (lines_none (row_in Nothing)));
 }
 

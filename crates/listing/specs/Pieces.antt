@@ -1,9 +1,14 @@
 -- The listing in pieces: what comes first, and then rows, each a text of its own.
 -- Assumes nothing.
-use Rattle.std.specs.Prelude.{◌≡◌, true, false, List, [], ◌++◌, ℕ, ◌≤◌, Result, Ok, Err}
+use Rattle.std.specs.Prelude.{◌≡◌, true, false, List, [], ◌++◌, ℕ, ◌≤◌, length, Result, Ok, Err}
 use Rattle.meaning.specs.declared.Refusal.{Refusal}
 use Rattle.meaning.specs.Refusal.{Answer, good, refused}
 use Rattle.meaning.specs.Bounds.{most_items}
+use Rattle.meaning.specs.Tree.{Concept}
+use Rattle.meaning.specs.Register.{Register, read_register}
+use Rattle.meaning.specs.Requirement.{Requirement}
+use Rattle.meaning.specs.Message.{Part, read_requirement}
+use Rattle.meaning.specs.Calls.{read_plain}
 use Rattle.listing.specs.declared.Rest.{Rest}
 use Rattle.listing.specs.declared.Rest.TheVariants.{Nothing, Degrees, Members}
 use Rattle.listing.specs.declared.Outline.{Outline}
@@ -26,10 +31,23 @@ Of image message Nothing = Unit {0}
 Of image message (Degrees s) = (s.image.now ≡ image) × (s.message.now ≡ message)
 Of image message (Members s) = (s.image.now ≡ image) × (s.message.now ≡ message)
 
+-- a register was read of which there are so many items
+pub record Registered (image : List ℕ) (items : ℕ) : Type 0 where
+  pub register : Register
+  pub read : read_register image ≡ good register
+  pub items-are : items ≡ length register.names
+
+-- what the rows are of was read: a register, and a plain requirement for degrees, any for yes and no
+abbrev pub Readable : Rest → Type 0
+Readable Nothing = Unit {0}
+Readable (Degrees s) = Registered s.image.now s.items × ((t : Concept) × (read_plain s.message.now ≡ good t))
+Readable (Members s) = Registered s.image.now s.items × ((q : Requirement × List Part) × (read_requirement s.message.now ≡ good q))
+
 -- the text is what the first line says, and then the rows of an image and a message
 pub record Opens (image message text : List ℕ) (p : Outline) : Type 0 where
   pub few : rows_in p.rest ≤ most_items
   pub of : Of image message p.rest
+  pub readable : Readable p.rest
   pub whole : text ≡ p.first ++ lines (row_in p.rest) (rows_in p.rest)
 
 -- the text opens with a plan, or it is refused

@@ -6,7 +6,7 @@ use Rattle.std.specs.Prelude.{ℕ}
 use Rattle.std.proofs.lemmas.Result.{err_from_is_err_and}
 use Rattle.fields.proofs.Known.{bytes-known}
 use Rattle.listing.specs.Listing.{degree_rows, member_rows}
-use Rattle.listing.proofs.Items.{listed-degrees, listed-refused, items-plain, items-ruled, items_refused, register-good, register-refused}
+use Rattle.listing.proofs.Items.{listed-degrees, listed-refused, plain-read, message-read, items-plain, items-ruled, items_refused, register-good, register-refused}
 use Rattle.listing.proofs.plan_read.Goals as goal
 
 pub returns-in_err-items : goal.returns-in_err-items
@@ -26,7 +26,12 @@ returns-then-branch-gt0 c =
     let image = c.args.image.now in
     let message = c.args.message.now in
     rw (g.1, items-ruled image message _ _ c.in_ok-read.ensures c.if-branch-gt0.true)
-    (record { few = g.0; of = (refl, refl); whole = ap (λ (z : List ℕ). z ++ member_rows image message c.in_ok-items.field-0.items) (sym c.line_of.ensures) })
+    (record {
+      few = g.0;
+      of = (refl, refl);
+      readable = (g.2, message-read image message c.in_ok-items.field-0.items _ c.in_ok-read.ensures);
+      whole = ap (λ (z : List ℕ). z ++ member_rows image message c.in_ok-items.field-0.items) (sym c.line_of.ensures);
+    })
 
 pub returns-in_err-read_plain : goal.returns-in_err-read_plain
 returns-in_err-read_plain c =
@@ -41,4 +46,9 @@ returns c =
     let image = c.args.image.now in
     let message = c.args.message.now in
     rw (g.1, items-plain image message _ _ c.in_ok-read.ensures c.if-branch-gt0.false, listed-degrees image message _ _ c.in_ok-read_plain.ensures)
-    (record { few = g.0; of = (refl, refl); whole = ap (λ (z : List ℕ). z ++ degree_rows image message c.in_ok-items.field-0.items) (sym c.line_of-2.ensures) })
+    (record {
+      few = g.0;
+      of = (refl, refl);
+      readable = (g.2, plain-read image message c.in_ok-items.field-0.items _ c.in_ok-read_plain.ensures);
+      whole = ap (λ (z : List ℕ). z ++ degree_rows image message c.in_ok-items.field-0.items) (sym c.line_of-2.ensures);
+    })
