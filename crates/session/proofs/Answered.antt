@@ -11,18 +11,21 @@ use Rattle.std.proofs.lemmas.List.Edits.{paste_all}
 use Rattle.std.proofs.lemmas.Slice.{put_mid-paste}
 use borrow.Rule.Slice.PartMut.{put_mid}
 use lib.Dec.{ltb, eqb, eqb→eq}
-use lib.ListN.{length, set, take, drop, length-take, length-drop, length-replicate}
+use lib.ListN.{get_or, length, set, take, drop, length-take, length-drop, length-replicate}
 use Rattle.meaning.specs.declared.Fact.{Fact}
 use Rattle.meaning.specs.declared.Fact.TheVariants.{Name as name_on, Link as link_of}
 use Rattle.meaning.specs.declared.Step.{Step}
 use Rattle.meaning.specs.declared.Refusal.{Refusal}
 use Rattle.meaning.specs.Bounds.{most_items, most_steps}
 use Rattle.meaning.specs.Refusal.{Answer, good, refused, on_call, refuse_if, ◌>>=◌, ◌>>◌}
+use mir.Syntax.{w8}
+use mir.Val.{Fits}
+use Rattle.fields.proofs.Known.{bytes-known}
 use Rattle.meaning.specs.Bytes.{Bytes}
 use Rattle.meaning.specs.Register.{Register, is_fact, encode, read_buffer}
 use Rattle.meaning.specs.Session.{zeros, set_fact, cleared, room, out_of_range, role_above, no_place, Changed}
 use Rattle.meaning.specs.Session.{open_call, edit_call, undo_call, keep_call, no_steps, counted, buffer_opened, buffer_after}
-use Rattle.meaning.proofs.Tests.{is_false, neither}
+use Rattle.meaning.proofs.Tests.{is_true, is_false, is-eqb, neither}
 use Rattle.meaning.proofs.Reading.{good-inj, pass, stop, stopped, took, below, not-below}
 use Rattle.meaning.proofs.Image.{image-length, image-fits}
 use Rattle.meaning.proofs.SessionFacts.{Sounds, sounds}
@@ -37,25 +40,16 @@ use Rattle.setting.specs.Setting.{Ranged, SettingOf}
 use Rattle.session.specs.Calls.{Counted, paper_count, paper_edit, was_before, an_edit, records_after}
 use Rattle.setting.proofs.Changes.{image-first}
 
--- ---- tests of a fact
-
-pub ranged : (n : ℕ) (f : Fact) (x y : Bool) → x ≡ out_of_range n f → x ≡ false → y ≡ role_above f → y ≡ false → Ranged n f
-ranged n f x y e d i j = go f (sounds n f (sym e ∙ d) (sym i ∙ j))
-  where
-    go : (f : Fact) → Sounds n f → Ranged n f
-    go (name_on a b) q = (q.0, omega (arith, q.1))
-    go (link_of a b c) q = q
-
 -- ---- an answer that a call hands on
 
 -- `ok_or`, told back
-pub was_none : {A : Type 0} (o : Option A) (x y : Refusal) → Err x ≡ ok_or o y → (o ≡ None) × (x ≡ y)
-was_none None x y e = (refl, cc)
-was_none (Some v) x y e = cc
+was_none : {A : Type 0} (o : Option A) {x : Refusal} (y : Refusal) → Err x ≡ ok_or o y → (o ≡ None) × (x ≡ y)
+was_none None y e = (refl, cc)
+was_none (Some v) y e = cc
 
-pub was_some : {A : Type 0} (o : Option A) (v : A) (y : Refusal) → Ok v ≡ ok_or o y → o ≡ Some v
-was_some None v y e = cc
-was_some (Some w) v y e = cc
+was_some : {A : Type 0} (o : Option A) {v : A} (y : Refusal) → Ok v ≡ ok_or o y → o ≡ Some v
+was_some None y e = cc
+was_some (Some w) y e = cc
 
 -- what `fill` leaves of a buffer whose end it zeros
 pub filled : (s : List ℕ) (from : ℕ) (ys : List ℕ) → from ≤ length s → ys ≡ zeros (length (take (length s - from) (drop from s)))
@@ -71,13 +65,13 @@ filled s from ys h d =
 
 -- ---- the register
 
-pub read-sizes : (s : List ℕ) → Bytes s → (z : Size) → ReadPromise s true (Ok z) → OfSize s z.items z.links
-read-sizes s by z d = of_size s z.items z.links (size-read s true z by d)
+pub read-sizes : (s : List ℕ) (z : Size) → ((i : ℕ) → Fits w8 (get_or s i 0)) → ReadPromise s true (Ok z) → OfSize s z.items z.links
+read-sizes s z by d = of_size s z.items z.links (size-read s true z (bytes-known s by) d)
 
 pub refused-inj : {A : Type 0} {x y : Refusal} → ◌≡◌ {A = Answer A} (refused x) (refused y) → x ≡ y
 refused-inj e = cc
 
-pub read-refused : (s : List ℕ) (x : Refusal) → ReadPromise s true (Err x) → read_buffer s ≡ refused x
+read-refused : (s : List ℕ) (x : Refusal) → ReadPromise s true (Err x) → read_buffer s ≡ refused x
 unfolding sized ◌>>=◌
 read-refused s x d = go (read_buffer s) d
   where
@@ -95,69 +89,69 @@ module _ (s : List ℕ) (log count : ℕ) (f : Fact) (v : Bool) where
   abbrev Ends : List ℕ → Result Edited Refusal → Type 0
   Ends t r = (paper_edit r ≡ was_before f answer) × (t ≡ buffer_after s answer)
 
-  pub edit-no : (x y : Refusal) → x ≡ y → answer ≡ refused y → Ends s (Err x)
+  edit-no : (x y : Refusal) → x ≡ y → answer ≡ refused y → Ends s (Err x)
   unfolding buffer_after
   edit-no x y e d = (ap refused e ∙ sym (ap (was_before f) d), sym (ap (buffer_after s) d))
 
-  pub edit-unread : (x : Refusal) → read_buffer s ≡ refused x → Ends s (Err x)
+  pub edit-unread : (x : Refusal) → ReadPromise s true (Err x) → Ends s (Err x)
   unfolding edit_call
-  edit-unread x e = edit-no x x refl (stopped (read_buffer s) _ x e)
+  edit-unread x e = edit-no _ _ refl (stopped (read_buffer s) _ x (read-refused s x e))
 
-  module _ (items links n : ℕ) (range role : Bool) (a : OfSize s items links) (en : n ≡ min log most_steps)
-      (er : range ≡ out_of_range items f) (el : role ≡ role_above f) where
+  module _ {n : ℕ} (en : n ≡ min log most_steps) (items links : ℕ) (a : OfSize s items links) where
     abbrev g : Register
     g = a.register
 
-    out : out_of_range (length g.names) f ≡ range
-    out = ap (λ (z : ℕ). out_of_range z f) (sym a.holds.0) ∙ sym er
-
-    pub edit-17 : n < count → answer ≡ refused (on_call 17)
+    pub edit-17 : (x : Refusal) → n < count → x ≡ on_call 17 → Ends s (Err x)
     unfolding edit_call
-    edit-17 h = took (read_buffer s) _ g a.read ∙ stop (ltb (room log) count) _ _ (below (room log) count (omega arith))
+    edit-17 x h e = edit-no _ _ e (took (read_buffer s) _ g a.read ∙ stop (ltb (room log) count) _ _ (below (room log) count (omega arith)))
 
-    pub edit-15 : count ≤ n → range ≡ true → answer ≡ refused (on_call 15)
-    unfolding edit_call
-    edit-15 h r =
-        took (read_buffer s) _ g a.read ∙ pass (ltb (room log) count) _ _ (not-below (room log) count (omega arith))
-        ∙ stop (out_of_range (length g.names) f) _ _ (out ∙ r)
+    module _ (h : count ≤ n) {range : Bool} (er : range ≡ out_of_range items f) where
+      out : out_of_range (length g.names) f ≡ range
+      out = ap (λ (z : ℕ). out_of_range z f) (sym a.holds.0) ∙ sym er
 
-    pub edit-7 : count ≤ n → range ≡ false → role ≡ true → answer ≡ refused (on_call 7)
-    unfolding edit_call
-    edit-7 h r l =
-        took (read_buffer s) _ g a.read ∙ pass (ltb (room log) count) _ _ (not-below (room log) count (omega arith))
-        ∙ pass (out_of_range (length g.names) f) _ _ (out ∙ r) ∙ stop (role_above f) _ _ (sym el ∙ l)
+      in_use : ltb (room log) count ≡ false
+      in_use = not-below (room log) count (omega arith)
 
-    module _ (h : count ≤ n) (r : range ≡ false) (l : role ≡ false) where
-      to_room : {B : Type 0} (k : Answer B)
-          → (refuse_if (ltb (room log) count) (on_call 17) >> (refuse_if (out_of_range (length g.names) f) (on_call 15) >> (refuse_if (role_above f) (on_call 7) >> k))) ≡ k
-      to_room k =
-          pass (ltb (room log) count) _ _ (not-below (room log) count (omega arith)) ∙ pass (out_of_range (length g.names) f) _ _ (out ∙ r)
-          ∙ pass (role_above f) _ _ (sym el ∙ l)
-
-      pub edit-18 : count ≡ n → answer ≡ refused (on_call 18)
+      pub edit-15 : (x : Refusal) → range ≡ true → x ≡ on_call 15 → Ends s (Err x)
       unfolding edit_call
-      edit-18 e =
-          took (read_buffer s) _ g a.read ∙ to_room _
-          ∙ stop (eqb count (room log)) _ _ (Rattle.meaning.proofs.Tests.is_true (eqb count (room log)) (Rattle.meaning.proofs.Tests.is-eqb (e ∙ en)))
+      edit-15 x r e = edit-no _ _ e (took (read_buffer s) _ g a.read ∙ pass (ltb (room log) count) _ _ in_use ∙ stop (out_of_range (length g.names) f) _ _ (out ∙ r))
 
-      module _ (less : count ≡ n → ⊥) where
-        to-place : answer ≡ (refuse_if (no_place s g v f) (on_call 20) >> good (record { before = g; after = set_fact v f g; count = count + 1 }))
+      module _ (r : range ≡ false) {role : Bool} (el : role ≡ role_above f) where
+        pub edit-7 : (x : Refusal) → role ≡ true → x ≡ on_call 7 → Ends s (Err x)
         unfolding edit_call
-        to-place =
-            took (read_buffer s) _ g a.read ∙ to_room _
-            ∙ pass (eqb count (room log)) _ _ (is_false (eqb count (room log)) (λ t. less (eqb→eq count (room log) t ∙ sym en)))
+        edit-7 x l e =
+            edit-no _ _ e (took (read_buffer s) _ g a.read ∙ pass (ltb (room log) count) _ _ in_use
+            ∙ pass (out_of_range (length g.names) f) _ _ (out ∙ r) ∙ stop (role_above f) _ _ (sym el ∙ l))
 
-        pub edit-full : (x : Refusal) (t : List ℕ) (set : Option Bool) → x ≡ on_call 20 → set ≡ None → SettingOf s f v t set → Ends t (Err x)
-        edit-full x t set e d b =
-            let q = subst (λ (z : Option Bool). SettingOf s f v t z) d b g a.read in
-            subst (λ (z : List ℕ). Ends z (Err x)) (sym q.1) (edit-no x (on_call 20) e (to-place ∙ stop (no_place s g v f) _ _ q.0))
+        module _ (l : role ≡ false) where
+          to_room : {B : Type 0} (k : Answer B)
+              → (refuse_if (ltb (room log) count) (on_call 17) >> (refuse_if (out_of_range (length g.names) f) (on_call 15) >> (refuse_if (role_above f) (on_call 7) >> k))) ≡ k
+          to_room k =
+              pass (ltb (room log) count) _ _ in_use ∙ pass (out_of_range (length g.names) f) _ _ (out ∙ r) ∙ pass (role_above f) _ _ (sym el ∙ l)
 
-        pub edit-done : (was : Bool) (t : List ℕ) (set : Option Bool) → set ≡ Some was → SettingOf s f v t set → Ends t (Ok (record { was = was; count = count + 1 }))
-        unfolding buffer_after
-        edit-done was t set d b =
-            let q = subst (λ (z : Option Bool). SettingOf s f v t z) d b g a.read in
-            let e = to-place ∙ pass (no_place s g v f) _ _ q.0 in
-            (ap (λ (z : Bool). good (record { was = z; count = count + 1 })) q.1 ∙ sym (ap (was_before f) e), q.2 ∙ sym (ap (buffer_after s) e))
+          pub edit-18 : (x : Refusal) → count ≡ n → x ≡ on_call 18 → Ends s (Err x)
+          unfolding edit_call
+          edit-18 x i e = edit-no _ _ e (took (read_buffer s) _ g a.read ∙ to_room _ ∙ stop (eqb count (room log)) _ _ (is_true (eqb count (room log)) (is-eqb (i ∙ en))))
+
+          module _ (less : count ≡ n → ⊥) (t : List ℕ) (o : Option Bool) (b : SettingOf s f v t o) (y : Refusal) where
+            to-place : answer ≡ (refuse_if (no_place s g v f) (on_call 20) >> good (record { before = g; after = set_fact v f g; count = count + 1 }))
+            unfolding edit_call
+            to-place =
+                took (read_buffer s) _ g a.read ∙ to_room _
+                ∙ pass (eqb count (room log)) _ _ (is_false (eqb count (room log)) (λ z. less (eqb→eq count (room log) z ∙ sym en)))
+
+            pub edit-full : (x : Refusal) → Err x ≡ ok_or o y → y ≡ on_call 20 → Ends t (Err x)
+            edit-full x e i =
+                let w = was_none o y e in
+                let q = subst (λ (z : Option Bool). SettingOf s f v t z) w.0 b g a.read in
+                subst (λ (z : List ℕ). Ends z (Err x)) (sym q.1) (edit-no _ _ (w.1 ∙ i) (to-place ∙ stop (no_place s g v f) _ _ q.0))
+
+            pub edit-done : (was : Bool) → Ok was ≡ ok_or o y → Ends t (Ok (record { was = was; count = count + 1 }))
+            unfolding buffer_after
+            edit-done was e =
+                let q = subst (λ (z : Option Bool). SettingOf s f v t z) (was_some o y e) b g a.read in
+                let d = to-place ∙ pass (no_place s g v f) _ _ q.0 in
+                (ap (λ (z : Bool). good (record { was = z; count = count + 1 })) q.1 ∙ sym (ap (was_before f) d), q.2 ∙ sym (ap (buffer_after s) d))
 
 -- ---- an undo
 
@@ -168,34 +162,33 @@ module _ (s : List ℕ) (log count : ℕ) (last : Step) where
   abbrev Finished : List ℕ → Counted → Type 0
   Finished t r = (paper_count r ≡ counted undone) × (t ≡ buffer_after s undone)
 
-  pub undo-no : (x y : Refusal) → x ≡ y → undone ≡ refused y → Finished s (Err x)
+  undo-no : (x y : Refusal) → x ≡ y → undone ≡ refused y → Finished s (Err x)
   unfolding buffer_after counted
   undo-no x y e d = (ap refused e ∙ sym (ap counted d), sym (ap (buffer_after s) d))
 
-  pub undo-unread : (x : Refusal) → read_buffer s ≡ refused x → Finished s (Err x)
+  pub undo-unread : (x : Refusal) → ReadPromise s true (Err x) → Finished s (Err x)
   unfolding undo_call
-  undo-unread x e = undo-no x x refl (stopped (read_buffer s) _ x e)
+  undo-unread x e = undo-no _ _ refl (stopped (read_buffer s) _ x (read-refused s x e))
 
-  module _ (items links n : ℕ) (range role : Bool) (a : OfSize s items links) (en : n ≡ min log most_steps)
-      (er : range ≡ out_of_range items last.fact) (el : role ≡ role_above last.fact) where
+  module _ {n : ℕ} (en : n ≡ min log most_steps) (items links : ℕ) (a : OfSize s items links) where
     abbrev k : Register
     k = a.register
 
-    beyond : out_of_range (length k.names) last.fact ≡ range
-    beyond = ap (λ (z : ℕ). out_of_range z last.fact) (sym a.holds.0) ∙ sym er
-
-    pub undo-17 : n < count → undone ≡ refused (on_call 17)
+    pub undo-17 : (x : Refusal) → n < count → x ≡ on_call 17 → Finished s (Err x)
     unfolding undo_call
-    undo-17 h = took (read_buffer s) _ k a.read ∙ stop (ltb (room log) count) _ _ (below (room log) count (omega arith))
+    undo-17 x h e = undo-no _ _ e (took (read_buffer s) _ k a.read ∙ stop (ltb (room log) count) _ _ (below (room log) count (omega arith)))
 
     module _ (h : count ≤ n) where
-      pub undo-19 : count ≡ 0 → undone ≡ refused (on_call 19)
+      pub undo-19 : (x : Refusal) → count ≡ 0 → x ≡ on_call 19 → Finished s (Err x)
       unfolding undo_call
-      undo-19 z =
-          took (read_buffer s) _ k a.read ∙ pass (ltb (room log) count) _ _ (not-below (room log) count (omega arith))
-          ∙ stop (eqb count 0) _ _ (Rattle.meaning.proofs.Tests.is_true (eqb count 0) (Rattle.meaning.proofs.Tests.is-eqb z))
+      undo-19 x z e =
+          undo-no _ _ e (took (read_buffer s) _ k a.read ∙ pass (ltb (room log) count) _ _ (not-below (room log) count (omega arith))
+          ∙ stop (eqb count 0) _ _ (is_true (eqb count 0) (is-eqb z)))
 
-      module _ (used : count ≡ 0 → ⊥) where
+      module _ (used : count ≡ 0 → ⊥) {range : Bool} (er : range ≡ out_of_range items last.fact) where
+        beyond : out_of_range (length k.names) last.fact ≡ range
+        beyond = ap (λ (z : ℕ). out_of_range z last.fact) (sym a.holds.0) ∙ sym er
+
         to_step : undone ≡ (refuse_if (out_of_range (length k.names) last.fact || role_above last.fact) (on_call 17)
             >> (refuse_if (no_place s k last.was last.fact) (on_call 20) >> good (record { before = k; after = set_fact last.was last.fact k; count = count - 1 })))
         unfolding undo_call
@@ -203,33 +196,32 @@ module _ (s : List ℕ) (log count : ℕ) (last : Step) where
             took (read_buffer s) _ k a.read ∙ pass (ltb (room log) count) _ _ (not-below (room log) count (omega arith))
             ∙ pass (eqb count 0) _ _ (is_false (eqb count 0) (λ t. used (eqb→eq count 0 t)))
 
-        pub undo-range : range ≡ true → undone ≡ refused (on_call 17)
-        undo-range r =
-            to_step ∙ stop (out_of_range (length k.names) last.fact || role_above last.fact) _ _
-            (ap (λ (b : Bool). b || role_above last.fact) (beyond ∙ r))
+        pub undo-range : (x : Refusal) → range ≡ true → x ≡ on_call 17 → Finished s (Err x)
+        undo-range x r e =
+            undo-no _ _ e (to_step ∙ stop (out_of_range (length k.names) last.fact || role_above last.fact) _ _ (ap (λ (b : Bool). b || role_above last.fact) (beyond ∙ r)))
 
-        pub undo-role : range ≡ false → role ≡ true → undone ≡ refused (on_call 17)
-        undo-role r l =
-            to_step ∙ stop (out_of_range (length k.names) last.fact || role_above last.fact) _ _
-            (ap₂ ◌||◌ (beyond ∙ r) (sym el ∙ l))
+        module _ (r : range ≡ false) {role : Bool} (el : role ≡ role_above last.fact) where
+          pub undo-role : (x : Refusal) → role ≡ true → x ≡ on_call 17 → Finished s (Err x)
+          undo-role x l e = undo-no _ _ e (to_step ∙ stop (out_of_range (length k.names) last.fact || role_above last.fact) _ _ (ap₂ ◌||◌ (beyond ∙ r) (sym el ∙ l)))
 
-        module _ (r : range ≡ false) (l : role ≡ false) where
-          to-undo : undone ≡ (refuse_if (no_place s k last.was last.fact) (on_call 20) >> good (record { before = k; after = set_fact last.was last.fact k; count = count - 1 }))
-          to-undo =
-              to_step ∙ pass (out_of_range (length k.names) last.fact || role_above last.fact) _ _
-              (neither (out_of_range (length k.names) last.fact) (role_above last.fact) (beyond ∙ r) (sym el ∙ l))
+          module _ (l : role ≡ false) (t : List ℕ) (o : Option Bool) (b : SettingOf s last.fact last.was t o) (y : Refusal) where
+            to-undo : undone ≡ (refuse_if (no_place s k last.was last.fact) (on_call 20) >> good (record { before = k; after = set_fact last.was last.fact k; count = count - 1 }))
+            to-undo =
+                to_step ∙ pass (out_of_range (length k.names) last.fact || role_above last.fact) _ _
+                (neither (out_of_range (length k.names) last.fact) (role_above last.fact) (beyond ∙ r) (sym el ∙ l))
 
-          pub undo-full : (x : Refusal) (t : List ℕ) (set : Option Bool) → x ≡ on_call 20 → set ≡ None → SettingOf s last.fact last.was t set → Finished t (Err x)
-          undo-full x t set e d b =
-              let q = subst (λ (z : Option Bool). SettingOf s last.fact last.was t z) d b k a.read in
-              subst (λ (z : List ℕ). Finished z (Err x)) (sym q.1) (undo-no x (on_call 20) e (to-undo ∙ stop (no_place s k last.was last.fact) _ _ q.0))
+            pub undo-full : (x : Refusal) → Err x ≡ ok_or o y → y ≡ on_call 20 → Finished t (Err x)
+            undo-full x e i =
+                let w = was_none o y e in
+                let q = subst (λ (z : Option Bool). SettingOf s last.fact last.was t z) w.0 b k a.read in
+                subst (λ (z : List ℕ). Finished z (Err x)) (sym q.1) (undo-no _ _ (w.1 ∙ i) (to-undo ∙ stop (no_place s k last.was last.fact) _ _ q.0))
 
-          pub undo-done : (was : Bool) (t : List ℕ) (set : Option Bool) → set ≡ Some was → SettingOf s last.fact last.was t set → Finished t (Ok (count - 1))
-          unfolding buffer_after counted
-          undo-done was t set d b =
-              let q = subst (λ (z : Option Bool). SettingOf s last.fact last.was t z) d b k a.read in
-              let e = to-undo ∙ pass (no_place s k last.was last.fact) _ _ q.0 in
-              (sym (ap counted e), q.2 ∙ sym (ap (buffer_after s) e))
+            pub undo-done : (was : Bool) → Ok was ≡ ok_or o y → Finished t (Ok (count - 1))
+            unfolding buffer_after counted
+            undo-done was e =
+                let q = subst (λ (z : Option Bool). SettingOf s last.fact last.was t z) (was_some o y e) b k a.read in
+                let d = to-undo ∙ pass (no_place s k last.was last.fact) _ _ q.0 in
+                (sym (ap counted d), q.2 ∙ sym (ap (buffer_after s) d))
 
 -- ---- opening and keep
 
@@ -237,36 +229,39 @@ module _ (s : List ℕ) where
   abbrev Opens : List ℕ → Counted → Type 0
   Opens t r = (paper_count r ≡ no_steps (open_call s)) × (t ≡ buffer_opened s (open_call s))
 
-  pub open-unread : (x : Refusal) → read_buffer s ≡ refused x → Opens s (Err x)
+  pub open-unread : (x : Refusal) → ReadPromise s true (Err x) → Opens s (Err x)
   unfolding open_call buffer_opened no_steps
-  open-unread x e = let d = stopped (read_buffer s) _ x e in (sym (ap no_steps d), sym (ap (buffer_opened s) d))
+  open-unread x e = let d = stopped (read_buffer s) _ x (read-refused s x e) in (sym (ap no_steps d), sym (ap (buffer_opened s) d))
 
-  pub open_done : (by : Bytes s) (items links at : ℕ) (t : List ℕ) → at ≡ image_length items links → OfSize s items links
+  pub open_done : (items links at : ℕ) (t : List ℕ) → ((i : ℕ) → Fits w8 (get_or s i 0)) → OfSize s items links → at ≡ image_length items links
       → t ≡ take at s ++ zeros (length s - at) → Opens t (Ok 0)
   unfolding open_call buffer_opened no_steps cleared
-  open_done by items links at t ea a e =
+  open_done items links at t by a ea e =
       let g = a.register in
       let d = took (read_buffer s) (λ g. good g) g a.read in
       let l : at ≡ length (encode g) = omega (arith, image-length g, a.holds.0, a.holds.1) in
       let f : take (length (encode g)) s ≡ encode g =
-      ap (take (length (encode g))) (image-first s g by a.read) ∙ lib.Seq.take-append_seam (encode g) (drop (length (encode g)) s) in (
+      ap (take (length (encode g))) (image-first s g (bytes-known s by) a.read) ∙ lib.Seq.take-append_seam (encode g) (drop (length (encode g)) s) in (
         sym (ap no_steps d),
         e ∙ ap (λ (k : ℕ). take k s ++ zeros (length s - k)) l ∙ ap (λ (z : List ℕ). z ++ zeros (length s - length (encode g))) f ∙ sym (ap (buffer_opened s) d),
       )
 
 module _ (s : List ℕ) (log count : ℕ) where
-  pub keep-unread : (x : Refusal) → read_buffer s ≡ refused x → paper_count (Err x) ≡ no_steps (keep_call s log count)
-  unfolding keep_call no_steps
-  keep-unread x e = sym (ap no_steps (stopped (read_buffer s) _ x e))
+  abbrev Keeps : Counted → Type 0
+  Keeps r = paper_count r ≡ no_steps (keep_call s log count)
 
-  pub keep-17 : (n : ℕ) (g : Register) (x : Refusal) → x ≡ on_call 17 → read_buffer s ≡ good g → n ≡ min log most_steps → n < count → paper_count (Err x) ≡ no_steps (keep_call s log count)
+  pub keep-unread : (x : Refusal) → ReadPromise s true (Err x) → Keeps (Err x)
   unfolding keep_call no_steps
-  keep-17 n g x e r en h =
-      ap refused e ∙ sym (ap no_steps (took (read_buffer s) _ g r ∙ stop (ltb (room log) count) _ _ (below (room log) count (omega arith))))
+  keep-unread x e = sym (ap no_steps (stopped (read_buffer s) _ x (read-refused s x e)))
 
-  pub keep-done : (n : ℕ) (g : Register) → read_buffer s ≡ good g → n ≡ min log most_steps → count ≤ n → paper_count (Ok 0) ≡ no_steps (keep_call s log count)
-  unfolding keep_call no_steps
-  keep-done n g r en h = sym (ap no_steps (took (read_buffer s) _ g r ∙ pass (ltb (room log) count) _ _ (not-below (room log) count (omega arith))))
+  module _ {n : ℕ} (en : n ≡ min log most_steps) (items links : ℕ) (a : OfSize s items links) where
+    pub keep-17 : (x : Refusal) → n < count → x ≡ on_call 17 → Keeps (Err x)
+    unfolding keep_call no_steps
+    keep-17 x h e = ap refused e ∙ sym (ap no_steps (took (read_buffer s) _ a.register a.read ∙ stop (ltb (room log) count) _ _ (below (room log) count (omega arith))))
+
+    pub keep-done : count ≤ n → Keeps (Ok 0)
+    unfolding keep_call no_steps
+    keep-done h = sym (ap no_steps (took (read_buffer s) _ a.register a.read ∙ pass (ltb (room log) count) _ _ (not-below (room log) count (omega arith))))
 
 -- ---- what an accepted edit says
 

@@ -256,9 +256,6 @@ module _ {s : List ℕ} {a r c items links number k : ℕ} {there : Bool} (w : L
 
 -- ---- either fact
 
-pub link_set : (s t : List ℕ) (f h : Fact) (v : Bool) (r : Option Bool) → f ≡ h → SettingOf s h v t r → SettingOf s f v t r
-link_set s t f h v r e = subst (λ (z : Fact). SettingOf s z v t r) (sym e)
-
 pub name_set : (s t : List ℕ) (f : Fact) (i k : ℕ) (v r : Bool) → f ≡ name_on i k → Image s (λ g. r ≡ is_fact g (name_on i k))
     → Image s (λ g. t ≡ rewritten s g (set_fact v (name_on i k) g)) → SettingOf s f v t (Some r)
 name_set s t f i k v r e was buffer =
