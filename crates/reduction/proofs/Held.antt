@@ -8,7 +8,7 @@ use Rattle.meaning.specs.Tree.{Concept}
 use Rattle.meaning.specs.Rows.{Holds}
 use Rattle.rows.specs.Rising.{Rising}
 use Rattle.rows.proofs.Rising.{rising}
-use Rattle.meaning.proofs.Rows.{opened, first, holds-ended}
+use Rattle.meaning.proofs.Rows.{opened, first, holds_f-le, holds-ended}
 use Rattle.reduction.specs.Held.{Held, HeldF, ForTree}
 
 module _ (names roles ends : List ℕ) (left : ℕ) where
@@ -28,6 +28,9 @@ module _ (names roles ends : List ℕ) (left : ℕ) where
       let o = opened names roles ends h.tree left i (get_or ends i 0) h.holds in
       let l : get_or ends i 0 ≤ 64 = h.fits in
       omega arith
+
+  pub reaches : (i e : ℕ) → HeldF names roles ends left i e → i ≤ e
+  reaches i e h = holds_f-le names roles ends h.trees left i e h.holds
 
   -- where they stand one after the other, each ends after itself
   pub rise : (i e : ℕ) → HeldF names roles ends left i e → Rising ends i e

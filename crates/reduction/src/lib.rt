@@ -101,8 +101,7 @@ fn yields(tree: &Tree, c: usize, d: usize, left: usize) -> bool
 // Whether each child of the node is alone under its role, so that none is dropped. Roles are compared modulo 64:
 // a wrong `false` costs time and nothing else.
 fn apart(tree: &Tree, node: usize) -> bool
-    requires row { node < 64 }
-    requires children { Children tree.now.roles tree.now.ends (node + 1) (slice_index tree.now.ends node) }
+    requires { Children tree.now.roles tree.now.ends (node + 1) (slice_index tree.now.ends node) }
     ensures { KeptIf tree.now.roles tree.now.ends (node + 1) (slice_index tree.now.ends node) result }
 {
     let mut seen: u64 = 0;
@@ -118,7 +117,6 @@ fn apart(tree: &Tree, node: usize) -> bool
 
 // Whether the node's child at c is dropped; `alone`: each child is alone under its role.
 fn dropped(tree: &Tree, node: usize, c: usize, left: usize, alone: bool) -> bool
-    requires row { node < 64 }
     requires sibling { Sibling tree.now.names tree.now.roles tree.now.ends left (node + 1) c (slice_index tree.now.ends node) }
     requires kept_if { KeptIf tree.now.roles tree.now.ends (node + 1) (slice_index tree.now.ends node) alone }
     ensures { TestsDropped tree.now.names tree.now.roles tree.now.ends left (node + 1) c (slice_index tree.now.ends node) result }
@@ -157,7 +155,6 @@ fn mark(tree: &Tree, marks: &mut [u8; 64], node: usize, left: usize)
 // Marks the node's child at c, and what is below it if it is kept.
 #[cycle(marking)]
 fn mark_child(tree: &Tree, marks: &mut [u8; 64], node: usize, c: usize, left: usize, alone: bool)
-    requires row { node < 64 }
     requires sibling { Sibling tree.now.names tree.now.roles tree.now.ends left (node + 1) c (slice_index tree.now.ends node) }
     requires kept_if { KeptIf tree.now.roles tree.now.ends (node + 1) (slice_index tree.now.ends node) alone }
     ensures { MarkedChild tree.now.names tree.now.roles tree.now.ends left marks.old marks.new (node + 1) c (slice_index tree.now.ends node) }

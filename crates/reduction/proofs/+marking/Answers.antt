@@ -8,7 +8,7 @@ use Rattle.reduction.proofs.+marking.Goals as goal
 
 pub mark-apart-alone-requires : goal.mark-apart-alone-requires
 mark-apart-alone-requires t c =
-    record { row = in-range _ _ _ _ c.requires; children = below _ _ _ _ _ c.requires refl }
+    below _ _ _ _ _ c.requires refl
 
 pub mark-children-child-items-requires : goal.mark-children-child-items-requires
 mark-children-child-items-requires t c =
@@ -29,7 +29,7 @@ mark-mark_child-requires t c =
     let g = turn c.loop-child.invariant.going c.in-Some.ensures.goes.keeps c.in-Some.ensures.steps in
     let o = inside _ _ _ _ _ c.requires in
     let s = next-child _ _ _ _ _ _ _ _ (rw g.here at c.loop-child.invariant.marking) c.requires g.inside in
-    (omega arith, (in-range _ _ _ _ c.requires, (s, c.apart-alone.ensures)))
+    (omega arith, (s, c.apart-alone.ensures))
 
 pub mark-loop-child-preserved : goal.mark-loop-child-preserved
 mark-loop-child-preserved t c =

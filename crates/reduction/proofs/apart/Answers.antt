@@ -4,20 +4,25 @@ use native.Mathlib.Omega.{arith}
 use mathlib.Core.Path.{◌∙◌, sym}
 use Rattle.std.proofs.Common.{rules}
 use Rattle.rows.proofs.Going.{begins, turn, ended}
-use Rattle.reduction.proofs.Held.{rise}
+use Rattle.reduction.proofs.Held.{reaches, rise}
 use Rattle.reduction.proofs.Alone.{gather-start, gather-twice, gather-all, gather-next}
 use Rattle.reduction.proofs.apart.Goals as goal
+
+pub children-child-items-requires : goal.children-child-items-requires
+children-child-items-requires c =
+    let l = reaches _ _ _ _ _ _ c.requires.held in
+    let f = c.requires.held.fits in omega arith
 
 pub loop-child-init : goal.loop-child-init
 loop-child-init c =
     let b = c.children-child-items.ensures in
-    let g = begins c.into_iter-child-iterator.ensures.into_iter_gives b.ends b.from b.end (rise _ _ _ _ _ _ c.requires.children.held) in
+    let g = begins c.into_iter-child-iterator.ensures.into_iter_gives b.ends b.from b.end (rise _ _ _ _ _ _ c.requires.held) in
     record { going = g.0; gathering = rw g.1 (gather-start _ _ _ _) }
 
 pub bounds-tree-child : goal.bounds-tree-child
 bounds-tree-child c =
     let g = turn c.loop-child.invariant.going c.in-Some.ensures.goes.keeps c.in-Some.ensures.steps in
-    let f = c.requires.children.held.fits in omega arith
+    let f = c.requires.held.fits in omega arith
 
 pub returns-then-on : goal.returns-then-on
 returns-then-on c =

@@ -1,11 +1,17 @@
+use native.Mathlib.Omega.{arith}
 use Rattle.std.proofs.Common.{rules, ◌≡◌, get_or}
-use Rattle.reduction.proofs.Held.{in-range}
+use Rattle.reduction.proofs.Held.{in-range, reaches}
 use Rattle.reduction.proofs.Subsumed.{drop-before, drop-after}
 use Rattle.reduction.proofs.dropped.Goals as goal
 
 pub returns-then-alone : goal.returns-then-alone
 returns-then-alone c =
     c.requires.kept_if c.if-alone.true _ _ _
+
+pub overflow_add-node : goal.overflow_add-node
+overflow_add-node c =
+    let a = in-range _ _ _ _ c.requires.sibling.here in
+    let l = reaches _ _ _ _ _ _ c.requires.sibling.before in omega arith
 
 pub subsumes_one-requires : goal.subsumes_one-requires
 subsumes_one-requires c =
@@ -17,6 +23,11 @@ pub returns-then-subsumes_one : goal.returns-then-subsumes_one
 returns-then-subsumes_one c =
     let b = c.between.ensures in
     drop-before _ _ _ _ _ _ _ (rw (b.from, b.end) at c.subsumes_one.ensures) c.if-subsumes_one.true
+
+pub bounds-tree-node : goal.bounds-tree-node
+bounds-tree-node c =
+    let a = in-range _ _ _ _ c.requires.sibling.here in
+    let l = reaches _ _ _ _ _ _ c.requires.sibling.before in omega arith
 
 pub bounds-tree-c : goal.bounds-tree-c
 bounds-tree-c c =
