@@ -25,7 +25,6 @@ use Rattle.meaning.proofs.InPlace.{scale_in_lem, degree-in}
 use Rattle.reduction.specs.Held.{Held}
 use Rattle.reduction.specs.Marks.{MarkedWhole}
 use Rattle.rows.specs.Packed.{names_in, roles_in, ends_in}
-use Rattle.readers.specs.Reading.{Here}
 use Rattle.readers.proofs.Places.{same_rows}
 use Rattle.parts.specs.Inner.{ConceptDone}
 use Rattle.graph.specs.Judged.{Judged}
@@ -40,11 +39,6 @@ use Rattle.screening.specs.Standing.{StandsAt}
 -- a small concept has a small scale
 pub scale_small : (t : Concept) → size (reduce t) ≤ most_size → scale_in t ≤ most_scale
 scale_small t h = rw (← scale_in_lem t) (scale-bound (reduce t) h)
-
--- the bytes of the inner concept lie in the message
-pub inner-here : (s : List ℕ) (p : ℕ) (h : Threshold) → StandsAt s p h → (len : ℕ) → len ≡ number s (p + 5) 2 → Here s (p + 7 + len) (p + 7)
-inner-here s p h c len e =
-    record { before = omega arith; inside = omega (arith, c.inside); short = omega (arith, c.inside, c.short) }
 
 -- the arrays that stand in the rows
 pub concept-arrays : (s : List ℕ) (stop p : ℕ) (B : List ℕ) {names roles ends : List ℕ} → names ≡ names_in B → roles ≡ roles_in B → ends ≡ ends_in B

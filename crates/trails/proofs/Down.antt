@@ -4,6 +4,7 @@ use mathlib.Core.Path.{◌≡◌, ap, ◌∙◌}
 use mathlib.Core.List.{List}
 use Prim.Native.Nat.{ℕ, ◌-◌, ◌+◌, ◌≤◌, ◌<◌}
 use native.Mathlib.Nat.{le_trans}
+use native.Mathlib.Omega.{arith}
 use lib.ListN.{get_or, set}
 use lib.Seq.{sets}
 use Rattle.std.specs.Prelude.{Option, Some}
@@ -32,6 +33,9 @@ module _ {R : Type 0} {names roles ends : List ℕ} {t : Concept} {node left : �
   -- the levels, the row, and its end
   pub here : (0 < left) × (node < get_or ends node 0) × (get_or ends node 0 ≤ 64)
   here = let o = opened names roles ends t left node (get_or ends node 0) p.held in (o.deep, o.inside, p.few)
+
+  pub low : node < 64
+  low = let h = here in omega (arith, h.1, h.2)
 
   -- its children end after themselves
   pub children-rise : Rising ends (node + 1) (get_or ends node 0)

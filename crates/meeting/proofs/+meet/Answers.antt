@@ -7,29 +7,26 @@ use lib.ListN.{length}
 use Rattle.rows.proofs.Going.{begins, turn, ended}
 use Rattle.screening.proofs.Sifting.{stays-among}
 use Rattle.trails.proofs.Table.{outside-none, outside-part}
-use Rattle.trails.proofs.Down.{here, children-rise}
+use Rattle.trails.proofs.Down.{here, low, children-rise}
 use Rattle.meeting.proofs.Left.{child, child-required, next-left, left-start, left-none, whole}
 use Rattle.meeting.proofs.+meet.Goals.{in-None, in-Some+then-is_empty}
 use Rattle.meeting.proofs.+meet.Goals as goal
 
 pub offset_bounds-wanted-node : goal.offset_bounds-wanted-node
 offset_bounds-wanted-node t c =
-    let h = here c.requires.required.posed in omega (arith, h.1, h.2)
+    omega (arith, low c.requires.required.posed)
 
 pub bounds-wanted-node : goal.bounds-wanted-node
 bounds-wanted-node t c =
-    let h = here c.requires.required.posed in omega (arith, h.1, h.2)
+    low c.requires.required.posed
 
-pub screen-requires : goal.screen-requires
-screen-requires t c =
-    let p = c.requires in record {
-      all_stand = p.required.stand;
-      count_le_most = (p.required.most, stays-among _ _ _ (c.hold.ensures p.required.posed.graph) _ p.among);
-    }
+pub screen-requires-clause-count_le_most : goal.screen-requires-clause-count_le_most
+screen-requires-clause-count_le_most t c =
+    (c.requires.required.most, stays-among _ _ _ (c.hold.ensures c.requires.required.posed.graph) _ c.requires.among)
 
 pub children-child-items-requires : goal.children-child-items-requires
 children-child-items-requires t c =
-    let h = here c.requires.required.posed in omega (arith, h.1, h.2)
+    low c.requires.required.posed
 
 pub loop-child-init : goal.loop-child-init
 loop-child-init t c =
@@ -81,23 +78,22 @@ loop-child-preserved t c =
 
 pub offset_bounds-met-node : goal.offset_bounds-met-node
 offset_bounds-met-node t c =
-    let h = here c.requires.required.posed in omega (arith, h.1, h.2)
+    omega (arith, low c.requires.required.posed)
 
 pub bounds-met-node : goal.bounds-met-node
 bounds-met-node t c =
-    let h = here c.requires.required.posed in omega (arith, h.1, h.2)
+    low c.requires.required.posed
 
 pub returns : goal.returns
 returns t c = λ k.
-    let h = here k.posed in
     let i = c.loop-child.invariant in
     let held = c.hold.ensures k.posed.graph in
     let screened = c.screen.ensures k.posed.graph k.stand in
     let size = i.size in
-    let low : c.args.node < length c.loop-child.met = omega (arith, h.1, h.2) in
+    let room : c.args.node < length c.loop-child.met = omega (arith, low k.posed) in
     let was = i.left k in
     elim c.match-next.branch [
-      | in-None w ↦ whole k _ _ _ _ _ _ _ low held screened was.0 (ended i.going w.in-None.ensures.steps) was.1
+      | in-None w ↦ whole k _ _ _ _ _ _ _ room held screened was.0 (ended i.going w.in-None.ensures.steps) was.1
       | in-Some+then-is_empty w ↦
-          whole k _ _ _ _ _ _ _ low held screened (left-none k was.0 (w.is_empty.ensures.yes w.if-is_empty.true)) (le_refl _) was.1
+          whole k _ _ _ _ _ _ _ room held screened (left-none k was.0 (w.is_empty.ensures.yes w.if-is_empty.true)) (le_refl _) was.1
     ]

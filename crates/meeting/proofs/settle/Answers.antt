@@ -1,20 +1,7 @@
 -- `meeting::settle` meets its contract: the item meets the requirement where it stays of a set that has it alone.
 -- Assumes nothing.
-use native.Mathlib.Omega.{arith}
-use Rattle.meeting.proofs.Settled.{one_in, one-among, settled-no, charted, settled-yes}
+use Rattle.meeting.proofs.Settled.{one_in, settled-no, charted, settled-yes}
 use Rattle.meeting.proofs.settle.Goals as goal
-
-pub insert-requires : goal.insert-requires
-insert-requires c =
-    omega (arith, c.requires.required.posed.graph.most)
-
-pub meet-requires : goal.meet-requires
-meet-requires c =
-    record { required = c.requires.required; among = one-among _ _ _ c.none-set.ensures c.insert.ensures _ c.requires.in_bounds.0 }
-
-pub contains-requires : goal.contains-requires
-contains-requires c =
-    omega (arith, c.requires.required.posed.graph.most)
 
 pub returns-then-not-contains : goal.returns-then-not-contains
 returns-then-not-contains c = λ k.

@@ -1,14 +1,8 @@
 -- `screening::grade` meets its contract: the inner concept that was read again is marked, and its degrees are worked out.
 -- Assumes nothing.
-use native.Mathlib.Omega.{arith}
 use Rattle.graph.proofs.Judging.{judged}
-use Rattle.screening.proofs.Inner.{inner-here, concept-arrays, inner-held, inner-gradable}
+use Rattle.screening.proofs.Inner.{concept-arrays, inner-held, inner-gradable}
 use Rattle.screening.proofs.grade.Goals as goal
-
-pub read_concept-requires : goal.read_concept-requires
-read_concept-requires c =
-    let one = c.requires.one_stands in
-    record { here = inner-here _ _ one.threshold one.stands _ c.two.ensures.value; in_bounds = omega arith }
 
 pub reduce-requires : goal.reduce-requires
 reduce-requires c =

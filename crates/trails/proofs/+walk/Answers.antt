@@ -5,16 +5,12 @@ use native.Mathlib.Omega.{arith}
 use lib.ListN.{length-set}
 use Rattle.std.proofs.Common.{rules}
 use Rattle.rows.proofs.Going.{begins, turn, ended}
-use Rattle.trails.proofs.Down.{here, children-rise, ahead-start, ahead-end, next, goes, next-ahead, next-charted}
+use Rattle.trails.proofs.Down.{here, low, children-rise, ahead-start, ahead-end, next, goes, next-ahead, next-charted}
 use Rattle.trails.proofs.+walk.Goals as goal
-
-pub overflow_cast-map : goal.overflow_cast-map
-overflow_cast-map t c =
-    omega (arith, c.requires.charted.inside, c.requires.charted.posed.graph.most)
 
 pub offset_bounds-map-node : goal.offset_bounds-map-node
 offset_bounds-map-node t c =
-    let h = here c.requires.charted.posed in omega (arith, h.1, h.2)
+    omega (arith, low c.requires.charted.posed)
 
 pub bounds-map-node : goal.bounds-map-node
 bounds-map-node t c =
@@ -22,7 +18,7 @@ bounds-map-node t c =
 
 pub children-child-items-requires : goal.children-child-items-requires
 children-child-items-requires t c =
-    let h = here c.requires.charted.posed in omega (arith, h.1, h.2)
+    low c.requires.charted.posed
 
 pub loop-child-init : goal.loop-child-init
 loop-child-init t c =

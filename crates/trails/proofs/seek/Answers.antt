@@ -1,25 +1,15 @@
 -- `trails::seek` meets its contract: the links of the run are passed one after the other, up to one that leads to an item of the set in service.
 -- Assumes nothing.
 use mathlib.Core.Path.{sym, ap, ◌∙◌}
-use native.Mathlib.Omega.{arith}
 use Rattle.meaning.specs.Register.{withdrawn}
-use Rattle.meaning.specs.Shown.{first}
 use Rattle.graph.specs.Judged.{end_no}
 use Rattle.graph.specs.Sets.{in_set}
 use Rattle.graph.proofs.Judging.{judged}
 use Rattle.graph.proofs.Use.{asked-names}
-use Rattle.graph.proofs.Walked.{walked-run}
 use Rattle.trails.specs.Sought.{found}
 use Rattle.trails.proofs.Search.{here-first, passed_first, out_first, none_first}
 use Rattle.trails.proofs.seek.Goals.{else-contains-via-then-contains+else-not-is_out, else-contains-via-else-contains}
 use Rattle.trails.proofs.seek.Goals as goal
-
-pub loop-k-init : goal.loop-k-init
-loop-k-init c =
-    λ j. ap (first (λ y. in_set c.args.set.now.words y)) (sym (walked-run _ _ _ _ _ (c.run-start.ensures j)))
-
-pub end_of-to-requires : goal.end_of-to-requires
-end_of-to-requires c = λ j. omega (arith, (c.run-start.ensures j).within)
 
 pub is_out-requires : goal.is_out-requires
 is_out-requires c = asked-names (judged c.args.on.now.judged) c.end_of-to.ensures.upper_bound
