@@ -12,28 +12,6 @@ ghost use Rattle.fields.specs.Head.{wrong_in, EndsWithin};
 
 use meaning::{Fault, Rule};
 
-// A number of 8, 16 or 32 bits as one of 64.
-pub fn octet(x: u8) -> usize
-    ensures value { result ≡ x }
-    ensures upper_bound { result < 256 }
-{
-    x as usize
-}
-
-pub fn pair(x: u16) -> usize
-    ensures value { result ≡ x }
-    ensures upper_bound { result < 65536 }
-{
-    x as usize
-}
-
-pub fn quad(x: u32) -> u64
-    ensures value { result ≡ x }
-    ensures upper_bound { result < 4294967296 }
-{
-    x as u64
-}
-
 // The number in one byte.
 pub fn one(s: &[u8], at: usize) -> usize
     requires { at + 1 ≤ length s.now }
