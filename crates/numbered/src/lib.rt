@@ -1,4 +1,6 @@
 // A session whose log is a lent slice of numbers, one for each step (session's record.rt says which).
+// Kept: three functions beside those of `recorded`, each of one line over session's generic one: what they promise has a name of its own in
+// docs/PROMISES.md (`Called`, of numbers) and theorems that go by it.
 #![tactic(auto)]
 
 ghost use Rattle.meaning.specs.Session.{edits, undoes, keeps, count_after};

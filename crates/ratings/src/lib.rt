@@ -14,12 +14,15 @@ use graph::sets::Items;
 use lines::Line;
 use rows::Reduced;
 
+// A row of ones, and six rows for the nodes that are being worked out.
+const NUMBERS: usize = 7 * folds::ROW;
+
 // What is worked out for all items: their numbers at the tree's root, which stand from place 512 on, over a scale; and along which links its nodes go.
 #[derive(Drop)]
 pub struct Ratings {
     pub scale: u64,
     pub notes: [u64; meaning::MOST_LINKS],
-    pub numbers: [u32; 3584],
+    pub numbers: [u32; NUMBERS],
 }
 
 // Works out all items.
@@ -30,7 +33,7 @@ pub fn rate(on: &Indexed, of: &Reduced) -> Ratings
 {
     let set = Items::first(on.items);
     let mut notes = [0; meaning::MOST_LINKS];
-    let mut numbers = [0; 3584];
+    let mut numbers = [0; NUMBERS];
     folds::ones(0, &mut numbers);
     let scale = degrees::work(
         on,

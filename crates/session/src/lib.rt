@@ -43,6 +43,8 @@ fn role_above(fact: Fact) -> bool
 }
 
 // ---- the calls
+// Kept: buffer, log and count are three arguments of each call: document 01 has them lent and handed over so, and an undo and a keep have the log lent
+// for reading alone, which a struct for an edit, that writes it, would not.
 
 // Opens the image that the buffer begins with: all behind it becomes zeros.
 pub fn open(s: &mut [u8]) -> Result<usize, Refusal>
