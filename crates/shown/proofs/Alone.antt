@@ -8,7 +8,7 @@ use Prim.Native.Nat.{ℕ, ◌≤◌, ◌<◌}
 use native.Mathlib.Omega.{arith}
 use lib.Dec.{eqb}
 use lib.ListN.{length, get_or}
-use borrow.Author.Tests.{eq-eqb, eqb-true}
+use borrow.Author.Tests.{eqb-true}
 use Rattle.meaning.specs.Bounds.{most_items, most_links}
 use Rattle.meaning.specs.Bytes.{Bytes}
 use Rattle.meaning.specs.Names.{has}
@@ -22,7 +22,7 @@ use Rattle.register.proofs.Holding.{held-is}
 use Rattle.rows.specs.declared.Reduced.{Reduced}
 use Rattle.graph.specs.declared.Indexed.{Indexed}
 use Rattle.graph.proofs.Judging.{judged}
-use Rattle.graph.specs.Sets.{in_set, Among, All, With}
+use Rattle.graph.specs.Sets.{Among, All, With}
 use Rattle.graph.proofs.All.{all_among}
 use Rattle.degrees.specs.Gradable.{GradableOn, GradableIn}
 use Rattle.degrees.specs.Notes.{Noted, Clear}
@@ -30,9 +30,6 @@ use Rattle.shown.specs.declared.Degree.{Degree}
 use Rattle.shown.specs.Given.{drawn, Graded, Drawing}
 
 module _ (item : ℕ) (none set : List ℕ) (empty : All 0 none) (w : With none item set) where
-  pub alone-in : in_set set item ≡ true
-  alone-in = w item ∙ rw (eq-eqb item item refl) refl
-
   pub alone_among : (items : ℕ) → item < items → Among items set
   alone_among items l x m = go (eqb item x) refl
     where

@@ -1,19 +1,18 @@
 -- The links of an item are looked through for the one that a node goes along, as it is noted.
 -- Assumes nothing.
-use mathlib.Core.Path.{◌≡◌, refl, sym, ap, subst, ◌∙◌}
-use mathlib.Core.Bool.{true, false}
+use mathlib.Core.Path.{◌≡◌, subst}
+use mathlib.Core.Bool.{false}
 use mathlib.Core.List.{List}
-use mathlib.Core.Option.{Option as Place, some, none as nowhere}
+use mathlib.Core.Option.{Option as Place}
 use Prim.Native.Nat.{ℕ, ◌+◌, ◌≤◌, ◌<◌}
 use native.Mathlib.Decide.{dec_lt}
 use native.Mathlib.Omega.{arith}
 use lib.ListN.{length, get_or}
 use borrow.Author.Count.{below_more}
 use Rattle.meaning.specs.Register.{Register}
-use Rattle.meaning.proofs.Tests.{true-false}
 use Rattle.graph.specs.declared.Indexed.{Indexed}
 use Rattle.graph.specs.On.{JudgedOn}
-use Rattle.graph.specs.Judged.{start_no, end_no}
+use Rattle.graph.specs.Judged.{start_no}
 use Rattle.graph.proofs.Use.{one-register}
 use Rattle.degrees.specs.Notes.{flag, Note}
 
@@ -65,10 +64,6 @@ module _ {on : Indexed} {notes : List ℕ} {node item k : ℕ} (w : Looking on n
         let a = (w.graph.indexed item (omega arith)).behind k w.behind looking-low in
         omega arith
 
-    -- along the k-th it goes
-    pub looking-met : flag notes node k ≡ true → (to : ℕ) → to ≡ end_no g k → (j : JudgedOn on) (o : Place ℕ) → Note j.register notes node item o → some to ≡ o
-    looking-met f to e j o n = ap some e ∙ sym ((noted j o n).only k looking-low own f)
-
     pub looking-next : flag notes node k ≡ false → Looking on notes node item (k + 1)
     looking-next f = record {
       graph = w.graph;
@@ -77,11 +72,3 @@ module _ {on : Indexed} {notes : List ℕ} {node item k : ℕ} (w : Looking on n
       behind = omega (arith, w.behind);
       unmet = below_more (λ (i : ℕ). get_or on.index item 0 ≤ i → flag notes node i ≡ false) k w.unmet (λ _. f);
     }
-
-  -- along none
-  pub looking-end : end ≤ k → (j : JudgedOn on) (o : Place ℕ) → Note j.register notes node item o → nowhere ≡ o
-  looking-end l j nowhere n = refl
-  looking-end l j (some y) n =
-      let p = (noted j (some y) n).one y refl in
-      let q = between p.0 p.1 p.2 in
-      absurd (true-false (p.3 (omega (arith, p.1, w.places))) (w.unmet p.0 (omega (arith, q.1)) q.0))

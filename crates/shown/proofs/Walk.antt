@@ -10,7 +10,6 @@ use native.Mathlib.Nat.{le_trans}
 use native.Mathlib.Numerals.{add-one}
 use native.Mathlib.Omega.{arith}
 use lib.ListN.{length, get_or, set, replicate, length-map, length-replicate}
-use lib.Dec.{lit≤}
 use lib.Seq.{sets, length-sets}
 use Rattle.meaning.specs.Tree.{node, Forest, none, more, Concept, children, under, nodes}
 use Rattle.meaning.specs.Graph.{Graph}
@@ -152,10 +151,6 @@ module _ {names roles ends marks : List ℕ} {g : Register} {notes : List ℕ} {
 
 -- ---- where it goes
 
-pub place-fits : (items : ℕ) (o : Option ℕ) → items ≤ 512 → Inside items o → unwrap_or o 65535 < 65536
-place-fits items None l h = lit≤ tt
-place-fits items (Some x) l h = omega arith
-
 -- an item that is one in meaning's words
 is-some : (o : Option ℕ) (x : ℕ) → place o ≡ some x → o ≡ Some x
 is-some None x e = absurd (let y : ◌≡◌ {A = ℕ} 0 1 = cc in omega arith)
@@ -183,9 +178,6 @@ module _ {on : Indexed} {of : Reduced} {notes : List ℕ} {node left : ℕ} {ite
   drawing-here =
       let q = opened k.names k.roles of.tree.ends k.tree left node (get_or of.tree.ends node 0) k.posed.held in
       (q.deep, let l = q.inside in let m = k.posed.few in omega arith, q.inside)
-
-  pub drawing-fits : unwrap_or item 65535 < 65536
-  drawing-fits = place-fits on.items item k.posed.graph.most k.inside
 
   pub drawing-notes : on.links ≤ length notes
   drawing-notes = let e = on.judged.read.2 in let p = k.places in omega (arith, ap (λ (g : Register). length g.links) (held-is on.image.now k.posed.graph.register k.posed.graph.read))

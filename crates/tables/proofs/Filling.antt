@@ -23,7 +23,7 @@ use Rattle.meaning.specs.Table.{up_to}
 use Rattle.meaning.proofs.Links.{targets-links, link}
 use Rattle.meaning.proofs.Rows.{opened, holds-nodes}
 use Rattle.meaning.proofs.Table.{up_to-long}
-use Rattle.register.specs.Image.{Asked, Image}
+use Rattle.register.specs.Image.{Image}
 use Rattle.graph.specs.Walked.{walked}
 use Rattle.graph.proofs.Use.{link-inside}
 use Rattle.sorted.specs.Order.{Sorted}
@@ -123,9 +123,6 @@ module _ {s : List ℕ} {items : ℕ} {begins order names roles ends marks : Lis
   so = w.each
 
   module _ (below : c < get_or ends node 0) where
-    pub going-low : c < 64
-    going-low = let m = w.asked.posed.few in omega arith
-
     pub bounds : (c < get_or ends c 0) × (get_or ends c 0 ≤ get_or ends node 0)
     bounds = rest-next (so w.asked).rest below
 
@@ -224,10 +221,6 @@ module _ {s : List ℕ} {items : ℕ} {begins order names roles ends marks : Lis
         let most = k.small in
         let same : m * p ≡ max 1 n * p = ap (λ (z : ℕ). z * p) (at-least m em) in
         omega arith
-
-    -- the root's row is to be closed
-    pub going-asked : Asked s (λ g. items ≡ length g.names)
-    going-asked = let g = w.asked.posed.graph in record { register = g.register; read = g.read; holds = g.items-are }
 
     pub going-last : (last : List ℕ) → Image s (λ g. last ≡ sets table (node * items) (up_to items (closed (withdrawn g) n table (node * items))))
         → (m : ℕ) → m ≡ max n 1 → (k : TreeOf s items begins order names roles ends marks node left) → Worked k (m * p) old last

@@ -6,22 +6,18 @@ use mathlib.Core.Option.{none as nowhere}
 use Prim.Native.Nat.{ℕ, ◌+◌, ◌*◌, ◌<◌}
 use native.Mathlib.Omega.{arith}
 use lib.Dec.{T}
-use lib.ListN.{length, get_or}
+use lib.ListN.{get_or}
 use lib.Seq.{sets}
 use Rattle.meaning.specs.Refusal.{good}
 use Rattle.meaning.specs.Register.{Register, withdrawn, links_of}
 use Rattle.meaning.specs.InPlace.{table_in}
-use Rattle.register.specs.Image.{Asked, OfSize}
+use Rattle.register.specs.Image.{OfSize}
 use Rattle.graph.specs.Walked.{walked}
 use Rattle.graph.specs.Judged.{spanned}
 use Rattle.sorted.specs.Order.{run, Sorted}
 use Rattle.degrees.specs.Gradable.{Gradable}
 use Rattle.tables.specs.Rows.{Worked, Whole}
 use Rattle.tables.proofs.Judging.{table-judged}
-
-pub asked-items : {s : List ℕ} {items links : ℕ} {names roles ends marks : List ℕ} {left : ℕ} → Gradable (OfSize s items links) names roles ends marks 0 left
-    → Asked s (λ g. items ≡ length g.names)
-asked-items k = record { register = k.posed.graph.register; read = k.posed.graph.read; holds = k.posed.graph.holds.0 }
 
 module _ {s : List ℕ} {items links : ℕ} {names roles ends marks : List ℕ} {left : ℕ} (k : Gradable (OfSize s items links) names roles ends marks 0 left)
     {begins order : List ℕ} (c : Sorted s items begins order) where

@@ -2,7 +2,7 @@
 -- Assumes nothing.
 use mathlib.Core.Path.{◌≡◌, refl, sym, ap, ap₂, ◌∙◌}
 use mathlib.Core.Logic.{inr}
-use mathlib.Core.Bool.{Bool, false, cond}
+use mathlib.Core.Bool.{Bool, cond}
 use mathlib.Core.List.{List, [], ◌∷◌, ◌++◌, append-nil}
 use Prim.Native.Nat.{ℕ, zero, suc, ◌+◌, ◌-◌, ◌*◌, ◌≤◌, ◌<◌}
 use native.Mathlib.Decide.{ℕ_discrete}
@@ -20,7 +20,7 @@ use Rattle.meaning.proofs.Table.{up_to-long, up_to-same}
 use Rattle.register.specs.Image.{Image}
 use Rattle.sorted.specs.Order.{Sorted}
 use Rattle.degrees.proofs.Filled.{part-filled}
-use Rattle.tables.specs.Rows.{Names, row_at, row_tops, folded, closed, Folding}
+use Rattle.tables.specs.Rows.{Names, row_at, row_tops, folded, Folding}
 
 -- so many are stored
 abbrev pub Stored : (ℕ → ℕ) → ℕ → List ℕ → List ℕ → ℕ → Type 0
@@ -40,9 +40,6 @@ stored_more f at old new i p v w here is =
 -- the next place is as it was
 pub stored-ahead : (f : ℕ → ℕ) (at : ℕ) (old new : List ℕ) (i : ℕ) → Stored f at old new i → get_or new (at + i) 0 ≡ get_or old (at + i) 0
 stored-ahead f at old new i w = ap (λ (z : List ℕ). get_or z (at + i) 0) w ∙ sets-beyond old at (up_to i f) (at + i) (inr (omega (arith, up_to-long i f)))
-
-pub stored-upto : (f : ℕ → ℕ) (at : ℕ) (old new : List ℕ) (i j : ℕ) → Stored f at old new i → i ≡ j → Stored f at old new j
-stored-upto f at old new i j w e = rw (← e) w
 
 -- a node without names shares none
 pub stored-none : (names : ℕ) (held : ℕ → ℕ) (at n k : ℕ) (old new : List ℕ) → names ≡ 0 → k ≡ n → Stored (λ x. 0) at old new k
@@ -125,9 +122,6 @@ some-counted : (n v : ℕ) → (n ≡ 0 → ⊥) → v ≡ or_one n v
 some-counted zero v z = absurd (z refl)
 some-counted (suc n) v z = refl
 
-pub closed_none : (b : Bool) (n v : ℕ) → b ≡ false → (n ≡ 0 → ⊥) → v ≡ cond b 0 (or_one n v)
-closed_none b n v e z = rw e (some-counted n v z)
-
 -- and so does the row
 pub counted-kept : (n at k : ℕ) (table : List ℕ) → (n ≡ 0 → ⊥) → Stored (λ x. or_one n (row_at table at x)) at table table k
 counted-kept n at k table z = stored-kept (λ x. or_one n (row_at table at x)) at k table (λ x l. sym (some-counted n (row_at table at x) z))
@@ -135,13 +129,6 @@ counted-kept n at k table z = stored-kept (λ x. or_one n (row_at table at x)) a
 -- where nothing is, it becomes a row of ones
 pub counted_none : (n at k : ℕ) (table new : List ℕ) → n ≡ 0 → Stored (λ x. 1) at table new k → Stored (λ x. or_one n (row_at table at x)) at table new k
 counted_none n at k table new z w = w ∙ ap (sets table at) (up_to-same k (λ x. 1) (λ x. or_one n (row_at table at x)) (λ x l. rw z refl))
-
--- where all items are in service, no more is to be done
-pub closed-served : (out : ℕ → Bool) (n at items k : ℕ) (table new : List ℕ) → ((x : ℕ) → x < items → out x ≡ false) → k ≡ items
-    → Stored (λ x. or_one n (row_at table at x)) at table new k → Stored (closed out n table at) at table new items
-closed-served out n at items k table new serve e w =
-    w ∙ ap (λ (j : ℕ). sets table at (up_to j (λ x. or_one n (row_at table at x)))) e
-    ∙ ap (sets table at) (up_to-same items _ (closed out n table at) (λ x l. ap (λ (b : Bool). cond b 0 (or_one n (row_at table at x))) (sym (serve x l))))
 
 -- what is stored next
 pub closed-here : (r n v u : ℕ) (b c : Bool) → r ≡ cond b 0 (or_one n v) → b ≡ c → v ≡ u → r ≡ cond c 0 (or_one n u)

@@ -3,7 +3,7 @@ use native.Mathlib.Omega.{arith}
 use mathlib.Core.Path.{◌∙◌}
 use lib.ListN.{length-replicate}
 use Rattle.degrees.proofs.Room.{room-start, ones_low}
-use Rattle.shown.proofs.Alone.{alone-in, alone_among}
+use Rattle.shown.proofs.Alone.{alone_among}
 use Rattle.shown.proofs.graded.Goals as goal
 
 pub work-scale-requires : goal.work-scale-requires
@@ -17,13 +17,3 @@ work-scale-requires c =
         ones = ones_low c.ones.new.numbers c.ones.ensures.by_index;
       };
     }
-
-pub returns : goal.returns
-returns c =
-    λ k. let d = c.work-scale.ensures k in let m = alone-in _ _ _ c.none-set.ensures c.insert.ensures in (
-      record {
-        number = c.from.ensures ∙ d.worked.each _ m;
-        scale = d.worked.scaled;
-      },
-      d.noted _ m,
-    )

@@ -5,18 +5,12 @@ use Rattle.graph.proofs.Empty.{zero-at}
 use Rattle.shown.proofs.Alone.{clear-zeros, with-index, graded-of, drawing-of, drawn-of}
 use Rattle.shown.proofs.shown_in.Goals as goal
 
-pub whole_as_slice-graded : goal.whole_as_slice-graded
-whole_as_slice-graded g c = omega (arith, c.requires.links_in_bounds)
-
 pub graded-degree-requires : goal.graded-degree-requires
 graded-degree-requires g c =
     record {
       gradable = with-index c.args.read.now c.requires.gradable c.new-on.result c.new-on.ensures.image;
       item_lt = (omega (arith, c.requires.node_in_bounds.1, c.new-on.ensures.items), clear-zeros _ _ _ (zero-at g.row.N));
     }
-
-pub shared_whole_as_slice-show : goal.shared_whole_as_slice-show
-shared_whole_as_slice-show g c = omega (arith, c.requires.links_in_bounds)
 
 pub show-requires-clause-drawing : goal.show-requires-clause-drawing
 show-requires-clause-drawing g c =

@@ -1,6 +1,5 @@
 use mathlib.Core.Path.{refl}
-use native.Mathlib.Omega.{arith}
-use Rattle.tables.proofs.Stored.{stored-start, stored_more, stored-upto, stored-ahead, fits-here, sum-here}
+use Rattle.tables.proofs.Stored.{stored-start, stored_more, stored-ahead, fits-here, sum-here}
 use Rattle.tables.proofs.fold.Goals as goal
 
 pub loop-x-init : goal.loop-x-init
@@ -13,7 +12,3 @@ sum-requires c =
 pub loop-x-preserved : goal.loop-x-preserved
 loop-x-preserved c =
     stored_more _ _ _ _ _ _ _ c.loop-x.invariant refl (sum-here _ _ _ _ _ _ c.sum.ensures (stored-ahead _ _ _ _ _ c.loop-x.invariant))
-
-pub returns : goal.returns
-returns c =
-    stored-upto _ _ _ _ _ _ c.loop-x.invariant (omega (arith, c.loop-x-test.false, c.loop-x.auto.x-end))

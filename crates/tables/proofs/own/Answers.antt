@@ -1,6 +1,6 @@
 use mathlib.Core.Path.{refl}
 use native.Mathlib.Omega.{arith}
-use Rattle.tables.proofs.Stored.{stored-start, stored_more, stored-upto, stored-none, row-filled}
+use Rattle.tables.proofs.Stored.{stored-start, stored_more, stored-none, row-filled}
 use Rattle.tables.proofs.own.Goals as goal
 
 pub returns-then-names-eq0 : goal.returns-then-names-eq0
@@ -13,7 +13,3 @@ loop-x-init c = stored-start _ _ _ _ refl
 
 pub loop-x-preserved : goal.loop-x-preserved
 loop-x-preserved c = stored_more _ _ _ _ _ _ _ c.loop-x.invariant refl refl
-
-pub returns : goal.returns
-returns c =
-    stored-upto _ _ _ _ _ _ c.loop-x.invariant (omega (arith, c.loop-x-test.false, c.loop-x.auto.x-end))
