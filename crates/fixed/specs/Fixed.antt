@@ -43,7 +43,9 @@ lawful_at s p = leb (number s p 1) 3 && lawful (number s (p + 1) 2) (number s (p
 -- what is wrong with the fraction of a threshold, at its place
 abbrev pub FractionFixed : List ℕ → ℕ → Result (Unit {0}) Fault → Type 0
 FractionFixed s p (Ok u) = wrong_with (number s (p + 1) 2) (number s (p + 3) 2) ≡ 0
-FractionFixed s p (Err f) = (wrong_with (number s (p + 1) 2) (number s (p + 3) 2) ≢ 0) × (refusal_on requirement f ≡ fault_at p (wrong_with (number s (p + 1) 2) (number s (p + 3) 2)))
+FractionFixed s p (Err f) =
+    (wrong_with (number s (p + 1) 2) (number s (p + 3) 2) ≢ 0)
+    × (refusal_on requirement f ≡ fault_at p (wrong_with (number s (p + 1) 2) (number s (p + 3) 2)))
 
 pub record ThresholdOpen (s : List ℕ) (end p parts stop : ℕ) : Type 0 where
   pub room : parts < most_thresholds

@@ -1,3 +1,5 @@
+-- `reduction::mark` and `reduction::mark_child` meet their contracts.
+-- Assumes nothing.
 use mathlib.Core.Path.{refl}
 use native.Mathlib.Omega.{arith}
 use Rattle.rows.proofs.Going.{begins, turn, ended}

@@ -1,3 +1,5 @@
+-- `reduction::mark` and `reduction::mark_child` meet their contracts.
+-- Assumes nothing.
 use Prim.Native.Nat.{◌+◌, ◌*◌}
 use lib.ListN.{get_or}
 use Rattle.rows.proofs.Going.{Going}

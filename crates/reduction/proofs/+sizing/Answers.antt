@@ -1,3 +1,5 @@
+-- `reduction::size` and `reduction::child_size` meet their contracts.
+-- Assumes nothing.
 use native.Mathlib.Omega.{arith}
 use Rattle.rows.proofs.Going.{begins, turn, ended}
 use Rattle.reduction.proofs.Held.{in-range, inside, rise}

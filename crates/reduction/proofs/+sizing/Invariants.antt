@@ -1,3 +1,5 @@
+-- `reduction::size` and `reduction::child_size` meet their contracts.
+-- Assumes nothing.
 use Prim.Native.Nat.{◌+◌, ◌*◌, ◌-◌, ◌<◌}
 use lib.ListN.{get_or}
 use Rattle.rows.proofs.Going.{Going}

@@ -1,3 +1,5 @@
+-- `reduction::subsumes`, `subsumes_one` and `subsumes_like` meet their contracts.
+-- Assumes nothing.
 use native.Mathlib.Omega.{arith}
 use mathlib.Core.Path.{refl}
 use Rattle.rows.proofs.Going.{begins, turn, ended}

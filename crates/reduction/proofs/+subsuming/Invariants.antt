@@ -1,3 +1,5 @@
+-- `reduction::subsumes`, `subsumes_one` and `subsumes_like` meet their contracts.
+-- Assumes nothing.
 use Prim.Native.Nat.{◌+◌, ◌*◌}
 use lib.ListN.{get_or}
 use Rattle.meaning.specs.Reduce.{subsumes as above}

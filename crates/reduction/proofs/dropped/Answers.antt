@@ -1,3 +1,5 @@
+-- `reduction::dropped` meets its contract.
+-- Assumes nothing.
 use native.Mathlib.Omega.{arith}
 use Rattle.std.proofs.Common.{rules, ◌≡◌, get_or}
 use Rattle.reduction.proofs.Held.{in-range, reaches}

@@ -1,3 +1,5 @@
+-- `reduction::named` meets its contract.
+-- Assumes nothing.
 use native.Mathlib.Omega.{arith}
 use lib.Count.{ones-le}
 use mathlib.Core.Path.{refl}

@@ -1,3 +1,5 @@
+-- `reduction::put` meets its contract.
+-- Assumes nothing.
 use Rattle.reduction.proofs.Marks.{put_one}
 use Rattle.reduction.proofs.put.Goals as goal
 

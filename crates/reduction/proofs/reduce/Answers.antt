@@ -1,3 +1,5 @@
+-- `reduction::reduce` meets its contract.
+-- Assumes nothing.
 use mathlib.Core.Path.{◌∙◌}
 use Prim.Native.Nat.{zero-le}
 use Rattle.reduction.proofs.reduce.Goals as goal

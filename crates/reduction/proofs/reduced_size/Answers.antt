@@ -1,3 +1,5 @@
+-- `reduction::reduced_size` meets its contract.
+-- Assumes nothing.
 use native.Mathlib.Omega.{arith}
 use mathlib.Core.Path.{sym, ◌∙◌}
 use Rattle.meaning.proofs.InPlace.{size_in_lem}

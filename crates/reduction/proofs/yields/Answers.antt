@@ -1,3 +1,5 @@
+-- `reduction::yields` meets its contract.
+-- Assumes nothing.
 use Rattle.reduction.proofs.Subsumed.{yields-not, yields-later}
 use Rattle.reduction.proofs.yields.Goals as goal
 

@@ -1,3 +1,5 @@
+-- `reduction::yields_one` meets its contract.
+-- Assumes nothing.
 use mathlib.Core.Path.{refl}
 use Rattle.rows.proofs.Going.{begins, turn, ended}
 use Rattle.reduction.proofs.Held.{front, rise}

@@ -1,3 +1,5 @@
+-- `reduction::yields_one` meets its contract.
+-- Assumes nothing.
 use mathlib.Core.Bool.{false}
 use Rattle.rows.proofs.Going.{Going}
 use Rattle.reduction.specs.Subsumed.{yields as drops}

@@ -35,7 +35,10 @@ returns-then-thresholds-gt0 c =
     let fits : a.at + 10 ≤ a.self.now.end = omega (arith, c.if-self-at-lt10.false, c.requires) in
     let deep : 0 < a.left = omega (arith, c.if-left-eq0.false) in
     let room : a.n < 64 = omega (arith, c.if-n-ge-MOST_NODES.false) in
-    λ ps. rw c.at-then-thresholds-gt0.ensures (node-forbidden a.inner a.self.now.bytes.now a.self.now.end a.at a.n ps fits room a.left deep (let k : 0 < number a.self.now.bytes.now (a.at + 8) 1 = omega (arith, c.if-thresholds-gt0.true, c.one-thresholds.ensures.value) in rw c.if-inner.true (below _ _ k)))
+    let count = number a.self.now.bytes.now (a.at + 8) 1 in
+    let some' : 0 < count = omega (arith, c.if-thresholds-gt0.true, c.one-thresholds.ensures.value) in
+    let forbidden = node-forbidden a.inner a.self.now.bytes.now a.self.now.end a.at a.n in
+    λ ps. rw c.at-then-thresholds-gt0.ensures (forbidden ps fits room a.left deep (rw c.if-inner.true (below _ _ some')))
 
 pub returns : goal.returns
 returns c =
@@ -43,7 +46,13 @@ returns c =
       fits = omega (arith, c.if-self-at-lt10.false, c.requires);
       deep = omega (arith, c.if-left-eq0.false);
       room = omega (arith, c.if-n-ge-MOST_NODES.false);
-      free = elim c.else-inner.either [ inl w ↦ (let k : number a.self.now.bytes.now (a.at + 8) 1 ≤ 0 = omega (arith, w.1, c.one-thresholds.ensures.value) in rw w.0 (not-below _ _ k)) | inr w ↦ rw w refl ];
+      free = elim c.else-inner.either [
+        | inl w ↦ (
+            let k : number a.self.now.bytes.now (a.at + 8) 1 ≤ 0 = omega (arith, w.1, c.one-thresholds.ensures.value) in
+            rw w.0 (not-below _ _ k)
+            )
+        | inr w ↦ rw w refl
+      ];
       names = c.eight.ensures;
       thresholds = c.one-thresholds.ensures.value;
       children = c.one.ensures.value;
