@@ -9,13 +9,13 @@ ghost use Rattle.meaning.specs.Shown.{first, yes_map};
 ghost use Rattle.meaning.specs.Whole.{any};
 ghost use Rattle.graph.specs.Walked.{walked};
 ghost use Rattle.graph.specs.Sets.{in_set, Among};
-ghost use Rattle.graph.specs.On.{JudgedOn};
+ghost use Rattle.graph.specs.On.{JudgedOn, JudgedAlong};
 ghost use Rattle.screening.specs.Sifting.{Sifted};
 ghost use Rattle.trails.specs.Charted.{Charted};
 ghost use Rattle.trails.specs.Sought.{found};
 
-use graph::Indexed;
 use graph::sets::Items;
+use graph::{Indexed, Walk};
 use rows::Tree;
 use std::ops::Range;
 
@@ -32,10 +32,21 @@ pub fn seek(on: &Indexed, item: usize, role: usize, set: &Items) -> Option<usize
     requires { item < on.now.items }
     ensures { (j : JudgedOn on.now) → result ≡ found (first (λ y. in_set set.now.words y) ((walked j.register).next item role)) }
 {
-    let Range { start, end } = on.run(item, role);
+    seek_along(&on.walk(), item, role, set)
+}
+
+// The same, link by link: where the first is found, how many links of the role there are need not be known.
+fn seek_along(walk: &Walk, item: usize, role: usize, set: &Items) -> Option<usize>
+    requires { item < walk.now.items }
+    ensures { (j : JudgedAlong walk.now) → result ≡ found (first (λ y. in_set set.now.words y) ((walked j.register).next item role)) }
+{
+    let Range { start, end } = walk.from_role(item, role);
     for k in start..end {
-        let to = on.end_of(k);
-        if set.contains(to) && !graph::is_out(on.image, to) {
+        if role < walk.role_of(k) {
+            return None;
+        }
+        let to = walk.end_of(k);
+        if set.contains(to) && !graph::is_out(walk.image, to) {
             return Some(to);
         }
     }
