@@ -1,13 +1,9 @@
 -- `faults::limit_fault` meets its contract: the tests are made in their order.
 -- Assumes nothing.
-use mathlib.Core.Path.{sym, ap₂, ◌∙◌, subst}
-use mathlib.Core.List.{List}
-use Prim.Native.Nat.{ℕ}
+use mathlib.Core.Path.{ap₂, ◌∙◌}
 use native.Mathlib.Omega.{arith}
-use lib.Dec.{T}
 use Rattle.std.proofs.lemmas.Result.{err_from_is_err_and}
 use Rattle.meaning.specs.Fraction.{wrong_with}
-use Rattle.meaning.specs.Lists.{Listed, form_tree}
 use Rattle.meaning.specs.Writing.{limit_at}
 use Rattle.lists.proofs.Parts.{nodes-own}
 use Rattle.faults.proofs.Faults.{begun, limit-many, limit-how, limit-wrong, limit-nodes, limit-size, limit-good}
@@ -32,13 +28,6 @@ returns-in_err-nodes_fault c =
     let fits = begun _ (limit_at c.args.limits.now c.args.inner.now c.args.j 0) c.if-j-ge-MOST_THRESHOLDS.false (omega arith) c.p.ensures c.q.ensures
     c.in_ok-wrong.ensures in
     rw (p.1, p.2) (limit-nodes _ _ fits _ (nodes-own _ _ c.args.j c.requires.1) _ c.in_err-nodes_fault.ensures)
-
-pub inner_size-requires : goal.inner_size-requires
-inner_size-requires c =
-    record {
-      forms = subst (λ (z : List (Listed ℕ)). T (form_tree z)) (sym (nodes-own _ _ c.args.j c.requires.1)) c.requires.0.forms;
-      fits = sym c.in_ok-nodes_fault.ensures;
-    }
 
 pub returns-then-inner_size-gt-MOST_SIZE : goal.returns-then-inner_size-gt-MOST_SIZE
 returns-then-inner_size-gt-MOST_SIZE c =

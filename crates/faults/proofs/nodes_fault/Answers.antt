@@ -1,16 +1,10 @@
 -- `faults::nodes_fault` meets its contract: node after node passes, up to the first that does not.
 -- Assumes nothing.
-use mathlib.Core.Path.{sym, ap, ◌∙◌}
+use mathlib.Core.Path.{sym, ◌∙◌}
 use native.Mathlib.Omega.{arith}
 use Rattle.std.proofs.lemmas.Result.{err_from_is_err_and}
-use Rattle.meaning.specs.Writing.{nodes_fit}
-use Rattle.lists.proofs.Forms.{nodes_whole}
 use Rattle.faults.proofs.Faults.{nodes-none, nodes-stop, nodes-next}
 use Rattle.faults.proofs.nodes_fault.Goals as goal
-
-pub loop-i-init : goal.loop-i-init
-loop-i-init c =
-    ap (nodes_fit 0) (sym (nodes_whole c.args.list.now))
 
 pub returns-in_err-node_fault : goal.returns-in_err-node_fault
 returns-in_err-node_fault c =

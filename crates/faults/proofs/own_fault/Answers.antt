@@ -9,12 +9,8 @@ use native.Mathlib.Omega.{arith}
 use Rattle.std.proofs.lemmas.Result.{err_from_is_err_and}
 use Rattle.meaning.specs.Writing.{limit_fits}
 use Rattle.lists.proofs.Parts.{limit-own, one-own}
-use Rattle.faults.proofs.Owned.{rest-one, passed_none, passed-more, found-other, found-end, found-stop}
+use Rattle.faults.proofs.Owned.{rest-one, passed-more, found-other, found-end, found-stop}
 use Rattle.faults.proofs.own_fault.Goals as goal
-
-pub loop-next-init : goal.loop-next-init
-loop-next-init c =
-    passed_none c.requires
 
 pub returns-then-owner-i : goal.returns-then-owner-i
 returns-then-owner-i c =

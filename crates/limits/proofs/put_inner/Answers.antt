@@ -1,19 +1,14 @@
 -- `limits::put_inner` meets its contract: the root, then node after node, each a step on in the bytes that the list says.
 -- Assumes nothing.
-use mathlib.Core.Path.{refl}
 use native.Mathlib.Omega.{arith}
 use Rattle.limits.proofs.Inner.{inner-some, inner-few, inner-role, inner-more, inner-all}
-use Rattle.limits.proofs.Putting.{put-none, put-length}
+use Rattle.limits.proofs.Putting.{put-length}
 use Rattle.limits.proofs.put_inner.Goals as goal
 
 pub put_node-requires : goal.put_node-requires
 put_node-requires c =
     let some = inner-some _ c.requires.0 in
     (some, inner-few _ c.requires.0, omega arith, omega (arith, some, c.requires.1))
-
-pub loop-k-init : goal.loop-k-init
-loop-k-init c =
-    record { place = omega arith; room = refl; put = put-none _ _ _ }
 
 pub put_node-requires-in-loop-k : goal.put_node-requires-in-loop-k
 put_node-requires-in-loop-k c =

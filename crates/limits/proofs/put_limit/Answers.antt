@@ -16,11 +16,8 @@ pub put_inner-requires : goal.put_inner-requires
 put_inner-requires c =
     (limit-inner _ _ _ c.requires.in_bounds.0 c.requires.one.0 c.requires.one.1, omega arith)
 
-pub returns : goal.returns
-returns c =
+pub returns-clause-out_after : goal.returns-clause-out_after
+returns-clause-out_after c =
     let some = limit-some _ _ _ c.requires.in_bounds.0 c.requires.one.0 c.requires.one.1 in
-    record {
-      value = omega arith;
-      out_after = limit-put c.args.limits.now c.args.inner.now _ _ _ _ _ _ _ _ _ _ _ _ c.requires.one.0 c.requires.one.1 c.requires.in_bounds.0
-          c.how.ensures c.p.ensures c.q.ensures c.put.ensures c.put-2.ensures c.put-3.ensures c.put-4.ensures c.put_inner.ensures.out_after (omega arith);
-    }
+    limit-put c.args.limits.now c.args.inner.now _ _ _ _ _ _ _ _ _ _ _ _ c.requires.one.0 c.requires.one.1 c.requires.in_bounds.0
+    c.how.ensures c.p.ensures c.q.ensures c.put.ensures c.put-2.ensures c.put-3.ensures c.put-4.ensures c.put_inner.ensures.out_after (omega arith)

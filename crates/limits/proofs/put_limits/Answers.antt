@@ -1,19 +1,15 @@
 -- `limits::put_limits` meets its contract: threshold after threshold, each a step on in the bytes that the numbers say.
 -- Assumes nothing.
-use mathlib.Core.Path.{refl, sym, ap, ◌∙◌}
+use mathlib.Core.Path.{sym, ap, ◌∙◌}
 use native.Mathlib.Omega.{arith}
 use lib.Seq.{sets}
 use Rattle.meaning.specs.Lists.{Limit, threshold}
 use Rattle.meaning.specs.Writing.{limit_fits}
 use Rattle.meaning.specs.Message.{threshold_bytes}
 use Rattle.lists.proofs.Parts.{limit-own, one-own}
-use Rattle.limits.proofs.Putting.{put-none, put-length}
+use Rattle.limits.proofs.Putting.{put-length}
 use Rattle.limits.proofs.Runs.{after_next, after-room, after_none, each-here, each_next, limits-more, limits-all}
 use Rattle.limits.proofs.put_limits.Goals as goal
-
-pub loop-e-init : goal.loop-e-init
-loop-e-init c =
-    record { from = omega arith; place = omega arith; room = refl; behind = refl; each = c.requires.j_le_end.1; put = put-none _ _ _ }
 
 pub inners-n-requires : goal.inners-n-requires
 inners-n-requires c =

@@ -3,9 +3,6 @@
 use Rattle.limits.proofs.Inner.{behind-fixed}
 use Rattle.writer.proofs.put_labelled.Goals as goal
 
-pub returns : goal.returns
-returns c =
-    record {
-      value = c.put_limits.ensures.value;
-      out_after = behind-fixed c.args.of.now.nodes c.args.out.now _ _ _ _ _ _ _ c.put_node.ensures c.put_limits.ensures.out_after;
-    }
+pub returns-clause-out_after : goal.returns-clause-out_after
+returns-clause-out_after c =
+    behind-fixed c.args.of.now.nodes c.args.out.now _ _ _ _ _ _ _ c.put_node.ensures c.put_limits.ensures.out_after

@@ -7,36 +7,19 @@ use Rattle.writer.proofs.put_message.Goals as goal
 
 pub put-requires : goal.put-requires
 put-requires c =
-    omega (arith, c.requires.len_value.0, c.requires.len_value.1, said-length _ _ _ c.requires.ready.whole c.requires.ready.forms)
+    omega (arith, said-length _ _ _ c.requires.ready.whole c.requires.ready.forms)
 
 pub overflow_sub-len : goal.overflow_sub-len
 overflow_sub-len c =
-    omega (arith, c.requires.len_value.0, said-length _ _ _ c.requires.ready.whole c.requires.ready.forms, (given _ _ _ c.requires.ready).some)
+    omega (arith, said-length _ _ _ c.requires.ready.whole c.requires.ready.forms, (given _ _ _ c.requires.ready).some)
 
 pub put-requires-2 : goal.put-requires-2
 put-requires-2 c =
-    omega (
-      arith,
-      c.requires.len_value.0,
-      c.requires.len_value.1,
-      said-length _ _ _ c.requires.ready.whole c.requires.ready.forms,
-      (given _ _ _ c.requires.ready).some,
-      c.put.auto.s,
-    )
+    omega (arith, said-length _ _ _ c.requires.ready.whole c.requires.ready.forms, (given _ _ _ c.requires.ready).some)
 
-pub put_nodes-requires : goal.put_nodes-requires
-put_nodes-requires c =
-    record {
-      ready = c.requires.ready;
-      inner_in_bounds = omega (
-        arith,
-        c.requires.len_value.0,
-        c.requires.len_value.1,
-        said-length _ _ _ c.requires.ready.whole c.requires.ready.forms,
-        c.put.auto.s,
-        c.put-2.auto.s,
-      );
-    }
+pub put_nodes-requires-clause-inner_in_bounds : goal.put_nodes-requires-clause-inner_in_bounds
+put_nodes-requires-clause-inner_in_bounds c =
+    omega (arith, said-length _ _ _ c.requires.ready.whole c.requires.ready.forms)
 
 pub returns : goal.returns
 returns c =

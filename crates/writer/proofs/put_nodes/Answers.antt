@@ -72,10 +72,6 @@ loop-k-preserved c =
           c.put_labelled-first-in-loop-k.ensures.out_after;
     }
 
-pub shape_of-out : goal.shape_of-out
-shape_of-out c =
-    c.loop-k.invariant.room ∙ c.put_labelled-first.auto.out
-
 pub returns : goal.returns
 returns c =
     -- what is put so far, over the output as it was handed in

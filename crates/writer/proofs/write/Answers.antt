@@ -3,7 +3,6 @@
 use mathlib.Core.Path.{sym, ◌∙◌}
 use native.Mathlib.Omega.{arith}
 use Rattle.std.proofs.lemmas.Result.{err_from_is_err_and}
-use Rattle.meaning.proofs.Tests.{holds, and_both}
 use Rattle.writer.proofs.Ends.{no-lists, unfit, too_short, writes}
 use Rattle.writer.proofs.write.Goals as goal
 
@@ -11,33 +10,17 @@ pub returns-then-not-form : goal.returns-then-not-form
 returns-then-not-form c =
     rw c.of_call.ensures (no-lists _ _ _ _ (sym (rw c.new-of.ensures at c.form.ensures) ∙ c.if-not-form.true))
 
-pub fit-requires : goal.fit-requires
-fit-requires c =
-    and_both _ _ (holds (sym c.form.ensures ∙ c.if-not-form.false))
-
 pub returns-in_err-fit : goal.returns-in_err-fit
 returns-in_err-fit c =
     let formed = sym (rw c.new-of.ensures at c.form.ensures) ∙ c.if-not-form.false in
     let p = err_from_is_err_and c.from_residual.result c.from_residual.ensures.1 in
     rw (p.1, p.2) (unfit _ _ _ _ formed _ (rw c.new-of.ensures at c.in_err-fit.ensures))
 
-pub message_len-len-requires : goal.message_len-len-requires
-message_len-len-requires c =
-    and_both _ _ (holds (sym c.form.ensures ∙ c.if-not-form.false))
-
 pub returns-then-out-len : goal.returns-then-out-len
 returns-then-out-len c =
     let formed = sym (rw c.new-of.ensures at c.form.ensures) ∙ c.if-not-form.false in
     let len = rw c.new-of.ensures at c.message_len-len.ensures in
     rw c.of_call-then-out-len.ensures (too_short _ _ _ _ formed (rw c.new-of.ensures at c.in_ok-fit.ensures) (omega (arith, len)))
-
-pub put_message-requires : goal.put_message-requires
-put_message-requires c =
-    let both = and_both _ _ (holds (sym c.form.ensures ∙ c.if-not-form.false)) in
-    record {
-      ready = record { whole = both.0; forms = both.1; fits = sym c.in_ok-fit.ensures };
-      len_value = (c.message_len-len.ensures, omega (arith, c.if-out-len.false));
-    }
 
 pub returns : goal.returns
 returns c =
