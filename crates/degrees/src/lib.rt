@@ -27,6 +27,8 @@ pub struct Source {
 // kept node below it, along which link it goes where its parent goes to an item. The heaviest child comes first, since only then the row at `at` is
 // free for its use: so a further row is in use for the others alone, which have less than half of the rows. The rows may hold a tree of at most
 // `left` levels: that falls.
+// Kept: eight parameters. The tree and the node, the set, and the rows that are free change from call to call, and notes and numbers are lent as they are:
+// a struct of the two would be made anew at each call, since it holds two `&mut`.
 #[cycle(others_reach_work)]
 pub fn work(
     on: &Indexed,
@@ -113,7 +115,7 @@ fn reach(
     Source { from: at, scale }
 }
 
-// Folds in all kept children of a node but the heaviest, which is folded in; the node's scale is answered.
+// Folds in all kept children of a node but the heaviest, which is folded in, over the scale `first`; the node's scale is answered.
 #[cycle(others_reach_work)]
 fn others(
     on: &Indexed,
@@ -137,9 +139,7 @@ fn others(
         if heaviest::passed(of.marks[child], child, heavy) {
             continue;
         }
-        let source = reach(on, of, child, left - 1, set, at + ROW, notes, numbers);
-        let from = source.from;
-        let scale = source.scale;
+        let Source { from, scale } = reach(on, of, child, left - 1, set, at + ROW, notes, numbers);
         let role = usize::from(of.tree.roles[child]);
         folds::fold(
             on, role, child, set, from, at, scale, product, notes, numbers,

@@ -68,6 +68,7 @@ fn best_of<const SERVED: bool>(
 }
 
 // The best of the ends in service. `served`: all items are, so none is looked at.
+// Kept: which of the two loops runs is told by a `bool`: it is known only at run time, once for all members of a set, and the loops are made before.
 fn chosen(
     walk: &Walk,
     served: bool,
@@ -108,6 +109,7 @@ fn note(notes: &mut [u64], link: usize, node: usize)
 // Folds one child in at the members of a set: a number from `to` on becomes what it was times the child's scale, and the best of the child's
 // numbers, which stand from `from` on, over the item's successors under the role, times the product of the scales so far. For each member it is
 // noted along which link the child goes.
+// Kept: ten parameters. Role and node, the two places and the two scales are numbers of one child that stand together at this call alone.
 pub fn fold(
     on: &Indexed,
     role: usize,

@@ -43,8 +43,8 @@ others-overflow_add-at t c =
     let w = rw g.here at c.loop-child.invariant.going in
     omega (arith, child-two w (at-hand w g.inside _ c.passed.ensures c.if-passed.false))
 
-pub others-reach-source-requires : goal.others-reach-source-requires
-others-reach-source-requires t c =
+pub others-reach-from-requires : goal.others-reach-from-requires
+others-reach-from-requires t c =
     let g = turn c.loop-child.invariant.over c.in-Some.ensures.goes.keeps c.in-Some.ensures.steps in
     let w = rw g.here at c.loop-child.invariant.going in
     let o = at-hand w g.inside _ c.passed.ensures c.if-passed.false in
@@ -55,7 +55,7 @@ others-fold-requires-clause-folding t c =
     let g = turn c.loop-child.invariant.over c.in-Some.ensures.goes.keeps c.in-Some.ensures.steps in
     let w = rw g.here at c.loop-child.invariant.going in
     child-folding w (at-hand w g.inside _ c.passed.ensures c.if-passed.false) _ _ _ _ _
-    c.from-role.ensures c.reach-source.ensures.done c.reach-source.ensures.standing c.reach-source.auto.numbers
+    c.from-role.ensures c.reach-from.ensures.done c.reach-from.ensures.standing c.reach-from.auto.numbers
 
 pub others-overflow_mul-product : goal.others-overflow_mul-product
 others-overflow_mul-product t c =
@@ -64,7 +64,7 @@ others-overflow_mul-product t c =
     omega (
       arith,
       child-product w (at-hand w g.inside _ c.passed.ensures c.if-passed.false) _ _ _ _ _
-          c.from-role.ensures c.reach-source.ensures.done c.reach-source.ensures.standing,
+          c.from-role.ensures c.reach-from.ensures.done c.reach-from.ensures.standing,
     )
 
 pub others-overflow_add-n-in-loop-child : goal.others-overflow_add-n-in-loop-child
@@ -80,8 +80,8 @@ others-loop-child-preserved t c =
     record {
       over = g.going;
       going = child-next w (at-hand w g.inside _ c.passed.ensures c.if-passed.false) _ _ _ _ _
-          c.from-role.ensures c.reach-source.ensures.done c.reach-source.ensures.standing _ g.onward _ _
-          c.reach-source.auto.notes c.reach-source.auto.numbers
+          c.from-role.ensures c.reach-from.ensures.done c.reach-from.ensures.standing _ g.onward _ _
+          c.reach-from.auto.notes c.reach-from.auto.numbers
           c.fold.auto.notes c.fold.auto.numbers c.fold.ensures;
     }
 

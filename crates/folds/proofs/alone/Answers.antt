@@ -8,17 +8,6 @@ use Rattle.graph.proofs.Judging.{judged}
 use Rattle.folds.proofs.Fill.{filled_none, filled-on, filled_more, filled-kept, filled-all}
 use Rattle.folds.proofs.alone.Goals as goal
 
-pub loop-x-init : goal.loop-x-init
-loop-x-init c =
-    let m = c.members-x-items.ensures in
-    rw c.into_iter-x-iterator.ensures.into_iter_gives (record { same = ap (λ s. s.words) m.0; filled = λ j. rw m.1 (filled_none _ _ _ _) })
-
-pub names-requires : goal.names-requires
-names-requires c =
-    let s = c.in-Some.ensures.steps in
-    let n = rw c.loop-x.invariant.same at s.1.0 in
-    c.requires.members _ (n.member s.1.1)
-
 pub loop-x-preserved : goal.loop-x-preserved
 loop-x-preserved c =
     let s = c.in-Some.ensures.steps in

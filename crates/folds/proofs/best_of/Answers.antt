@@ -14,10 +14,6 @@ use Rattle.folds.proofs.Scanning.{passing-start, passing-end, passing-by, passin
 use Rattle.folds.proofs.best_of.Goals as goal
 use Rattle.folds.proofs.best_of.Goals.{else-value-best-via-then-value-best+else-is_some, else-value-best-via-else-value-best, else-not-this-via-then-not-this+else-is_out, else-not-this-via-else-not-this}
 
-pub loop-k-init : goal.loop-k-init
-loop-k-init g c =
-    λ j. passing-start j.register _ _ _
-
 pub is_out-requires : goal.is_out-requires
 is_out-requires g c =
     asked-names (judged c.args.walk.now.judged) c.end_of-to.ensures.upper_bound

@@ -8,26 +8,6 @@ use Rattle.folds.proofs.Fill.{sum_fits}
 use Rattle.folds.proofs.Step.{step-none, step-on, step_value, step-more, step_end}
 use Rattle.folds.proofs.fold.Goals as goal
 
-pub loop-x-init : goal.loop-x-init
-loop-x-init c =
-    let m = c.members-x-items.ensures in
-    rw c.into_iter-x-iterator.ensures.into_iter_gives
-    (record { same = ap (λ s. s.words) m.0; stepped = λ j. rw m.1 (step-none j _ _ _ _ _ _ _ _ _ c.requires.folding.clear) })
-
-pub from_role-run-requires : goal.from_role-run-requires
-from_role-run-requires c =
-    let s = c.in-Some.ensures.steps in
-    let n = rw c.loop-x.invariant.same at s.1.0 in
-    rw c.walk-walk.ensures.items (c.requires.members _ (n.member s.1.1))
-
-pub chosen-best-requires : goal.chosen-best-requires
-chosen-best-requires c =
-    record {
-      run = λ j. let o = c.from_role-run.ensures j in (o.order, o.within);
-      row = omega (arith, (c.loop-x.invariant.stepped c.requires.folding.graph).filled.size, c.requires.folding.from-fits);
-      served = λ e j. j.serving (rw c.walk-walk.ensures.index (c.all_serve-served.ensures e));
-    }
-
 pub folded-requires : goal.folded-requires
 folded-requires c =
     let e = c.walk-walk.ensures in

@@ -7,17 +7,6 @@ use Rattle.graph.proofs.Judging.{judged}
 use Rattle.folds.proofs.Fill.{filled_none, filled-on, filled_more, filled-kept, filled_apart, filled-all, sum_fits, sum_is, times-one}
 use Rattle.folds.proofs.own.Goals as goal
 
-pub loop-x-init : goal.loop-x-init
-loop-x-init c =
-    let m = c.members-x-items.ensures in
-    rw c.into_iter-x-iterator.ensures.into_iter_gives (record { same = ap (λ s. s.words) m.0; filled = λ j. rw m.1 (filled_none _ _ _ _) })
-
-pub names-requires : goal.names-requires
-names-requires c =
-    let s = c.in-Some.ensures.steps in
-    let n = rw c.loop-x.invariant.same at s.1.0 in
-    c.requires.members _ (n.member s.1.1)
-
 pub folded-requires : goal.folded-requires
 folded-requires c =
     let s = c.in-Some.ensures.steps in

@@ -3,10 +3,6 @@ use Rattle.graph.specs.Sets.{Spread}
 use Rattle.graph.proofs.Judging.{along}
 use Rattle.graph.proofs.Indexed.spread.Goals as goal
 
-pub spread-requires : goal.spread-requires
-spread-requires c =
-    rw c.walk.ensures.items c.requires
-
 pub returns : goal.returns
 returns c =
     let e = c.walk.ensures in

@@ -7,20 +7,9 @@ use Rattle.graph.proofs.Members.{member-few}
 use Rattle.graph.proofs.Spreading.{spreading-start, spreading-step, spreading-end, spreading-full}
 use Rattle.graph.proofs.Walk.spread.Goals as goal
 
-pub loop-x-init : goal.loop-x-init
-loop-x-init c =
-    let m = c.members-x-items.ensures in
-    rw c.into_iter-x-iterator.ensures.into_iter_gives (ap (λ s. s.words) m.0, rw m.1 (spreading-start _ _ _ _ _ _ c.requires.1))
-
 pub returns-then-self-full : goal.returns-then-self-full
 returns-then-self-full c =
     spreading-full _ _ _ _ _ _ _ _ c.loop-x.invariant.1 c.if-self-full.true c.args.self.now.judged.read.3
-
-pub gather-requires : goal.gather-requires
-gather-requires c =
-    let s = c.in-Some.ensures.steps.1 in
-    let n = rw c.loop-x.invariant.0 at s.0 in
-    (c.requires.0 _ (n.member s.1), c.loop-x.invariant.1.among)
 
 pub loop-x-preserved : goal.loop-x-preserved
 loop-x-preserved c =
@@ -29,7 +18,3 @@ loop-x-preserved c =
       rw s.0 c.loop-x.invariant.0,
       rw s.1.2 (spreading-step _ _ _ _ _ _ _ _ _ _ _ c.loop-x.invariant.1 n (judged c.args.self.now.judged) c.gather.ensures c.full_from-full.ensures),
     )
-
-pub returns : goal.returns
-returns c =
-    spreading-end _ _ _ _ _ _ _ _ c.loop-x.invariant.1 (rw c.loop-x.invariant.0 at c.in-None.ensures.steps.1.0) (member-few _ (search rules))
