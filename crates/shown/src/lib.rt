@@ -52,6 +52,7 @@ pub fn show(
     ensures { (k : Drawing on.now of.now notes.now node left item)
         → map.new ≡ drawn k.posed.graph.register k.tree node item map.old }
 {
+    // Kept: numbers for nowhere and for dropped: the document's map has them ("Map shown"), and C reads it.
     map[node] = item.unwrap_or(meaning::NOWHERE) as u16;
     for child in of.tree.children(node) {
         if of.marks[child] == 0 {

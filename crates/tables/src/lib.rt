@@ -136,6 +136,7 @@ pub fn fill(over: &Survey, of: &Reduced, node: usize, left: usize, table: &mut [
         × (get_or of.now.tree.ends node 0 * over.now.items ≤ length table.old) }
     ensures { (k : TabledIn over.now of.now node left) → Worked k result table.old table.new }
 {
+    // Kept: rows by their places in one slice: C lends the table so, and a child's row is read while its parent's, in the same slice, is written.
     let items = over.items;
     let at = node * items;
     own(over, of.tree.names[node], at, table);
