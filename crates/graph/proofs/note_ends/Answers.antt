@@ -6,10 +6,6 @@ use Rattle.graph.proofs.Index.{noted-none, noted_more}
 use Rattle.graph.proofs.Judging.{read-few}
 use Rattle.graph.proofs.note_ends.Goals as goal
 
-pub loop-k-init : goal.loop-k-init
-loop-k-init c =
-    noted-none _ _ _ c.requires
-
 pub overflow_cast-index : goal.overflow_cast-index
 overflow_cast-index c =
     let q = read-few _ _ _ c.args.read.now.read in omega arith

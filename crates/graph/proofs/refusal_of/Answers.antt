@@ -7,10 +7,6 @@ pub returns-then-items-item : goal.returns-then-items-item
 returns-then-items-item c =
     asked-none _ c.requires (omega (arith, c.if-items-item.true))
 
-pub is_out-requires : goal.is_out-requires
-is_out-requires c =
-    item-inside _ c.requires (omega (arith, c.if-items-item.false))
-
 pub returns-then-is_out : goal.returns-then-is_out
 returns-then-is_out c =
     asked-out _ c.requires (omega (arith, c.if-items-item.false)) (λ g h. sym c.if-is_out.true ∙ c.is_out.ensures g h)

@@ -13,18 +13,6 @@ use Rattle.graph.proofs.sets.Items.full_from.Goals as goal
 abbrev rest : List ℕ → ℕ → ℕ
 rest set from = get_or set (from / 64) 0 / 2 ^ (from % 64)
 
-pub overflow_sub-result : goal.overflow_sub-result
-overflow_sub-result c =
-    omega (arith, shr_le (get_or c.args.self.now.words (c.args.from / 64) 0) (c.args.from % 64))
-
-pub overflow_cast-result : goal.overflow_cast-result
-overflow_cast-result c =
-    omega (arith, next-bound (18446744073709551615 - rest c.args.self.now.words c.args.from))
-
-pub overflow_add-result : goal.overflow_add-result
-overflow_add-result c =
-    omega (arith, next-bound (18446744073709551615 - rest c.args.self.now.words c.args.from))
-
 pub returns : goal.returns
 returns c =
     full_at c.args.self.now.words _ _ refl (search rules)

@@ -5,18 +5,6 @@ use Rattle.std.specs.Prelude.{Some}
 use Rattle.graph.proofs.Members.{found_from, found_word, next-from, next-bound, next-end}
 use Rattle.graph.proofs.sets.Items.next_word.Goals as goal
 
-pub overflow_cast-result : goal.overflow_cast-result
-overflow_cast-result c =
-    omega (arith, next-bound (get_or c.args.self.now.words c.loop-i.i 0))
-
-pub overflow_add-result : goal.overflow_add-result
-overflow_add-result c =
-    omega (arith, next-bound (get_or c.args.self.now.words c.loop-i.i 0))
-
 pub returns-then-n-ne0 : goal.returns-then-n-ne0
 returns-then-n-ne0 c =
     found_from _ _ _ (Some _) (omega arith) c.loop-i.invariant.2 (found_word c.args.self.now.words _ _ refl (omega arith) c.loop-i-test.true c.if-n-ne0.true)
-
-pub returns : goal.returns
-returns c =
-    next-from _ _ _ _ (omega arith) (λ x a b. c.loop-i.invariant.2 x a (omega arith)) (next-end _ _ refl)
