@@ -24,6 +24,7 @@ pub fn decide(
     let Size { items, links } = register::read(image, false)?;
     let mut packed = [0u64; rows::LEN];
     let Message { nodes, parts } = requirement::read_message(message, &mut packed)?;
+    // Kept: no `map_err(Rule::of_call)?`: the proof that its error is the refusal of the rule that was told did not close.
     if let Err(rule) = graph::refusal_of(image, items, item) {
         return Err(rule.of_call());
     }

@@ -60,6 +60,7 @@ fn judge(on: &Indexed, message: &[u8], first: usize, set: &mut Items)
 }
 
 // The degrees of the items of a set in the inner concept of the threshold at `first`, over the scale that is answered.
+// Kept: a slice of numbers with its length in a clause, and no array: `degrees::degrees`, which it is handed on to, has it so.
 fn grade(on: &Indexed, message: &[u8], first: usize, set: &Items, numbers: &mut [u32]) -> u64
     requires one_stands { OneStands message.now first }
     requires among { Among on.now.items set.now.words × (length numbers.old ≡ 3584) }
