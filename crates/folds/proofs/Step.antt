@@ -15,6 +15,7 @@ use Rattle.std.specs.Prelude.{MatchOption}
 use Rattle.graph.specs.Judged.{Judged, Runs, Opens}
 use Rattle.graph.specs.Sets.{Among, Next}
 use Rattle.graph.proofs.Walked.{walked-run}
+use Rattle.graph.proofs.Judging.{along}
 use Rattle.graph.proofs.Use.{next-inside}
 use Rattle.folds.specs.declared.Best.{Best}
 use Rattle.folds.specs.Notes.{flag}
@@ -22,6 +23,15 @@ use Rattle.folds.specs.Folded.{row_at, Top, Chosen, sum_with, Folded}
 use Rattle.folds.proofs.Fill.{Filled, filled_none, filled-on, filled_more, filled-kept, filled_apart, sum_is}
 use Rattle.folds.proofs.Scanning.{top-same}
 use Rattle.folds.proofs.Noting.{Noting, note_at, noting-none, noting-on, noting-more, noting-outside}
+
+-- what is found along a walk is so of the image that is walked
+module _ {s s' : List ℕ} {items items' : ℕ} {index index' : List ℕ} (e : s ≡ s') (f : items ≡ items') (g : index ≡ index') {role first stop : ℕ} where
+  pub opens-along : {x : ℕ} → ((j : Judged s items index) → Opens j.register x role first stop) → (j : Judged s' items' index') → Opens j.register x role first stop
+  opens-along {x} = along (λ k. Opens k x role first stop) e f g
+
+  pub chosen-along : {v : ℕ → ℕ} {b : Best} → ((j : Judged s items index) → Chosen j.register role first stop v b)
+      → (j : Judged s' items' index') → Chosen j.register role first stop v b
+  chosen-along {v} {b} = along (λ k. Chosen k role first stop v b) e f g
 
 module _ {s : List ℕ} {items : ℕ} {index : List ℕ} (j : Judged s items index) (members : List ℕ) (role node from to scale product : ℕ) (notes₀ numbers₀ : List ℕ) where
   -- the members before x are done

@@ -5,7 +5,7 @@ use Rattle.meaning.specs.Names.{common}
 use Rattle.meaning.specs.Names.{names as many}
 use Rattle.meaning.specs.Degree.{or_one}
 use Rattle.graph.proofs.Judging.{judged}
-use Rattle.folds.proofs.Fill.{filled_none, filled-on, filled_more, filled-kept, filled-all}
+use Rattle.folds.proofs.Fill.{filled-on, filled_more, filled-kept, filled-all}
 use Rattle.folds.proofs.alone.Goals as goal
 
 pub loop-x-preserved : goal.loop-x-preserved
@@ -25,6 +25,7 @@ returns c =
     record {
       scale = omega (arith, c.max.ensures, c.from.ensures);
       values = λ j x m.
-          filled-all _ _ _ _ _ _ (c.loop-x.invariant.filled j) (rw c.loop-x.invariant.same at c.in-None.ensures.steps.1.0) (λ x m. let l = c.requires.members x m in omega (arith, j.most)) x m;
+          filled-all _ _ _ _ _ _ (c.loop-x.invariant.filled j) (rw c.loop-x.invariant.same at c.in-None.ensures.steps.1.0)
+          (λ x m. let l = c.requires.members x m in omega (arith, j.most)) x m;
       kept = filled-kept _ _ _ _ _ _ (c.loop-x.invariant.filled j);
     }

@@ -10,9 +10,10 @@ use Rattle.meaning.specs.Register.{withdrawn}
 use Rattle.graph.specs.Judged.{end_no}
 use Rattle.graph.proofs.Judging.{judged}
 use Rattle.graph.proofs.Use.{asked-names}
-use Rattle.folds.proofs.Scanning.{passing-start, passing-end, passing-by, passing-out, passing-take, there_is, there_is_none}
+use Rattle.folds.proofs.Scanning.{passing-end, passing-by, passing-out, passing-take, there_is, there_is_none}
 use Rattle.folds.proofs.best_of.Goals as goal
-use Rattle.folds.proofs.best_of.Goals.{else-value-best-via-then-value-best+else-is_some, else-value-best-via-else-value-best, else-not-this-via-then-not-this+else-is_out, else-not-this-via-else-not-this}
+use Rattle.folds.proofs.best_of.Goals.{else-value-best-via-then-value-best+else-is_some, else-value-best-via-else-value-best}
+use Rattle.folds.proofs.best_of.Goals.{else-not-this-via-then-not-this+else-is_out, else-not-this-via-else-not-this}
 
 pub is_out-requires : goal.is_out-requires
 is_out-requires g c =

@@ -1,11 +1,8 @@
 use native.Mathlib.Omega.{arith}
 use native.Mathlib.Nat.{le_refl}
-use mathlib.Core.Path.{ap, refl}
-use Rattle.graph.specs.Judged.{Opens}
-use Rattle.graph.proofs.Judging.{along}
-use Rattle.folds.specs.Folded.{row_at, Chosen}
+use mathlib.Core.Path.{refl}
 use Rattle.folds.proofs.Fill.{sum_fits}
-use Rattle.folds.proofs.Step.{step-none, step-on, step_value, step-more, step_end}
+use Rattle.folds.proofs.Step.{opens-along, chosen-along, step-on, step_value, step-more, step_end}
 use Rattle.folds.proofs.fold.Goals as goal
 
 pub folded-requires : goal.folded-requires
@@ -16,9 +13,9 @@ folded-requires c =
     let j = c.requires.folding.graph in
     let w = step-on j _ _ _ _ _ _ _ _ _ _ _ _ _ (c.loop-x.invariant.stepped j) n in
     sum_fits _ _ _ _ _ _ _ (w.filled.ahead _ (le_refl _))
-    (step_value j _ _ _ _ _ _ _ _ _ c.args.on.now.judged.read.3 _ _ _ w c.requires.folding.apart _ _ _ (along (λ g. Opens g c.in-Some.x c.args.role c.from_role-run.result.start c.from_role-run.result.end) e.image e.items e.index c.from_role-run.ensures j)
-    (along (λ g. Chosen g c.args.role c.from_role-run.result.start c.from_role-run.result.end (row_at c.loop-x.numbers c.args.from) c.chosen-best.result) e.image e.items e.index
-    c.chosen-best.ensures j))
+    (step_value j _ _ _ _ _ _ _ _ _ c.args.on.now.judged.read.3 _ _ _ w c.requires.folding.apart _ _ _
+    (opens-along e.image e.items e.index c.from_role-run.ensures j)
+    (chosen-along e.image e.items e.index c.chosen-best.ensures j))
     (c.requires.folding.fits _ (n.member s.1.1))
 
 pub loop-x-preserved-in-Some-link : goal.loop-x-preserved-in-Some-link
@@ -29,10 +26,10 @@ loop-x-preserved-in-Some-link c =
     record {
       same = rw s.0 c.loop-x.invariant.same;
       stepped = λ j. rw s.1.2
-          (step-more j _ _ _ _ _ _ _ _ _ c.args.on.now.judged.read.3 _ _ _ (step-on j _ _ _ _ _ _ _ _ _ _ _ _ _ (c.loop-x.invariant.stepped j) n) c.requires.folding.apart _ _ _
-          (along (λ g. Opens g c.in-Some.x c.args.role c.from_role-run.result.start c.from_role-run.result.end) e.image e.items e.index c.from_role-run.ensures j)
-          (along (λ g. Chosen g c.args.role c.from_role-run.result.start c.from_role-run.result.end (row_at c.loop-x.numbers c.args.from) c.chosen-best.result) e.image e.items e.index
-          c.chosen-best.ensures j) _ _ s.1.1 c.requires.folding.to-fits c.folded.ensures (rw c.in-Some-link.is c.note.ensures));
+          (step-more j _ _ _ _ _ _ _ _ _ c.args.on.now.judged.read.3 _ _ _ (step-on j _ _ _ _ _ _ _ _ _ _ _ _ _ (c.loop-x.invariant.stepped j) n)
+          c.requires.folding.apart _ _ _
+          (opens-along e.image e.items e.index c.from_role-run.ensures j)
+          (chosen-along e.image e.items e.index c.chosen-best.ensures j) _ _ s.1.1 c.requires.folding.to-fits c.folded.ensures (rw c.in-Some-link.is c.note.ensures));
     }
 
 pub loop-x-preserved : goal.loop-x-preserved
@@ -43,10 +40,10 @@ loop-x-preserved c =
     record {
       same = rw s.0 c.loop-x.invariant.same;
       stepped = λ j. rw s.1.2
-          (step-more j _ _ _ _ _ _ _ _ _ c.args.on.now.judged.read.3 _ _ _ (step-on j _ _ _ _ _ _ _ _ _ _ _ _ _ (c.loop-x.invariant.stepped j) n) c.requires.folding.apart _ _ _
-          (along (λ g. Opens g c.in-Some.x c.args.role c.from_role-run.result.start c.from_role-run.result.end) e.image e.items e.index c.from_role-run.ensures j)
-          (along (λ g. Chosen g c.args.role c.from_role-run.result.start c.from_role-run.result.end (row_at c.loop-x.numbers c.args.from) c.chosen-best.result) e.image e.items e.index
-          c.chosen-best.ensures j) _ _ s.1.1 c.requires.folding.to-fits c.folded.ensures (rw c.in_default.is refl));
+          (step-more j _ _ _ _ _ _ _ _ _ c.args.on.now.judged.read.3 _ _ _ (step-on j _ _ _ _ _ _ _ _ _ _ _ _ _ (c.loop-x.invariant.stepped j) n)
+          c.requires.folding.apart _ _ _
+          (opens-along e.image e.items e.index c.from_role-run.ensures j)
+          (chosen-along e.image e.items e.index c.chosen-best.ensures j) _ _ s.1.1 c.requires.folding.to-fits c.folded.ensures (rw c.in_default.is refl));
     }
 
 pub returns : goal.returns

@@ -4,7 +4,7 @@ use mathlib.Core.Path.{ap, ◌∙◌}
 use mathlib.Core.Logic.{inr}
 use Rattle.meaning.specs.Names.{common}
 use Rattle.graph.proofs.Judging.{judged}
-use Rattle.folds.proofs.Fill.{filled_none, filled-on, filled_more, filled-kept, filled_apart, filled-all, sum_fits, sum_is, times-one}
+use Rattle.folds.proofs.Fill.{filled-on, filled_more, filled-kept, filled_apart, filled-all, sum_fits, sum_is, times-one}
 use Rattle.folds.proofs.own.Goals as goal
 
 pub folded-requires : goal.folded-requires
@@ -32,6 +32,7 @@ returns c =
     let j = judged c.args.on.now.judged in
     record {
       sums = λ j x m.
-          filled-all _ _ _ _ _ _ (c.loop-x.invariant.filled j) (rw c.loop-x.invariant.same at c.in-None.ensures.steps.1.0) (λ x m. let l = c.requires.members x m in omega (arith, j.most)) x m;
+          filled-all _ _ _ _ _ _ (c.loop-x.invariant.filled j) (rw c.loop-x.invariant.same at c.in-None.ensures.steps.1.0)
+          (λ x m. let l = c.requires.members x m in omega (arith, j.most)) x m;
       kept = filled-kept _ _ _ _ _ _ (c.loop-x.invariant.filled j);
     }

@@ -21,7 +21,8 @@ loop-child-preserved-then-lighter c =
     let g = turn c.loop-child.invariant.going c.in-Some.ensures.goes.keeps c.in-Some.ensures.steps in
     record {
       going = g.going;
-      each = λ k. rw g.onward (sought-pass k _ (rw g.here at (c.loop-child.invariant.each k)) g.inside _ (rw c.from.ensures at c.lighter.ensures) c.if-lighter.true);
+      each = λ k. rw g.onward
+          (sought-pass k _ (rw g.here at (c.loop-child.invariant.each k)) g.inside _ (rw c.from.ensures at c.lighter.ensures) c.if-lighter.true);
     }
 
 pub loop-child-preserved : goal.loop-child-preserved
@@ -29,5 +30,6 @@ loop-child-preserved c =
     let g = turn c.loop-child.invariant.going c.in-Some.ensures.goes.keeps c.in-Some.ensures.steps in
     record {
       going = g.going;
-      each = λ k. rw (g.onward, c.from.ensures) (sought-take k _ (rw g.here at (c.loop-child.invariant.each k)) g.inside _ (rw c.from.ensures at c.lighter.ensures) c.if-lighter.false);
+      each = λ k. rw (g.onward, c.from.ensures)
+          (sought-take k _ (rw g.here at (c.loop-child.invariant.each k)) g.inside _ (rw c.from.ensures at c.lighter.ensures) c.if-lighter.false);
     }
