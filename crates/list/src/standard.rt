@@ -20,6 +20,7 @@ pub fn read_input<R: Read>(input: &mut R, buffer: &mut [u8]) -> Result<usize, Br
     ensures end { IfOk result (λ n. n < length buffer.new → IsAtEnd (R.remaining input.new)) }
 {
     let mut count = 0;
+    // Kept: a `while`: it counts the bytes that reads gave, and goes over nothing.
     while count < buffer.len() {
         match input.read(&mut buffer[count..]) {
             Ok(0) => return Ok(count),

@@ -22,6 +22,7 @@ pub struct Sheet<'a> {
 }
 
 // What comes behind the first line: nothing more, rows of degrees, or rows of yes and no.
+// Kept: three variants, and no Option of two: each is one of the three ways to go on, and a caller tells them apart by one match.
 #[derive(Clone, Copy)]
 pub enum Rest<'a> {
     Nothing,
