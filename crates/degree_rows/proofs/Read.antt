@@ -59,8 +59,9 @@ module _ {image message : List ℕ} {b : Both} (w : Known image message b) where
         let h = w.held.held in
         record { tree = w.tree; posed = record { graph = judged on.judged; held = h.posed.held; few = h.posed.few }; marked = h.marked; small = scale_small w.tree h.small }
 
-    pub rated : (r : Ratings) → length r.notes ≡ most_links → ((k : GradableOn on of 0 17) → Graded k.posed.graph.register k.tree on.items of r) → Rated on of message r
-    rated r room done =
+    pub rated : (notes : List ℕ) (r : Ratings) → length notes ≡ most_links
+        → ((k : GradableOn on of 0 17) → Graded k.posed.graph.register k.tree on.items of notes r) → Rated on of message notes r
+    rated notes r room done =
         let k = gradable in
         let one : held on.image.now ≡ w.register = held-is on.image.now w.register (ap read_buffer same ∙ begins) in
         record {

@@ -36,6 +36,11 @@ pub fn print<W: Write>(output: &mut W, image: &[u8], message: &[u8], rows: usize
     };
     let on = Indexed::new(&read);
     let of = plain.reduced;
-    let ratings = ratings::rate(&on, &of);
-    lines::print_rows(output, rows, |item| ratings::row(&on, &of, &ratings, item))
+    let mut notes = [0; meaning::MOST_LINKS];
+    let ratings = ratings::rate(&on, &of, &mut notes);
+    lines::print_rows(
+        output,
+        rows,
+        |item| ratings::row(&on, &of, &notes, &ratings, item),
+    )
 }

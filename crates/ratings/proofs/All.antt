@@ -12,8 +12,8 @@ use Rattle.degrees.specs.Given.{Done}
 use Rattle.ratings.specs.declared.Ratings.{Ratings}
 use Rattle.ratings.specs.Rated.{Graded}
 
-pub graded-all : (on : Indexed) (of : Reduced) (k : GradableOn on of 0 17) {set : List ℕ} → All on.items set → {notes : List ℕ} {last : List ℕ} (r : Ratings)
-    → Done k (Member set) 512 512 r.scale notes r.notes last r.numbers → Graded k.posed.graph.register k.tree on.items of r
+pub graded-all : (on : Indexed) (of : Reduced) (k : GradableOn on of 0 17) {set : List ℕ} → All on.items set → {notes new last : List ℕ} (r : Ratings)
+    → Done k (Member set) 512 512 r.scale notes new last r.numbers → Graded k.posed.graph.register k.tree on.items of new r
 graded-all on of k a r d = record {
   scaled = d.worked.scaled;
   numbered = λ x l. d.worked.each x (a.has x ∙ lt-ltb x on.items l);

@@ -39,7 +39,7 @@ use Rattle.std.specs.Prelude.{Some}
 use Rattle.ratings.specs.declared.Ratings.{Ratings}
 use Rattle.ratings.specs.Rated.{Rated}
 
-module _ {on : Indexed} {of : Reduced} {message : List ℕ} {r : Ratings} (w : Rated on of message r) where
+module _ {on : Indexed} {of : Reduced} {message notes : List ℕ} {r : Ratings} (w : Rated on of message notes r) where
   abbrev image : List ℕ
   image = on.image.now
 
@@ -59,11 +59,11 @@ module _ {on : Indexed} {of : Reduced} {message : List ℕ} {r : Ratings} (w : R
   positive = rw w.graded.scaled (scale-in-pos w.tree)
 
   module _ (item : ℕ) (l : item < on.items) where
-    pub noted-at : (x : ℕ) → Some item ≡ Some x → Noted ends of.marks g r.notes w.tree 0 x
-    noted-at x e = let z : item ≡ x = cc in subst (Noted ends of.marks g r.notes w.tree 0) z (w.graded.noted item l)
+    pub noted-at : (x : ℕ) → Some item ≡ Some x → Noted ends of.marks g notes w.tree 0 x
+    noted-at x e = let z : item ≡ x = cc in subst (Noted ends of.marks g notes w.tree 0) z (w.graded.noted item l)
 
     -- what is to be drawn for the item
-    abbrev pub drawing : Drawing on of r.notes 0 17 (Some item)
+    abbrev pub drawing : Drawing on of notes 0 17 (Some item)
     drawing = record {
       names = w.names;
       roles = w.roles;
@@ -85,7 +85,7 @@ module _ {on : Indexed} {of : Reduced} {message : List ℕ} {r : Ratings} (w : R
     map-long = length-map (shown (walked g) w.tree (some item)) mark_number ∙ shown-length (walked g) w.tree (some item) ∙ sym ended
 
     module _ (old new : List ℕ) (room : most_nodes ≤ length old)
-        (shows : (k : Drawing on of r.notes 0 17 (Some item)) → new ≡ drawn k.posed.graph.register k.tree 0 (Some item) old)
+        (shows : (k : Drawing on of notes 0 17 (Some item)) → new ≡ drawn k.posed.graph.register k.tree 0 (Some item) old)
         (k : ℕ) (ek : k ≡ get_or ends 0 0) where
       -- the places at the front are the item's map
       map_is : take k new ≡ degree_map (walked g) w.tree item

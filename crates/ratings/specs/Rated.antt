@@ -19,13 +19,13 @@ use Rattle.degrees.specs.Notes.{Noted}
 use Rattle.ratings.specs.declared.Ratings.{Ratings}
 
 -- of each item: its number at the root, over the scale, and where the kept nodes go
-pub record Graded (g : Register) (t : Concept) (items : ℕ) (of : Reduced) (r : Ratings) : Type 0 where
+pub record Graded (g : Register) (t : Concept) (items : ℕ) (of : Reduced) (notes : List ℕ) (r : Ratings) : Type 0 where
   pub scaled : r.scale ≡ scale_in t
   pub numbered : (x : ℕ) → x < items → row_at r.numbers 512 x ≡ degree_in (walked g) t x
-  pub noted : (x : ℕ) → x < items → Noted of.tree.ends of.marks g r.notes t 0 x
+  pub noted : (x : ℕ) → x < items → Noted of.tree.ends of.marks g notes t 0 x
 
 -- an image and a plain requirement that were read, the image's index and the requirement's rows, and what was worked out for them
-pub record Rated (on : Indexed) (of : Reduced) (message : List ℕ) (r : Ratings) : Type 0 where
+pub record Rated (on : Indexed) (of : Reduced) (message notes : List ℕ) (r : Ratings) : Type 0 where
   pub tree : Concept
   pub wanted : read_plain message ≡ good tree
   pub names : List ℕ
@@ -33,5 +33,5 @@ pub record Rated (on : Indexed) (of : Reduced) (message : List ℕ) (r : Ratings
   pub posed : Posed (JudgedOn on) names roles of.tree.ends tree 0 most_levels
   pub whole : read_register on.image.now ≡ good posed.graph.register
   pub marked : Marked of.tree.ends of.marks tree 0
-  pub places : length posed.graph.register.links ≤ length r.notes
-  pub graded : Graded posed.graph.register tree on.items of r
+  pub places : length posed.graph.register.links ≤ length notes
+  pub graded : Graded posed.graph.register tree on.items of notes r
