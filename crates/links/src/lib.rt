@@ -64,7 +64,7 @@ fn cut(room: usize, at: usize) -> Fault
 // What a number of five bytes stays below.
 const FIVE_BYTES: u64 = 1 << 40;
 
-// The number of the link at a place, that of its five bytes: it rises with (from, role, to). Where three bytes stand before it, it is read in one load.
+// The number of the link at a place, that of its five bytes: it rises with (from, role, to).
 pub fn key_at(s: &[u8], at: usize) -> usize
     requires { at + 5 ≤ length s.now }
     ensures { result ≡ key (link_at s.now at) }
@@ -72,6 +72,14 @@ pub fn key_at(s: &[u8], at: usize) -> usize
     if at < 3 {
         return (fields::two(s, at) * 256 + fields::one(s, at + 2)) * 65536 + fields::two(s, at + 3);
     }
+    key_behind(s, at)
+}
+
+// The same where three bytes stand before the link: it is read in one load, and a loop over links has no branch for where they stand.
+fn key_behind(s: &[u8], at: usize) -> usize
+    requires { (3 ≤ at) × (at + 5 ≤ length s.now) }
+    ensures { result ≡ key (link_at s.now at) }
+{
     (fields::eight(s, at - 3) % FIVE_BYTES) as usize
 }
 
@@ -90,17 +98,18 @@ fn wrong(number: usize, items: usize, floor: usize) -> bool
     items <= number & TO_AND_HIGH_ROLE
 }
 
-// Whether all links are right, by their numbers alone. The numbers rise, so all lead from one of the items where the last one does.
+// Whether all links are right, by their numbers alone. The numbers rise, so all lead from one of the items where the last one does. In an image more than
+// three bytes stand before the links; where fewer do, it says no.
 pub fn quick_links(s: &[u8], end: usize, items: usize, links: usize, start: usize) -> bool
     requires { (start ≤ end) × (end ≤ length s.now) × (items ≤ most_items) × (links ≤ most_links) }
     ensures { result ≡ true → AllRead s.now end items links start }
 {
-    if end - start < 5 * links {
+    if end - start < 5 * links || start < 3 {
         return false;
     }
     let mut floor = 0;
     for k in 0..links {
-        let number = key_at(s, start + 5 * k);
+        let number = key_behind(s, start + 5 * k);
         if wrong(number, items, floor) {
             return false;
         }

@@ -12,7 +12,7 @@ loop-k-init c =
 
 pub loop-k-preserved : goal.loop-k-preserved
 loop-k-preserved c =
-    rest-more _ _ _ _ _ _ _ c.loop-k-test.true c.key_at-number.ensures (c.wrong.ensures c.if-wrong.false) c.loop-k.invariant
+    rest-more _ _ _ _ _ _ _ c.loop-k-test.true c.key_behind-number.ensures (c.wrong.ensures c.if-wrong.false) c.loop-k.invariant
 
 pub returns : goal.returns
 returns c =

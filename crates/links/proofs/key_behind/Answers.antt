@@ -1,10 +1,10 @@
--- `links::key_at` meets its contract.
+-- `links::key_behind` meets its contract.
 -- Assumes nothing.
 use Prim.Native.Nat.{◌≤◌}
 use native.Mathlib.Omega.{arith}
 use Rattle.fields.proofs.Known.{bytes-known}
 use Rattle.links.proofs.OneLink.{key-behind}
-use Rattle.links.proofs.key_at.Goals as goal
+use Rattle.links.proofs.key_behind.Goals as goal
 
 pub returns : goal.returns
 returns c =
