@@ -18,9 +18,10 @@ pub record Judged (s : List ℕ) (items : ℕ) (index : List ℕ) : Type 0 where
   pub indexed : (k : ℕ) → k ≤ items → Begins register.links k (get_or index k 0)
   pub serving : get_or index 513 0 ≡ 0 → (x : ℕ) → withdrawn register x ≡ false
 
--- the same of the register that the bytes begin with, which has so many links, too: what holds of an image with its index in code
-pub record IsJudged (s : List ℕ) (items links : ℕ) (index : List ℕ) : Type 0 where
-  pub read : IsRead s items links
+-- the same of the register that the bytes begin with, and what holds of every lent slice of bytes: so it is said of an image with its index in code. Behind
+-- the last item stands how many links there are
+pub record IsJudged (s : List ℕ) (items : ℕ) (index : List ℕ) : Type 0 where
+  pub read : IsRead s items (get_or index items 0)
   pub most : items ≤ most_items
   pub room : length index ≡ 514
   pub indexed : (k : ℕ) → k ≤ items → Begins (held s).links k (get_or index k 0)

@@ -21,15 +21,14 @@ use std::ops::Range;
 // An index has a place for each item that there may be, one where the links of the last end, and one that says whether an item is withdrawn.
 pub const INDEX: usize = 514;
 
-// An image that was read, of so many items and links, and its index: at place k stands where the links of item k begin, and behind all of these
-// whether an item is withdrawn.
+// An image that was read, of so many items, and its index: at place k stands where the links of item k begin (so behind the last item how many links there
+// are), and behind all of these whether an item is withdrawn.
 #[derive(Drop)]
 pub struct Indexed<'a> {
     pub image: &'a [u8],
     pub items: usize,
-    pub links: usize,
     pub index: [u16; INDEX],
-    ghost judged: { IsJudged image.now items links index },
+    pub ghost judged: { IsJudged image.now items index },
 }
 
 // The same image and index as a value of a few words. A loop that writes takes it before it begins: what stands behind a reference it would read anew in
@@ -38,9 +37,8 @@ pub struct Indexed<'a> {
 pub struct Walk<'a> {
     pub image: &'a [u8],
     pub items: usize,
-    pub links: usize,
     pub index: &'a [u16; INDEX],
-    ghost judged: { IsJudged image.now items links index.now },
+    pub ghost judged: { IsJudged image.now items index.now },
 }
 
 // Whether an item is withdrawn: the one test of document 02, §5.
@@ -113,7 +111,7 @@ impl<'a> Indexed<'a> {
     pub fn new(read: &Reading<'a>) -> Indexed<'a>
         ensures image { result.image.now ≡ read.now.bytes.now }
         ensures items { result.items ≡ read.now.items }
-        ensures links { result.links ≡ read.now.links }
+        ensures links { get_or result.index result.items 0 ≡ read.now.links }
     {
         let mut index = [0; INDEX];
         note_ends(read, &mut index);
@@ -122,7 +120,6 @@ impl<'a> Indexed<'a> {
         Indexed {
             image: read.bytes,
             items: read.items,
-            links: read.links,
             index,
         }
     }
@@ -136,7 +133,6 @@ impl<'a> Indexed<'a> {
         Walk {
             image: self.image,
             items: self.items,
-            links: self.links,
             index: &self.index,
         }
     }
@@ -180,12 +176,12 @@ impl<'a> Walk<'a> {
 
     // The image that was read.
     pub fn reading(&self) -> Reading<'a>
-        ensures { (result.bytes ≡ self.now.image) × (result.items ≡ self.now.items) × (result.links ≡ self.now.links) }
+        ensures { (result.bytes ≡ self.now.image) × (result.items ≡ self.now.items) × (result.links ≡ get_or self.now.index.now self.now.items 0) }
     {
         Reading {
             bytes: self.image,
             items: self.items,
-            links: self.links,
+            links: usize::from(self.index[self.items]),
         }
     }
 

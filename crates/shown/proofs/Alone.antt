@@ -62,7 +62,7 @@ module _ (read : Reading) {of : Reduced} {node left : ℕ} (k : GradableIn read 
     pub graded-of : Graded k.posed.graph.register k.tree item d
     graded-of = rw same at (done with-index).0
 
-    module _ (l : item < on.items) (places : on.links ≤ length notes) where
+    module _ (l : item < on.items) (places : get_or on.index on.items 0 ≤ length notes) where
       pub noted : (x : ℕ) → Some item ≡ Some x → Noted of.tree.ends of.marks (held on.image.now) notes k.tree node x
       noted x e = let z : item ≡ x = cc in rw (← z) (done with-index).1
 

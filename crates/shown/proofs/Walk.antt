@@ -179,7 +179,7 @@ module _ {on : Indexed} {of : Reduced} {notes : List ℕ} {node left : ℕ} {ite
       let q = opened k.names k.roles of.tree.ends k.tree left node (get_or of.tree.ends node 0) k.posed.held in
       (q.deep, let l = q.inside in let m = k.posed.few in omega arith, q.inside)
 
-  pub drawing-notes : on.links ≤ length notes
+  pub drawing-notes : get_or on.index on.items 0 ≤ length notes
   drawing-notes = let e = on.judged.read.2 in let p = k.places in omega (arith, ap (λ (g : Register). length g.links) (held-is on.image.now k.posed.graph.register k.posed.graph.read))
 
   -- the children from row c on are left, and the node goes to o

@@ -24,7 +24,7 @@ pub struct Degree {
 // Where the child at a node goes whose parent goes to `item`: along the link of the item that is noted for it; nowhere where none is, and where its
 // parent does.
 fn found(on: &Indexed, notes: &[u64], node: usize, item: Option<usize>) -> Option<usize>
-    requires links_in_bounds { on.now.links ≤ length notes.now }
+    requires links_in_bounds { get_or on.now.index on.now.items 0 ≤ length notes.now }
     requires inside { Inside on.now.items item × (node < 64) }
     ensures { MatchOption item (result ≡ None) (λ x. Onward on.now notes.now node x result) }
 {
