@@ -90,7 +90,9 @@ fn graded(
     }
 }
 
-// The degree of one item in the tree at a node.
+// The degree of one item in the tree at a node. It is not merged into the call that reads the requirement first: so its 15 KiB are on the stack only once
+// what reading takes is off it.
+#[inline(never)]
 pub fn degree_at(read: &Reading, of: &Reduced, node: usize, left: usize, item: usize) -> Degree
     requires gradable { GradableIn read.now of.now node left }
     requires item_lt { item < read.now.items }
@@ -99,7 +101,9 @@ pub fn degree_at(read: &Reading, of: &Reduced, node: usize, left: usize, item: u
     graded(&Indexed::new(read), of, node, left, item, &mut [])
 }
 
-// The degree of one item in the tree at a node, and its map. Only as many notes are made as a register of its size wants.
+// The degree of one item in the tree at a node, and its map. Only as many notes are made as a register of its size wants; and as `degree_at` it is not merged
+// into the call.
+#[inline(never)]
 pub fn shown_at(
     read: &Reading,
     of: &Reduced,

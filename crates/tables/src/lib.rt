@@ -159,6 +159,8 @@ pub fn fill(over: &Survey, of: &Reduced, node: usize, left: usize, table: &mut [
 }
 
 // Fills the whole table of the tree at row 0: the links are sorted once, and it is seen once whether all items are in service. The tree's scale is answered.
+// It is not merged into the call that reads the requirement first: so its 22 KiB are on the stack only once what reading takes is off it.
+#[inline(never)]
 pub fn whole(read: &Reading, of: &Reduced, table: &mut [u32]) -> u32
     requires gradable { GradableIn read.now of.now 0 17 }
     requires in_bounds { get_or of.now.tree.ends 0 0 * read.now.items ≤ length table.old }
