@@ -1,6 +1,6 @@
 -- The tests of the drop rule as the code comes to them: one law for each way out of a function and each turn of a loop.
 -- Assumes nothing.
-use mathlib.Core.Path.{◌≡◌, refl, sym, ◌∙◌, subst}
+use mathlib.Core.Path.{◌≡◌, refl, sym, ap, ◌∙◌, subst, fun_ext}
 use mathlib.Core.Bool.{Bool, true, false, ◌&&◌, not, cond}
 use mathlib.Core.List.{List, ◌∷◌}
 use Prim.Native.Nat.{ℕ, ◌+◌, ◌-◌, ◌≤◌, ◌<◌}
@@ -160,34 +160,46 @@ module _ (names roles ends : List ℕ) (left : ℕ) where
   and-true true = refl
   and-true false = refl
 
-  module _ (c d : ℕ) {v : Bool} (back : TestsLike names roles ends left subsumes d c v) where
-    pub yields-not : v ≡ true → TestsLike names roles ends left (yields false) c d false
+  module _ (c d : ℕ) (earlier : Bool) where
+    pub yields-earlier : earlier ≡ true → {b : Bool} → TestsLike names roles ends left subsumes c d b → TestsLike names roles ends left (yields earlier) c d b
     unfolding yields
-    yields-not q t h u h' = go (eqb (get_or roles c 0) (get_or roles d 0)) (subsumes t u) (eqb (get_or roles d 0) (get_or roles c 0)) (subsumes u t) (sym (back u h' t h) ∙ q)
-      where
-        go : (x y z w : Bool) → (z && w) ≡ true → false ≡ (x && (y && not w))
-        go x y false w p = absurd (let n : ◌≡◌ {A = ℕ} 0 1 = cc in omega arith)
-        go false y true w p = refl
-        go true false true w p = refl
-        go true true true w p = rw p
+    yields-earlier e test t h u h' = test t h u h' ∙ rw (e, and-true (subsumes t u))
 
-    pub yields-later : v ≡ false → {b : Bool} → TestsLike names roles ends left subsumes c d b → TestsLike names roles ends left (yields false) c d b
+    module _ (e : earlier ≡ false) {v : Bool} (back : TestsLike names roles ends left subsumes d c v) where
+      pub yields-not : v ≡ true → TestsLike names roles ends left (yields earlier) c d false
+      unfolding yields
+      yields-not q t h u h' = rw e (go (eqb (get_or roles c 0) (get_or roles d 0)) (subsumes t u) (eqb (get_or roles d 0) (get_or roles c 0)) (subsumes u t) (sym (back u h' t h) ∙ q))
+        where
+          go : (x y z w : Bool) → (z && w) ≡ true → false ≡ (x && (y && not w))
+          go x y false w p = absurd (let n : ◌≡◌ {A = ℕ} 0 1 = cc in omega arith)
+          go false y true w p = refl
+          go true false true w p = refl
+          go true true true w p = rw p
+
+      pub yields-later : v ≡ false → {b : Bool} → TestsLike names roles ends left subsumes c d b → TestsLike names roles ends left (yields earlier) c d b
+      unfolding yields
+      yields-later q test t h u h' = test t h u h' ∙ rw e (go (eqb (get_or roles c 0) (get_or roles d 0)) refl)
+        where
+          go : (x : Bool) → eqb (get_or roles c 0) (get_or roles d 0) ≡ x → (x && subsumes t u) ≡ (x && (subsumes t u && not (subsumes u t)))
+          go false p = refl
+          go true p =
+              let z : eqb (get_or roles d 0) (get_or roles c 0) ≡ true = eq-eqb (get_or roles d 0) (get_or roles c 0) (sym (eqb-true (get_or roles c 0) (get_or roles d 0) p)) in
+              let w : subsumes u t ≡ false = rw z at (sym (back u h' t h) ∙ q) in
+              rw (w, and-true (subsumes t u))
+
+  module _ (i c e : ℕ) {b x : Bool} (test : TestsOne names roles ends left (yields x) c i c b) (first : x ≡ true) where
+    before : (g : Forest ℕ) → HoldsF names roles ends g left i c → (t : Concept) → Holds names roles ends t left c (get_or ends c 0)
+        → any (λ u. subsumes t u) (under (get_or roles c 0) g) ≡ b
     unfolding yields
-    yields-later q test t h u h' = test t h u h' ∙ go (eqb (get_or roles c 0) (get_or roles d 0)) refl
-      where
-        go : (x : Bool) → eqb (get_or roles c 0) (get_or roles d 0) ≡ x → (x && subsumes t u) ≡ (x && (subsumes t u && not (subsumes u t)))
-        go false p = refl
-        go true p =
-            let z : eqb (get_or roles d 0) (get_or roles c 0) ≡ true = eq-eqb (get_or roles d 0) (get_or roles c 0) (sym (eqb-true (get_or roles c 0) (get_or roles d 0) p)) in
-            let w : subsumes u t ≡ false = rw z at (sym (back u h' t h) ∙ q) in
-            rw (w, and-true (subsumes t u))
+    before g k t h =
+        ap (λ (p : Concept → Bool). any p (under (get_or roles c 0) g)) (fun_ext (λ u. sym (and-true (subsumes t u))))
+        ∙ sym (subst (λ (z : Bool). TestsOne names roles ends left (yields z) c i c b) first test t h g k)
 
-  -- for an earlier sibling c is dropped wherever it subsumes it
-  module _ (i c e : ℕ) {b : Bool} (test : TestsOne names roles ends left subsumes c i c b) where
     pub drop-before : b ≡ true → TestsDropped names roles ends left i c e true
     unfolding dropped
-    drop-before q g k t h f m = rw (sym (test t h g k) ∙ q)
+    drop-before q g k t h f m = rw (before g k t h ∙ q)
 
-    pub drop-after : (v : Bool) → b ≡ false → TestsOne names roles ends left (yields false) c (get_or ends c 0) e v → TestsDropped names roles ends left i c e v
+    pub drop-after : (v : Bool) {y : Bool} → b ≡ false → TestsOne names roles ends left (yields y) c (get_or ends c 0) e v → y ≡ false → TestsDropped names roles ends left i c e v
     unfolding dropped yields
-    drop-after v q later g k t h f m = rw (sym (test t h g k) ∙ q) (later t h f m)
+    drop-after v q later second g k t h f m =
+        rw (before g k t h ∙ q) (subst (λ (z : Bool). TestsOne names roles ends left (yields z) c (get_or ends c 0) e v) second later t h f m)

@@ -1,7 +1,7 @@
 // Which nodes of a concept tree are dropped, and its reduced size, over rows in reading order; marks: 1 kept, 0 dropped.
 #![tactic(auto)]
 
-ghost use Rattle.std.specs.Prelude.{◌≡◌, ◌≤◌, ◌<◌, ◌+◌, length, slice_index, false};
+ghost use Rattle.std.specs.Prelude.{◌≡◌, ◌≤◌, ◌<◌, ◌+◌, length, slice_index};
 ghost use Rattle.meaning.specs.Names.{names, within};
 ghost use Rattle.meaning.specs.Reduce.{subsumes, size, reduce};
 ghost use Rattle.reduction.specs.Held.{Held, ForTree};
@@ -72,26 +72,30 @@ fn subsumes_like(tree: &Tree, c: usize, d: usize, left: usize) -> bool
     subsumes(tree, c, d, left)
 }
 
-// Whether the child at c is dropped for one of its siblings that stand later.
+// Whether the child at c is dropped for one of its siblings. `EARLIER`: they all stand earlier; else all later.
 // Kept: a loop as in `subsumes_one`, and no test handed to it, since calls in a cycle get no proof through a closure.
-fn yields_one(tree: &Tree, c: usize, later: Siblings<'_>, left: usize) -> bool
-    requires siblings { later.ends.now ≡ tree.now.ends }
-    requires among { Among tree.now.names tree.now.roles tree.now.ends left c later.at later.end }
-    ensures { TestsOne tree.now.names tree.now.roles tree.now.ends left (yields false) c later.entry.at later.entry.end result }
+fn yields_one<const EARLIER: bool>(tree: &Tree, c: usize, others: Siblings<'_>, left: usize) -> bool
+    requires siblings { others.ends.now ≡ tree.now.ends }
+    requires among { Among tree.now.names tree.now.roles tree.now.ends left c others.at others.end }
+    ensures { TestsOne tree.now.names tree.now.roles tree.now.ends left (yields EARLIER) c others.entry.at others.entry.end result }
 {
-    for d in later {
-        if yields(tree, c, d, left) {
+    for d in others {
+        if yields::<EARLIER>(tree, c, d, left) {
             return true;
         }
     }
     false
 }
 
-// Whether the child at c is dropped for its sibling at d, which stands later. The converse first: where it holds, c is kept whatever the other test would say.
-fn yields(tree: &Tree, c: usize, d: usize, left: usize) -> bool
+// Whether the child at c is dropped for its sibling at d, which stands earlier or not.
+fn yields<const EARLIER: bool>(tree: &Tree, c: usize, d: usize, left: usize) -> bool
     requires { Two tree.now.names tree.now.roles tree.now.ends left c d }
-    ensures { TestsLike tree.now.names tree.now.roles tree.now.ends left (yields false) c d result }
+    ensures { TestsLike tree.now.names tree.now.roles tree.now.ends left (yields EARLIER) c d result }
 {
+    if EARLIER {
+        return subsumes_like(tree, c, d, left);
+    }
+    // the converse first: where it holds, c is kept whatever the other test would say
     if subsumes_like(tree, d, c, left) {
         return false;
     }
@@ -124,12 +128,12 @@ fn dropped(tree: &Tree, node: usize, c: usize, left: usize, alone: bool) -> bool
     if alone {
         return false;
     }
-    if subsumes_one(tree, c, tree.between(node + 1, c), left) {
+    if yields_one::<true>(tree, c, tree.between(node + 1, c), left) {
         return true;
     }
     let next = usize::from(tree.ends[c]);
     let end = usize::from(tree.ends[node]);
-    yields_one(tree, c, tree.between(next, end), left)
+    yields_one::<false>(tree, c, tree.between(next, end), left)
 }
 
 // Sets one mark.

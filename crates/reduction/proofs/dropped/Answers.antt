@@ -1,5 +1,6 @@
 -- `reduction::dropped` meets its contract.
 -- Assumes nothing.
+use mathlib.Core.Path.{refl}
 use native.Mathlib.Omega.{arith}
 use Rattle.std.proofs.Common.{rules, ◌≡◌, get_or}
 use Rattle.reduction.proofs.Held.{in-range, reaches}
@@ -15,16 +16,16 @@ overflow_add-node c =
     let a = in-range _ _ _ _ c.requires.sibling.here in
     let l = reaches _ _ _ _ _ _ c.requires.sibling.before in omega arith
 
-pub subsumes_one-requires : goal.subsumes_one-requires
-subsumes_one-requires c =
+pub yields_one-requires : goal.yields_one-requires
+yields_one-requires c =
     let s = c.requires.sibling in
     let b = c.between.ensures in
     record { siblings = b.ends; among = record { one = s.here; others = rw (b.from, b.end) s.before } }
 
-pub returns-then-subsumes_one : goal.returns-then-subsumes_one
-returns-then-subsumes_one c =
+pub returns-then-yields_one : goal.returns-then-yields_one
+returns-then-yields_one c =
     let b = c.between.ensures in
-    drop-before _ _ _ _ _ _ _ (rw (b.from, b.end) at c.subsumes_one.ensures) c.if-subsumes_one.true
+    drop-before _ _ _ _ _ _ _ (rw (b.from, b.end) at c.yields_one.ensures) refl c.if-yields_one.true
 
 pub bounds-tree-node : goal.bounds-tree-node
 bounds-tree-node c =
@@ -35,8 +36,8 @@ pub bounds-tree-c : goal.bounds-tree-c
 bounds-tree-c c =
     in-range _ _ _ _ c.requires.sibling.here
 
-pub yields_one-requires : goal.yields_one-requires
-yields_one-requires c =
+pub yields_one-requires-2 : goal.yields_one-requires-2
+yields_one-requires-2 c =
     let s = c.requires.sibling in
     let b = c.between-2.ensures in
     let next : c.from-next.result ≡ get_or c.args.tree.now.ends c.args.c 0 = search rules in
@@ -49,4 +50,4 @@ returns c =
     let b = c.between-2.ensures in
     let next : c.from-next.result ≡ get_or c.args.tree.now.ends c.args.c 0 = search rules in
     let end : c.from-end.result ≡ get_or c.args.tree.now.ends c.args.node 0 = search rules in
-    drop-after _ _ _ _ _ _ _ (rw (a.from, a.end) at c.subsumes_one.ensures) _ c.if-subsumes_one.false (rw (b.from, b.end, next, end) at c.yields_one.ensures)
+    drop-after _ _ _ _ _ _ _ (rw (a.from, a.end) at c.yields_one.ensures) refl _ c.if-yields_one.false (rw (b.from, b.end, next, end) at c.yields_one-2.ensures) refl

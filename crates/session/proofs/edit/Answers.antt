@@ -1,6 +1,6 @@
 -- `session::edit` meets its contract: an accepted edit has a place in the log, and its record is written there.
 -- Assumes nothing.
-use Rattle.std.proofs.Common.{rules}
+use Rattle.std.proofs.Common.{rules, arith}
 use Rattle.std.proofs.lemmas.Result.{err_from_is_err_and}
 use Rattle.fields.proofs.Known.{bytes-known}
 use Rattle.session.proofs.Answered.{none_written, one_written, has-place}
@@ -20,7 +20,8 @@ offset_bounds-log-count g c =
     let h = (has-place g.R.Record.of c.args.s.now c.args.log.now c.args.count c.args.fact c.args.adds _ c.in_ok-edited.ensures.0 (bytes-known c.args.s.now c.slice_known-1.given)).0 in search rules
 
 pub bounds-log-count : goal.bounds-log-count
-bounds-log-count g c = (has-place g.R.Record.of c.args.s.now c.args.log.now c.args.count c.args.fact c.args.adds _ c.in_ok-edited.ensures.0 (bytes-known c.args.s.now c.slice_known-1.given)).0
+bounds-log-count g c =
+    omega (arith, (has-place g.R.Record.of c.args.s.now c.args.log.now c.args.count c.args.fact c.args.adds _ c.in_ok-edited.ensures.0 (bytes-known c.args.s.now c.slice_known-1.given)).0)
 
 pub returns : goal.returns
 returns g c =
