@@ -47,8 +47,10 @@ fn own(over: &Survey, names: u64, at: usize, table: &mut [u32])
         table[at..at + over.items].fill(0);
         return;
     }
+    // What stands behind a reference would be read anew in each turn, since the loop writes.
+    let held = over.names;
     for x in 0..over.items {
-        table[at + x] = (names & over.names[x]).count_ones();
+        table[at + x] = (names & held[x]).count_ones();
     }
 }
 
@@ -124,8 +126,9 @@ fn close(over: &Survey, n: u32, at: usize, table: &mut [u32])
         fill_empty(n, at, at + over.items, table);
         return;
     }
+    let image = over.image;
     for x in 0..over.items {
-        table[at + x] = last(graph::is_out(over.image, x), n, table[at + x]);
+        table[at + x] = last(graph::is_out(image, x), n, table[at + x]);
     }
 }
 
