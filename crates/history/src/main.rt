@@ -11,7 +11,8 @@ ghost use Rattle.history.specs.Histories.{call_in, calls_of};
 use meaning::{Fact, Refusal};
 use std::io::Read;
 
-// A write that fails is passed over: the history runs on.
+// A write that fails is passed over: the history runs on. So a number is written apart from the blank before it: where there is room for one byte alone, the blank
+// comes through.
 fn print_buffer(rt: &impl Print, s: &[u8]) {
     for b in s {
         let _done = print!(rt; "{b:02x}");
@@ -22,7 +23,8 @@ fn print_buffer(rt: &impl Print, s: &[u8]) {
 fn print_log(rt: &impl Print, log: &[u64]) {
     let _done = print!(rt; "log");
     for step in log {
-        let _done = print!(rt; " {step:011x}");
+        let _done = print!(rt; " ");
+        let _done = print!(rt; "{step:011x}");
     }
     let _done = println!(rt);
 }

@@ -5,21 +5,25 @@
 
 use meaning::{Fact, Refusal, Step};
 use recorded::held;
-use std::{fmt, io};
+use std::io;
 
-// A step as it is printed.
-#[derive(Drop)]
-struct Shown(Step);
-
-impl fmt::Display for Shown {
-    fn fmt<W: fmt::Write>(&self, f: &mut fmt::Formatter<W>) -> fmt::Result {
-        let Step { fact, was } = self.0;
-        match fact {
-            Fact::Name { item, name } => write!(f, "name {item} {name}")?,
-            Fact::Link { from, role, to } => write!(f, "link {from} {role} {to}")?,
+// Kept: word after word, and no `Display`, which is one write a line: the program ends at the first write that fails, and as much comes out before as ever did.
+fn show(rt: &impl Print, step: Step) -> io::Result<()> {
+    let Step { fact, was } = step;
+    match fact {
+        Fact::Name { item, name } => {
+            print!(rt; "name")?;
+            print!(rt; " {item}")?;
+            print!(rt; " {name}")?;
         }
-        write!(f, "{}", if was { " was there" } else { " was not there" })
+        Fact::Link { from, role, to } => {
+            print!(rt; "link")?;
+            print!(rt; " {from}")?;
+            print!(rt; " {role}")?;
+            print!(rt; " {to}")?;
+        }
     }
+    println!(rt; "{}", if was { " was there" } else { " was not there" })
 }
 
 fn show_bytes(rt: &impl Print, s: &[u8]) -> io::Result<()> {
@@ -36,13 +40,17 @@ fn told(
     answer: Result<usize, Refusal>,
     count: usize,
 ) -> io::Result<usize> {
+    print!(rt; "{name}")?;
     match answer {
         Ok(next) => {
-            println!(rt; "{name} {next}")?;
+            print!(rt; " {next}")?;
+            println!(rt)?;
             Ok(next)
         }
         Err(refusal) => {
-            println!(rt; "{name} refused {}", refusal.number)?;
+            print!(rt; " refused")?;
+            print!(rt; " {}", refusal.number)?;
+            println!(rt)?;
             Ok(count)
         }
     }
@@ -109,7 +117,7 @@ fn main(rt: HostRuntime) -> io::Result<()> {
     steps.edit(&rt, &mut s, Fact::Name { item: 0, name: 3 }, false)?;
     show_bytes(&rt, &s)?;
     for step in &steps.log[..3] {
-        println!(rt; "{}", Shown(*step))?;
+        show(&rt, *step)?;
     }
     steps.undo(&rt, &mut s)?;
     steps.undo(&rt, &mut s)?;
