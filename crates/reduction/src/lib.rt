@@ -46,6 +46,9 @@ fn subsumes(tree: &Tree, c: usize, d: usize, left: usize) -> bool
 }
 
 // Whether the tree at c subsumes one of the others under c's role.
+// Kept out of line: then the test of two trees' names stands in each loop over siblings, and only below names that fit is anything called. In line, each
+// two siblings cost a call: three times the instructions where thirty are compared.
+#[inline(never)]
 #[cycle(subsuming)]
 fn subsumes_one(tree: &Tree, c: usize, others: Siblings<'_>, left: usize) -> bool
     requires siblings { others.ends.now ≡ tree.now.ends }
