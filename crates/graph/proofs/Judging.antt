@@ -34,7 +34,7 @@ is-judged {s} {items} {index} b j =
     let g = j.register in
     let h : g ≡ held s = sym (held-is s g j.read) in
     let e : get_or index items 0 ≡ length g.links =
-        last-begins s g (get_or index items 0) b j.read (subst (λ (z : ℕ). Begins g.links z (get_or index items 0)) j.items-are (j.indexed items (omega arith))) in
+    last-begins s g (get_or index items 0) b j.read (subst (λ (z : ℕ). Begins g.links z (get_or index items 0)) j.items-are (j.indexed items (omega arith))) in
     record {
       read = is_read s items (get_or index items 0) b (record { register = g; read = j.read; holds = (j.items-are, e) });
       most = j.most;
