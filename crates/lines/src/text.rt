@@ -1,8 +1,7 @@
 // A line of text that is being written, in fixed memory of its own. In a clause a line is its text.
 ghost use Rattle.std.specs.Prelude.{◌≡◌, ◌+◌, ◌≤◌, ◌<◌, List, ℕ, [], ◌∷◌, ◌++◌, length, take};
-ghost use Rattle.lines.specs.Text.{decimal};
+ghost use Rattle.lines.specs.Text.{digits, decimal};
 
-use itoa::Buffer;
 use std::marker::Model;
 
 // No line is longer: two numbers of a fraction, an item, and a map of 64 places.
@@ -61,14 +60,32 @@ impl Line {
         self.len = end;
     }
 
+    // The last `left` digits of a number, without zeros in front.
+    // Kept: digits by our own, and not by the kit's `itoa`: nothing new is to be trusted.
+    pub fn push_digits(&mut self, left: usize, n: u64)
+        requires { length self.old + length (digits left n) ≤ 448 }
+        ensures text { self.new ≡ self.old ++ digits left n }
+        ensures len { length self.new ≡ length self.old + length (digits left n) }
+    {
+        if left == 0 {
+            return;
+        }
+        if n < 10 {
+            self.push(48 + n as u8);
+            return;
+        }
+        self.push_digits(left - 1, n / 10);
+        self.push(48 + (n % 10) as u8);
+    }
+
     // A number in decimal: at most 20 digits.
+    #[tactic(auto, using(crate::proofs::Writing::decimal_most))]
     pub fn push_number(&mut self, n: u64)
         requires { length self.old + length (decimal n) ≤ 448 }
         ensures text { self.new ≡ self.old ++ decimal n }
         ensures len { length self.new ≡ length self.old + length (decimal n) }
         ensures upper_bound { length self.new ≤ length self.old + 20 }
     {
-        let mut buffer = Buffer::new();
-        self.push_word(buffer.format(n).as_bytes());
+        self.push_digits(20, n);
     }
 }
